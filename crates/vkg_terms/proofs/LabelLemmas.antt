@@ -1,5 +1,5 @@
 -- The label of a blank node is the kit's hex, and no two texts share one.
-use Rattle.std.proofs.Common.{◌≡◌, ◌<◌, ◌≤◌, ◌++◌, ◌/◌, ◌%◌, ◌+◌, ◌*◌, ℕ, List, [], ◌∷◌, Bool, true, false, cond, nat_lt, sym, ap, ◌∙◌, refl, arith, get_or, suc, ◌==◌}
+use Rattle.std.proofs.Common.{◌≡◌, ◌<◌, ◌++◌, ◌/◌, ◌%◌, ℕ, List, [], ◌∷◌, true, ap, refl, arith, suc, ◌==◌}
 use Rattle.std.specs.Prelude.{flat_map, slice_index}
 use Rattle.std.proofs.lemmas.Bool.Decides.{nat_tests}
 use Rattle.hex.specs.Hex.{encode_with, encode_lower, lower_digits, IsBytes}

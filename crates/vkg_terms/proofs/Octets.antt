@@ -1,8 +1,8 @@
 -- Tests of each octet of a text.
-use Rattle.std.proofs.Common.{◌≡◌, ℕ, zero, suc, ◌+◌, ◌/◌, ◌%◌, ◌<◌, ◌≤◌, refl, sym, ◌∙◌, ap, List, [], ◌∷◌, ◌++◌, Bool, true, false, not, cond, ◌&&◌, ◌||◌, ltb, arith, ◌⊎◌, inl, inr, ⊎_elim}
+use Rattle.std.proofs.Common.{◌≡◌, ℕ, zero, suc, ◌+◌, ◌/◌, ◌<◌, ◌≤◌, refl, ◌∙◌, ap, [], ◌∷◌, Bool, true, false, not, cond, ◌&&◌, ◌||◌, ltb, arith, ◌⊎◌, ⊎_elim}
 use Rattle.std.specs.List.{list_all}
-use Rattle.std.proofs.lemmas.Bool.{ltb-false, ltb-true}
-use lib.Utf8.{encode, next, scalar}
+use Rattle.std.proofs.lemmas.Bool.{ltb-true}
+use lib.Utf8.{encode, next}
 
 pub and_true : (a b : Bool) → a ≡ true → b ≡ true → (a && b) ≡ true
 and_true true b e f = f

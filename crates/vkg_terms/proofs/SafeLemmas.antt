@@ -1,8 +1,8 @@
 -- The IRI-safe form: its escapes give the text back, and it holds only iunreserved characters and `%`.
-use Rattle.std.proofs.Common.{◌≡◌, ◌≢◌, ◌<◌, ◌≤◌, ◌++◌, ◌&&◌, ◌||◌, ◌==◌, ◌/◌, ◌%◌, ℕ, List, [], ◌∷◌, Bool, true, false, cond, if◌then◌else◌, nat_lt, sym, ap, subst, ◌∙◌, refl, arith, append_assoc, inl, inr, ltb-true, IsAscii, not, zero, suc}
-use Rattle.std.specs.Prelude.{⊤, flat_map, chars, IsUtf8}
+use Rattle.std.proofs.Common.{◌≡◌, ◌≢◌, ◌<◌, ◌≤◌, ◌++◌, ◌&&◌, ◌||◌, ◌==◌, ◌/◌, ◌%◌, ℕ, List, [], ◌∷◌, Bool, true, false, if◌then◌else◌, nat_lt, sym, ap, ◌∙◌, refl, arith, append_assoc, inl, inr, ltb-true, IsAscii, not, zero, suc}
+use Rattle.std.specs.Prelude.{flat_map, chars, IsUtf8}
 use Rattle.std.specs.List.{list_all}
-use Rattle.std.proofs.lemmas.Str.{encode_ascii, encodes-chars, scalars-chars, chars-append, chars-encodes, chars-IsAscii, IsUtf8-from_ascii, IsUtf8-encode, chars-nil}
+use Rattle.std.proofs.lemmas.Str.{encodes-chars, scalars-chars, chars-append, chars-encodes, chars-IsAscii, IsUtf8-from_ascii, IsUtf8-encode, chars-nil}
 use Rattle.std.proofs.lemmas.Bool.Decides.{nat_tests}
 use Rattle.std.proofs.lemmas.List.{append-nil}
 use Rattle.std.proofs.lemmas.List.Folds.{list_all-append}
@@ -10,7 +10,7 @@ use Rattle.std.proofs.Math.Utf8.{encode, encodes, scalar, scalar_cases, scalars}
 use Rattle.percent_encoding.specs.Percent.{percent_decode, percent_encode_byte}
 use Rattle.percent_encoding.proofs.PercentLemmas.{percent_decode-nil, percent_decode-percent_encode_byte, percent_decode_not_percent}
 use Rattle.vkg_terms.proofs.Octets.{and_true, and_parts, implied, use_below, encode_all}
-use Rattle.vkg_terms.specs.Safe.{safe, safe_character, percent, upper_hex, is_unreserved, is_safe_character, IsOnlySource}
+use Rattle.vkg_terms.specs.Safe.{safe, safe_character, percent, is_unreserved, is_safe_character}
 
 -- the escape of an octet is that of the kit
 pub percent_kit : (b : ℕ) → b < 256 → percent b ≡ percent_encode_byte b
@@ -76,7 +76,6 @@ decode-safe text u = decode-characters (chars text) (scalars-chars text u) ∙ e
 -- no two texts have one IRI-safe form
 pub safe_same : (a b : List ℕ) → IsUtf8 a → IsUtf8 b → safe a ≡ safe b → a ≡ b
 safe_same a b u v e = sym (decode-safe a u) ∙ ap percent_decode e ∙ decode-safe b v
-
 
 abbrev plain : ℕ → Bool
 plain x = is_safe_character x && nat_lt x 128

@@ -1,6 +1,8 @@
-ghost use Rattle.std.specs.Prelude.{◌≡◌, ◌++◌, IfOk, OnOk, string_bytes};
+ghost use Rattle.std.specs.Prelude.{◌≡◌, ◌++◌, IfOk, IsTrue, OnOk, string_bytes};
 ghost use Rattle.std.specs.Option.{option_copied};
-ghost use Rattle.vkg_terms.specs.NQuads.{line, graph_text};
+ghost use Rattle.std.specs.List.{list_all};
+ghost use Rattle.vkg_terms.specs.NQuads.{line, graph_text, quad_of};
+ghost use Rattle.vkg_terms.specs.Writable.{IsOnlyQuad, IsWritableQuad, is_inline};
 
 use crate::term::Term;
 use crate::text_of::push_term;
@@ -8,6 +10,7 @@ use std::alloc::Global;
 use vkg_base::Memory;
 
 /// The line of a quad without its line feed (N-Quads, 4, statement). No graph is the default graph.
+/// No two quads whose parts hold only what may stand in them have one line, and it is one line.
 pub fn quad_line(
     alloc: Global,
     subject: &Term,
@@ -15,12 +18,9 @@ pub fn quad_line(
     object: &Term,
     graph: Option<&Term>,
 ) -> Result<String, Memory>
-    ensures { IfOk result (λ s. string_bytes s ≡ line (record {
-        subject = subject.now;
-        predicate = predicate.now;
-        object = object.now;
-        graph = option_copied graph.entry
-    })) }
+    ensures value { IfOk result (λ s. string_bytes s ≡ line (quad_of subject.now predicate.now object.now graph.entry)) }
+    ensures one_to_one { IfOk result (λ s. IsOnlyQuad (quad_of subject.now predicate.now object.now graph.entry) (string_bytes s)) }
+    ensures one_line { IfOk result (λ s. IsWritableQuad (quad_of subject.now predicate.now object.now graph.entry) → IsTrue (list_all is_inline (string_bytes s))) }
 {
     let mut out = String::new(alloc);
     push_term(&mut out, subject)?;
