@@ -3,8 +3,9 @@
 #![tactic(auto)]
 
 mod command_line;
-mod words;
+mod fault_line;
 mod stops;
+mod words;
 
-pub use stops::Usage;
+pub use stops::{Fault, Stop, Usage};
 pub use words::{DumpOptions, Request, read_request};
