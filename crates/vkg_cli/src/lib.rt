@@ -1,0 +1,10 @@
+//! The top call of the program: the words, the order of loading and checking, the statuses and the line of the
+//! standard error.
+#![tactic(auto)]
+
+mod command_line;
+mod words;
+mod stops;
+
+pub use stops::Usage;
+pub use words::{DumpOptions, Request, read_request};
