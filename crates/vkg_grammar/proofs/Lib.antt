@@ -1,0 +1,13 @@
+pub mod Core
+pub mod Stepping
+pub mod Outer
+pub mod Clash
+pub mod Heights
+pub mod Replacing
+pub mod Advancing
+pub mod Answering
+pub mod Rounds
+pub mod Texts
+pub mod Following
+pub mod Checking
+pub mod Certifying

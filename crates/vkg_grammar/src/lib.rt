@@ -1,0 +1,16 @@
+//! Grammars, the test that one is LL(1), and the parser of those that are.
+#![tactic(auto)]
+
+mod check;
+mod follow;
+mod machine;
+mod note;
+mod parsing;
+mod productive;
+mod rule;
+mod table;
+
+pub use check::check_ll1;
+pub use note::{Act, Note};
+pub use parsing::{ParseFault, parse};
+pub use rule::Rule;
