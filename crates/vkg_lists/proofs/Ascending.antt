@@ -4,12 +4,13 @@ use Rattle.std.specs.Ordering.{ordering_reverse, eq_by_cmp}
 use Rattle.std.specs.Cmp.Lexicographic.{texts_ties}
 use Rattle.std.specs.List.{Contains, IsDistinct, dedup}
 use Rattle.std.specs.List.Sorted.{IsPermutation, IsSorted, IsStrictlySortedBy}
+use Rattle.std.specs.Str.{bytes_eq}
 use Rattle.std.proofs.lemmas.List.{map-id}
 use Rattle.std.proofs.lemmas.List.MinMax.{ranks_by}
 use Rattle.std.proofs.lemmas.List.Kept.{IsStrictlySortedBy-dedup}
 use Rattle.vkg_lists.specs.Ascending.{put_in, ascending_by, ascending, ascending_once}
 use Rattle.vkg_lists.specs.Sets.{IsLinearOrder, HasSameMembers, distinct}
-use Rattle.vkg_lists.specs.Texts.{bytes_cmp, same_bytes}
+use Rattle.vkg_lists.specs.Texts.{bytes_cmp}
 use Rattle.vkg_lists.proofs.Bags.{bag_refl, bag_sym, bag_trans, bag_cons, bag_exchange}
 use Rattle.vkg_lists.proofs.Members.{Contains-none, Contains-here, Contains-cons_cases}
 use Rattle.vkg_lists.proofs.SameMembers.{members_bag, members_sym, members_trans}
@@ -75,13 +76,13 @@ pub ascending_is : (xs ys : List (List ℕ)) → IsPermutation xs ys → IsSorte
 ascending_is = ascending_by_is bytes_linear
 
 pub ascending_once-members : (xs : List (List ℕ)) → HasSameMembers xs (ascending_once xs)
-ascending_once-members xs = members_trans (HasSameMembers-distinct bytes_test xs) (members_bag (ascending_by-bag bytes_linear (distinct same_bytes xs)))
+ascending_once-members xs = members_trans (HasSameMembers-distinct bytes_test xs) (members_bag (ascending_by-bag bytes_linear (distinct bytes_eq xs)))
 
 pub ascending_once-ascending : (xs : List (List ℕ)) → IsStrictlySortedBy bytes_cmp (ascending_once xs)
 ascending_once-ascending xs =
     let t = IsEqualityTest-cmp bytes_linear in
-    let once : IsDistinct (eq_by_cmp bytes_cmp) (distinct same_bytes xs) = subst (IsDistinct (eq_by_cmp bytes_cmp)) (map-id (distinct same_bytes xs)) (IsDistinct-map bytes_test t (λ x. x) (distinct same_bytes xs) (IsDistinct-distinct same_bytes xs) (λ x y c d e. e)) in
-    ascending_from_sorted bytes_linear (ascending_once xs) (ascending_by-sorted bytes_linear (distinct same_bytes xs)) (IsDistinct-permutation t (ascending_by-bag bytes_linear (distinct same_bytes xs)) once)
+    let once : IsDistinct (eq_by_cmp bytes_cmp) (distinct bytes_eq xs) = subst (IsDistinct (eq_by_cmp bytes_cmp)) (map-id (distinct bytes_eq xs)) (IsDistinct-map bytes_test t (λ x. x) (distinct bytes_eq xs) (IsDistinct-distinct bytes_eq xs) (λ x y c d e. e)) in
+    ascending_from_sorted bytes_linear (ascending_once xs) (ascending_by-sorted bytes_linear (distinct bytes_eq xs)) (IsDistinct-permutation t (ascending_by-bag bytes_linear (distinct bytes_eq xs)) once)
 
 -- what ascends strictly and has the same texts is the list of them, each once
 pub ascending_once_is : (xs ys : List (List ℕ)) → HasSameMembers xs ys → IsStrictlySortedBy bytes_cmp ys → ys ≡ ascending_once xs
@@ -89,11 +90,11 @@ ascending_once_is xs ys m s = ascending_unique bytes_linear ys (ascending_once x
 
 -- ---- a sorted list without its repeats
 
-pub sorted_dedup-ascending : (ys : List (List ℕ)) → IsSorted bytes_cmp ys → IsStrictlySortedBy bytes_cmp (dedup same_bytes ys)
+pub sorted_dedup-ascending : (ys : List (List ℕ)) → IsSorted bytes_cmp ys → IsStrictlySortedBy bytes_cmp (dedup bytes_eq ys)
 sorted_dedup-ascending ys s = IsStrictlySortedBy-dedup bytes_linear.total texts_ties ys s
 
-pub sorted_dedup-members : (xs ys : List (List ℕ)) → IsPermutation xs ys → HasSameMembers xs (dedup same_bytes ys)
+pub sorted_dedup-members : (xs ys : List (List ℕ)) → IsPermutation xs ys → HasSameMembers xs (dedup bytes_eq ys)
 sorted_dedup-members xs ys p = members_trans (members_bag p) (members_dedup bytes_test ys)
 
-pub sorted_dedup : (xs ys : List (List ℕ)) → IsPermutation xs ys → IsSorted bytes_cmp ys → dedup same_bytes ys ≡ ascending_once xs
-sorted_dedup xs ys p s = ascending_once_is xs (dedup same_bytes ys) (sorted_dedup-members xs ys p) (sorted_dedup-ascending ys s)
+pub sorted_dedup : (xs ys : List (List ℕ)) → IsPermutation xs ys → IsSorted bytes_cmp ys → dedup bytes_eq ys ≡ ascending_once xs
+sorted_dedup xs ys p s = ascending_once_is xs (dedup bytes_eq ys) (sorted_dedup-members xs ys p) (sorted_dedup-ascending ys s)

@@ -1,9 +1,10 @@
 -- Lists in ascending order.
 use Rattle.std.specs.Prelude.{ℕ, List, [], ◌∷◌, if◌then◌else◌}
 use Rattle.std.specs.Ordering.{is_lt}
+use Rattle.std.specs.Str.{bytes_eq}
 use Rattle.std.specs.declared.cmp.Ordering.{Ordering}
 use Rattle.vkg_lists.specs.Sets.{distinct}
-use Rattle.vkg_lists.specs.Texts.{bytes_cmp, same_bytes}
+use Rattle.vkg_lists.specs.Texts.{bytes_cmp}
 
 -- an element put into its place: behind all that are below it
 abbrev pub put_in : {A : Type 0} → (A → A → Ordering) → A → List A → List A
@@ -21,4 +22,4 @@ ascending texts = ascending_by bytes_cmp texts
 
 -- the same texts, each once, ascending by their bytes
 abbrev pub ascending_once : List (List ℕ) → List (List ℕ)
-ascending_once texts = ascending (distinct same_bytes texts)
+ascending_once texts = ascending (distinct bytes_eq texts)
