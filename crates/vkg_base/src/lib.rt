@@ -34,3 +34,6 @@ pub use sink::{Failed, Sink, WriteFault};
 pub use status::Status;
 pub use store::{LoadFault, Store};
 pub use text::Text;
+
+#[cfg(test)]
+mod tests;
