@@ -1,0 +1,77 @@
+ghost use Rattle.std.specs.Prelude.{◌≡◌, ◌*◌, ◌^◌, IsTrue};
+ghost use Rattle.std.specs.Ordering.{nat_cmp};
+ghost use Rattle.vkg_cells.specs.Number.{is_decimal, number_cmp, scale, size};
+ghost use Rattle.vkg_cells.specs.Order.{HasNumber, family_of, order as order_cells};
+
+use crate::cell::Cell;
+use crate::number::{fraction, is_below_zero, trim_leading_zeros, trim_trailing_zeros, whole};
+use crate::term_order::order_terms;
+use std::cmp::Ordering;
+
+/// The order of two cells: NULL, then the families in their order, each by value.
+pub fn order(a: &Cell, b: &Cell) -> Ordering
+    requires first { HasNumber a.now }
+    requires second { HasNumber b.now }
+    ensures { result ≡ order_cells a.now b.now }
+{
+    match (a, b) {
+        (Cell::Text(x), Cell::Text(y)) => x.as_str().cmp(&y.as_str()),
+        (Cell::Int(x), Cell::Int(y)) => order_numbers(x.as_str(), y.as_str()),
+        (Cell::Int(x), Cell::Dec(y)) => order_numbers(x.as_str(), y.as_str()),
+        (Cell::Dec(x), Cell::Int(y)) => order_numbers(x.as_str(), y.as_str()),
+        (Cell::Dec(x), Cell::Dec(y)) => order_numbers(x.as_str(), y.as_str()),
+        (Cell::Bool(x), Cell::Bool(y)) => x.cmp(y),
+        (Cell::Date(x), Cell::Date(y)) => x.as_str().cmp(&y.as_str()),
+        (Cell::Stamp(x), Cell::Stamp(y)) => x.as_str().cmp(&y.as_str()),
+        (Cell::Bin(x), Cell::Bin(y)) => x.as_str().cmp(&y.as_str()),
+        (Cell::Term(x), Cell::Term(y)) => order_terms(x, y),
+        _ => family(a).cmp(&family(b)),
+    }
+}
+
+/// The place of a cell's family among the families, and 0 of NULL.
+fn family(cell: &Cell) -> u8
+    ensures { result ≡ family_of cell.now }
+{
+    match cell {
+        Cell::Null => 0,
+        Cell::Text(_) => 1,
+        Cell::Int(_) => 2,
+        Cell::Dec(_) => 2,
+        Cell::Bool(_) => 3,
+        Cell::Date(_) => 4,
+        Cell::Stamp(_) => 5,
+        Cell::Bin(_) => 6,
+        Cell::Term(_) => 7,
+    }
+}
+
+/// The order of two numbers by their values.
+fn order_numbers(a: &str, b: &str) -> Ordering
+    requires first { IsTrue (is_decimal a.now) }
+    requires second { IsTrue (is_decimal b.now) }
+    ensures { result ≡ number_cmp a.now b.now }
+{
+    match (is_below_zero(a), is_below_zero(b)) {
+        (false, false) => order_sizes(a, b),
+        (true, true) => order_sizes(b, a),
+        (true, false) => Ordering::Less,
+        (false, true) => Ordering::Greater,
+    }
+}
+
+/// The order of two numbers without their signs.
+fn order_sizes(a: &str, b: &str) -> Ordering
+    requires first { IsTrue (is_decimal a.now) }
+    requires second { IsTrue (is_decimal b.now) }
+    ensures { result ≡ nat_cmp (size a.now * 10 ^ scale b.now) (size b.now * 10 ^ scale a.now) }
+{
+    let (a_whole, b_whole) = (trim_leading_zeros(whole(a)), trim_leading_zeros(whole(b)));
+    let a_fraction = trim_trailing_zeros(fraction(a));
+    let b_fraction = trim_trailing_zeros(fraction(b));
+    a_whole
+        .len()
+        .cmp(&b_whole.len())
+        .then(a_whole.cmp(&b_whole))
+        .then(a_fraction.cmp(&b_fraction))
+}
