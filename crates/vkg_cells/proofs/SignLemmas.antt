@@ -15,7 +15,7 @@ use Rattle.std.proofs.lemmas.Bool.{cases_order, leb-true, ltb-true, ltb-false}
 use Rattle.vkg_cells.specs.Number.{digits_value, fraction, is_below_zero, is_decimal, is_digits, is_negative, number_cmp, numerator, scale, size, whole, width, without_leading_zeros, without_trailing_zeros}
 use Rattle.vkg_cells.proofs.ValueLemmas.{AreDigits, cmp-less, cmp-equal, cmp-greater, cmp-scaled}
 
-both : (a b : Bool) → (a && b) ≡ true → (a ≡ true) × (b ≡ true)
+pub both : (a b : Bool) → (a && b) ≡ true → (a ≡ true) × (b ≡ true)
 both true b e = (refl, e)
 both false b e = absurd (no e)
   where
@@ -29,7 +29,7 @@ digits-all (d ∷ ds) e =
     let range = both _ _ here.0 in
     (leb-true 48 d range.0, leb-true d 57 range.1, digits-all ds here.1)
 
-digits-some : (ds : List ℕ) → is_digits ds ≡ true → AreDigits ds
+pub digits-some : (ds : List ℕ) → is_digits ds ≡ true → AreDigits ds
 digits-some [] e = tt
 digits-some (d ∷ ds) e = digits-all (d ∷ ds) e
 

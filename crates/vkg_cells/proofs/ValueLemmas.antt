@@ -67,7 +67,7 @@ cmp-onto (x ∷ xs) (y ∷ ys) a b e m n =
 abbrev pub zeros : ℕ → List ℕ
 zeros k = replicate k 48
 
-digits-append : (xs ys : List ℕ) → AreDigits xs → AreDigits ys → AreDigits (xs ++ ys)
+pub digits-append : (xs ys : List ℕ) → AreDigits xs → AreDigits ys → AreDigits (xs ++ ys)
 digits-append [] ys a b = b
 digits-append (x ∷ xs) ys a b = (a.0, a.1, digits-append xs ys a.2 b)
 
@@ -277,7 +277,7 @@ scaled w f s =
     ∙ ap (λ l. without_trailing_zeros f ++ l) (replicate-append-replicate z.count s 48)))
     ∙ onto-without-leading w (without_trailing_zeros f ++ zeros (z.count + s))
 
-ends-long : (f : List ℕ) → length (without_trailing_zeros f) + (ends-in-zeros f).count ≡ length f
+pub ends-long : (f : List ℕ) → length (without_trailing_zeros f) + (ends-in-zeros f).count ≡ length f
 ends-long f =
     let z = ends-in-zeros f in
     sym (ap length z.whole ∙ length-append (without_trailing_zeros f) (zeros z.count) ∙ ap (λ n. length (without_trailing_zeros f) + n) (length-replicate {A = ℕ} z.count 48))

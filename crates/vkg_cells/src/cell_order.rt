@@ -1,9 +1,10 @@
 ghost use Rattle.std.specs.Prelude.{◌≡◌, ◌*◌, ◌^◌, IsTrue};
 ghost use Rattle.std.specs.Ordering.{nat_cmp};
 ghost use Rattle.vkg_cells.specs.Number.{is_decimal, number_cmp, scale, size};
-ghost use Rattle.vkg_cells.specs.Order.{HasNumber, family_of, order as order_cells};
+ghost use Rattle.vkg_cells.specs.Order.{HasNumber, order as order_cells};
 
 use crate::cell::Cell;
+use crate::compare::family;
 use crate::number::{fraction, is_below_zero, trim_leading_zeros, trim_trailing_zeros, whole};
 use crate::term_order::order_terms;
 use std::cmp::Ordering;
@@ -26,23 +27,6 @@ pub fn order(a: &Cell, b: &Cell) -> Ordering
         (Cell::Bin(x), Cell::Bin(y)) => x.as_str().cmp(&y.as_str()),
         (Cell::Term(x), Cell::Term(y)) => order_terms(x, y),
         _ => family(a).cmp(&family(b)),
-    }
-}
-
-/// The place of a cell's family among the families, and 0 of NULL.
-fn family(cell: &Cell) -> u8
-    ensures { result ≡ family_of cell.now }
-{
-    match cell {
-        Cell::Null => 0,
-        Cell::Text(_) => 1,
-        Cell::Int(_) => 2,
-        Cell::Dec(_) => 2,
-        Cell::Bool(_) => 3,
-        Cell::Date(_) => 4,
-        Cell::Stamp(_) => 5,
-        Cell::Bin(_) => 6,
-        Cell::Term(_) => 7,
     }
 }
 
