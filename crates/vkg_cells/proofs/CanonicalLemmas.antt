@@ -9,7 +9,7 @@ use Rattle.vkg_cells.proofs.PlaceLemmas.{after-all, after-cut, apart, before-all
 use Rattle.vkg_cells.proofs.SignLemmas.{decimal-parts, digits-some}
 
 -- a numeral of its parts
-abbrev spelled : Bool → List ℕ → List ℕ → List ℕ
+abbrev pub spelled : Bool → List ℕ → List ℕ → List ℕ
 spelled minus w f = (if minus then codes "-" else []) ++ or_zero w ++ after_point f
 
 unsigned-digits : (d : ℕ) (ds : List ℕ) → 48 ≤ d → unsigned (d ∷ ds) ≡ d ∷ ds
@@ -64,6 +64,9 @@ some-digits (d ∷ ds) f a b = are-digits (d ∷ ds ++ f) (digits-append (d ∷ 
 pub record IsRead (text : List ℕ) : Type 0 where
   pub decimal : is_decimal (canonical text) ≡ true
   pub width_same : width (canonical text) ≡ width text
+  pub sign_same : is_below_zero (canonical text) ≡ is_below_zero text
+  pub whole_same : without_leading_zeros (whole (canonical text)) ≡ without_leading_zeros (whole text)
+  pub fraction_same : without_trailing_zeros (fraction (canonical text)) ≡ without_trailing_zeros (fraction text)
   pub again : canonical (canonical text) ≡ canonical text
 
 pub is-read : (text : List ℕ) → is_decimal text ≡ true → IsRead text
@@ -84,6 +87,9 @@ is-read text d =
     record {
       decimal = (λ i. is_digits (wholes i ++ fractions i)) ∙ some-digits w f dw df;
       width_same = widths;
+      sign_same = signs;
+      whole_same = leads;
+      fraction_same = trails;
       again = λ i. spelled (signs i) (leads i) (trails i);
     }
   where

@@ -41,7 +41,7 @@ digits-parts (d ∷ ds) f a = let rest = digits-parts ds f a.2 in ((a.0, a.1, re
 pub decimal-parts : (text : List ℕ) → is_decimal text ≡ true → AreDigits (whole text) × AreDigits (fraction text)
 decimal-parts text e = digits-parts (whole text) (fraction text) (digits-some (whole text ++ fraction text) e)
 
-neg-times : (n m : ℕ) → neg_ℤ (pos n) *ℤ pos m ≡ neg_ℤ (pos (n * m))
+pub neg-times : (n m : ℕ) → neg_ℤ (pos n) *ℤ pos m ≡ neg_ℤ (pos (n * m))
 neg-times zero m = zero-*ℤ (pos m) ∙ ap (λ k. neg_ℤ (pos k)) (sym (zero-mul m))
 neg-times (suc n) m = negsuc-*ℤ-pos n m
 
@@ -51,7 +51,7 @@ pos-below x y h = omega (arith, lt→ltb)
 neg-below : (x y : ℕ) → x < y → negsuc y <ℤ negsuc x
 neg-below x y h = omega (arith, lt→ltb)
 
-cmp-pos : (x y : ℕ) → int_cmp (pos x) (pos y) ≡ nat_cmp x y
+pub cmp-pos : (x y : ℕ) → int_cmp (pos x) (pos y) ≡ nat_cmp x y
 cmp-pos x y = elim (cases_order x y) [
   | inl e ↦ rw (cmp-equal x y e) (sym (int_cmp_is (pos x) (pos y) Equal (ap pos e)))
   | inr (inl h) ↦ rw (cmp-less x y h) (sym (int_cmp_is (pos x) (pos y) Less (pos-below x y h)))
@@ -65,17 +65,17 @@ cmp-negsuc x y = elim (cases_order x y) [
   | inr (inr h) ↦ rw (cmp-less (suc y) (suc x) (omega (arith, h))) (sym (int_cmp_is (negsuc x) (negsuc y) Less (neg-below y x h)))
 ]
 
-cmp-neg : (x y : ℕ) → int_cmp (neg_ℤ (pos x)) (neg_ℤ (pos y)) ≡ nat_cmp y x
+pub cmp-neg : (x y : ℕ) → int_cmp (neg_ℤ (pos x)) (neg_ℤ (pos y)) ≡ nat_cmp y x
 cmp-neg zero zero = refl
 cmp-neg zero (suc y) = sym (cmp-greater (suc y) 0 (omega arith))
 cmp-neg (suc x) zero = sym (cmp-less 0 (suc x) (omega arith))
 cmp-neg (suc x) (suc y) = cmp-negsuc x y
 
-neg-above : (x y : ℕ) → 0 < x → int_cmp (neg_ℤ (pos x)) (pos y) ≡ Less
+pub neg-above : (x y : ℕ) → 0 < x → int_cmp (neg_ℤ (pos x)) (pos y) ≡ Less
 neg-above zero y h = absurd (omega (arith, h))
 neg-above (suc x) y h = refl
 
-above-neg : (x y : ℕ) → 0 < y → int_cmp (pos x) (neg_ℤ (pos y)) ≡ Greater
+pub above-neg : (x y : ℕ) → 0 < y → int_cmp (pos x) (neg_ℤ (pos y)) ≡ Greater
 above-neg x zero h = absurd (omega (arith, h))
 above-neg x (suc y) h = refl
 

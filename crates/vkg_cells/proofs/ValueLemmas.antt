@@ -20,7 +20,7 @@ cmp-equal x y h = sym (nat_cmp_is x y Equal h)
 pub cmp-greater : (x y : ℕ) → y < x → nat_cmp x y ≡ Greater
 cmp-greater x y h = sym (nat_cmp_is x y Greater h)
 
-then-equal : (o : Ordering) → ordering_then o Equal ≡ o
+pub then-equal : (o : Ordering) → ordering_then o Equal ≡ o
 then-equal Less = refl
 then-equal Equal = refl
 then-equal Greater = refl

@@ -1,7 +1,9 @@
 ghost use Rattle.std.specs.Prelude.{◌≡◌, ◌*◌, ◌^◌, IsTrue};
+ghost use Rattle.std.specs.Cmp.{IsTotalOrder};
 ghost use Rattle.std.specs.Ordering.{nat_cmp};
+ghost use Rattle.vkg_cells.specs.Laws.{IsEqualWhereSame};
 ghost use Rattle.vkg_cells.specs.Number.{is_decimal, number_cmp, scale, size};
-ghost use Rattle.vkg_cells.specs.Order.{HasNumber, order as order_cells};
+ghost use Rattle.vkg_cells.specs.Order.{HasNumber, order as order_of};
 
 use crate::cell::Cell;
 use crate::compare::family;
@@ -10,10 +12,22 @@ use crate::term_order::order_terms;
 use std::cmp::Ordering;
 
 /// The order of two cells: NULL, then the families in their order, each by value.
+///
+/// It is total, and two cells of kinds are equal in it exactly where they are the same.
 pub fn order(a: &Cell, b: &Cell) -> Ordering
     requires first { HasNumber a.now }
     requires second { HasNumber b.now }
-    ensures { result ≡ order_cells a.now b.now }
+    ensures value { result ≡ order_of a.now b.now }
+    ensures total { IsTotalOrder order_of }
+    ensures equal { IsEqualWhereSame a.now b.now result }
+{
+    order_cells(a, b)
+}
+
+fn order_cells(a: &Cell, b: &Cell) -> Ordering
+    requires first { HasNumber a.now }
+    requires second { HasNumber b.now }
+    ensures { result ≡ order_of a.now b.now }
 {
     match (a, b) {
         (Cell::Text(x), Cell::Text(y)) => x.as_str().cmp(&y.as_str()),
