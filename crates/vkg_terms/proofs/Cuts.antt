@@ -1,14 +1,14 @@
 -- Where a text is cut.
-use Rattle.std.proofs.Common.{◌≡◌, ℕ, suc, ◌+◌, ◌<◌, ◌≤◌, ◌==◌, ◌||◌, refl, sym, ◌∙◌, ap, List, [], ◌∷◌, length, Bool, true, false, cond, Option, Some, None, arith, not, take, drop, codes}
+use Rattle.std.proofs.Common.{get_or, append_assoc, ◌++◌, ◌≡◌, ℕ, zero, suc, ◌-◌, ◌+◌, ◌<◌, ◌≤◌, ◌==◌, ◌||◌, refl, sym, ◌∙◌, ap, List, [], ◌∷◌, length, Bool, true, false, cond, Option, Some, None, arith, not, take, drop, codes}
 use Rattle.std.specs.Prelude.{MatchOption, if◌then◌else◌}
-use Rattle.std.specs.List.{position_or_len, before_first, after_first, list_any}
+use Rattle.std.specs.List.{position_or_len, before_first, after_first, list_any, suffix_len, before_last}
 use Rattle.std.specs.Str.{IsCharBoundary}
-use Rattle.std.specs.Str.Pattern.{FindsChar}
+use Rattle.std.specs.Str.Pattern.{RFindsChar, FindsChar}
 use Rattle.std.proofs.lemmas.Bool.Decides.{nat_tests}
-use Rattle.std.proofs.lemmas.List.Sums.{position_or_len_is}
-use Rattle.std.proofs.lemmas.Str.Pattern.{find_char}
+use Rattle.std.proofs.lemmas.List.Sums.{position_or_len_is, suffix_len_is}
+use Rattle.std.proofs.lemmas.Str.Pattern.{find_char, rfind_char}
 use Rattle.vkg_terms.specs.Iri.{is_one_of}
-use Rattle.vkg_terms.specs.Resolve.{after, from_slash}
+use Rattle.vkg_terms.specs.Resolve.{up_to_last_slash, after, from_slash}
 
 first_here : {X : Type 0} (p : X → Bool) (x : X) (xs : List X) → p x ≡ true → position_or_len p (x ∷ xs) ≡ 0
 first_here p x xs e = ap (λ b. cond (not b) (1 + position_or_len p xs) 0) e
@@ -80,3 +80,35 @@ pub found_none : (c : ℕ) (s : List ℕ) (r : Option ℕ) → Finds c s r → c
 found_none c s r h low is =
     let none = rw is at (find_char c s r h low) in
     position_or_len_is (λ b. b == c) s (length s) 0 (omega arith) (λ k l. let other = none k l in grind (arith, nat_tests)) (λ l. absurd (omega arith))
+
+holds_at : (p : ℕ → Bool) (xs : List ℕ) (k : ℕ) → k < length xs → p (get_or xs k 0) ≡ true → list_any p xs ≡ true
+holds_at p [] k inside e = absurd (omega arith)
+holds_at p (x ∷ xs) zero inside e = ap (λ b. b || list_any p xs) e
+holds_at p (x ∷ xs) (suc k) inside e = later (p x) (holds_at p xs k (omega arith) e)
+  where
+    later : (b : Bool) → list_any p xs ≡ true → (b || list_any p xs) ≡ true
+    later true h = refl
+    later false h = h
+
+-- the clause of `rfind`
+abbrev pub FindsLast : ℕ → List ℕ → Option ℕ → Type 0
+FindsLast c s r = MatchOption r (RFindsChar c s None) (λ i. (j : ℕ) × RFindsChar c s (Some (i, j)) × (i ≤ j) × IsCharBoundary s i × IsCharBoundary s j)
+
+pub last_slash : (s : List ℕ) (r : Option ℕ) (i : ℕ) → FindsLast 47 s r → r ≡ Some i → up_to_last_slash s ≡ take i s ++ codes "/"
+last_slash s r i h is =
+    let (inside, here, later) = rw is at (rfind_char 47 s r h (omega arith)) in
+    let any : list_any (λ b. b == 47) s ≡ true = holds_at (λ b. b == 47) s i inside (grind (arith, nat_tests)) in
+    let after_it : suffix_len (λ b. not (b == 47)) s ≡ length s - (i + 1) =
+    suffix_len_is (λ b. not (b == 47)) s (i + 1) 0 (omega arith) (λ k low l. let other = later k (omega arith) l in grind (arith, nat_tests)) (λ _. let at : i + 1 - 1 ≡ i = omega arith in rw at (grind (arith, nat_tests))) in
+    let place : length s - suffix_len (λ b. not (b == 47)) s - 1 ≡ i = omega (arith, after_it) in
+    ap (λ b. if b then before_last (λ c. c == 47) s ++ codes "/" else []) any ∙ ap (λ n. take n s ++ codes "/") place
+
+pub no_slash : (s : List ℕ) (r : Option ℕ) → FindsLast 47 s r → r ≡ None → up_to_last_slash s ≡ []
+no_slash s r h is =
+    let none = rw is at (rfind_char 47 s r h (omega arith)) in
+    let end : position_or_len (λ b. b == 47) s ≡ length s =
+    position_or_len_is (λ b. b == 47) s (length s) 0 (omega arith) (λ k l. let other = none k l in grind (arith, nat_tests)) (λ l. absurd (omega arith)) in
+    ap (λ b. if b then before_last (λ c. c == 47) s ++ codes "/" else []) (lacks (λ b. b == 47) s end)
+
+pub put_slash : (old front mid sign new text : List ℕ) → mid ≡ old ++ front → sign ≡ 47 ∷ [] → new ≡ mid ++ sign → text ≡ front ++ codes "/" → new ≡ old ++ text
+put_slash old front mid sign new text a b c d = cc (append_assoc old front sign)
