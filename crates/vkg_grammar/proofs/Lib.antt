@@ -11,3 +11,4 @@ pub mod Texts
 pub mod Following
 pub mod Checking
 pub mod Certifying
+pub mod Deepening

@@ -2,7 +2,9 @@
 #![tactic(auto)]
 
 mod check;
+mod depth;
 mod follow;
+mod grammar;
 mod machine;
 mod note;
 mod parsing;
@@ -11,6 +13,7 @@ mod rule;
 mod table;
 
 pub use check::check_ll1;
+pub use grammar::Grammar;
 pub use note::{Act, Note};
 pub use parsing::{ParseFault, parse};
 pub use rule::Rule;
