@@ -12,3 +12,4 @@ pub mod Following
 pub mod Checking
 pub mod Certifying
 pub mod Deepening
+pub mod Outcomes

@@ -5,6 +5,7 @@ mod check;
 mod depth;
 mod follow;
 mod grammar;
+mod laws;
 mod machine;
 mod note;
 mod parsing;
@@ -14,6 +15,10 @@ mod table;
 
 pub use check::check_ll1;
 pub use grammar::Grammar;
+pub use laws::{certificates_hold, tokens_have_one_outcome};
 pub use note::{Act, Note};
 pub use parsing::{ParseFault, parse};
 pub use rule::Rule;
+
+#[cfg(test)]
+mod tests;
