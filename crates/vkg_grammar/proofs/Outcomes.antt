@@ -1,17 +1,17 @@
 -- A list of tokens has one outcome.
-use Rattle.std.proofs.Common.{◌≡◌, ℕ, ◌+◌, ◌<◌, Bool, true, false, inl, inr, List, [], ◌∷◌, take, drop, length, refl, ap, sym, ◌∙◌, subst, arith, take-append-drop}
+use Rattle.std.proofs.Common.{◌≡◌, ℕ, ◌+◌, ◌<◌, Bool, true, false, inl, inr, List, [], take, drop, refl, ap, sym, ◌∙◌, subst, arith, take-append-drop}
 use Rattle.std.proofs.lemmas.Bool.{cases_lt}
 use Rattle.vkg_grammar.specs.declared.note.Note.{Note}
 use Rattle.vkg_grammar.specs.declared.parsing.ParseFault.{ParseFault}
 use Rattle.vkg_grammar.specs.declared.parsing.ParseFault.TheVariants.{Memory, TooDeep, Dead, Ended}
 use Rattle.vkg_grammar.specs.declared.rule.Rule.{Rule}
-use Rattle.vkg_grammar.specs.Form.{Form, depth, allows, IsTooDeep, IsShallow}
-use Rattle.vkg_grammar.specs.Grammar.{Derives, IsAlive}
+use Rattle.vkg_grammar.specs.Form.{Form, IsTooDeep, IsShallow}
+use Rattle.vkg_grammar.specs.Grammar.{IsAlive}
 use Rattle.vkg_grammar.specs.Laws.{HaveOneOutcome}
 use Rattle.std.proofs.lemmas.List.{append-nil}
 use Rattle.vkg_grammar.proofs.Core.{spelled}
 use Rattle.vkg_grammar.proofs.Outer.{alive_front}
-use Rattle.vkg_grammar.specs.Parsing.{IsFirstDead, IsCutOff, IsTheText, Fails}
+use Rattle.vkg_grammar.specs.Parsing.{IsFirstDead, IsTheText, Fails}
 
 -- the least of a kind is one
 least : (m n : ℕ) → (m < n → ⊥) → (n < m → ⊥) → m ≡ n
