@@ -1,6 +1,7 @@
 -- A test that computes: by lists of the kinds that begin and follow each symbol, the grammar is LL(1).
-use Rattle.std.specs.Prelude.{ℕ, ◌+◌, Bool, true, false, not, List, [], ◌∷◌, ◌++◌, get_or, nat_eq, nat_lt}
+use Rattle.std.specs.Prelude.{◌≡◌, ℕ, ◌+◌, ◌<◌, length, Bool, true, false, not, List, [], ◌∷◌, ◌++◌, get_or, nat_eq, nat_lt}
 use Rattle.vkg_grammar.specs.declared.rule.Rule.{Rule}
+use Rattle.vkg_grammar.specs.declared.rule.Rule.TheVariants.{Token}
 use Rattle.vkg_grammar.specs.Grammar.{Shape, One, Parts, Choice, shape}
 
 -- what is claimed of a symbol: whether it may be empty, what kinds begin it, what kinds follow it
@@ -99,3 +100,20 @@ shape_below m (Choice xs ys) = both (all_below m xs) (all_below m ys)
 abbrev pub all_closed : ℕ → ℕ → List Rule → Bool
 all_closed m n [] = true
 all_closed m n (r ∷ rs) = both (shape_below m (shape n r)) (all_closed m (n + 1) rs)
+
+-- the kinds that a rule names are below this number
+abbrev pub rule_fits : ℕ → Rule → Bool
+rule_fits kinds (Token k) = nat_lt k kinds
+rule_fits kinds r = true
+
+abbrev pub all_fit : ℕ → List Rule → Bool
+all_fit kinds [] = true
+all_fit kinds (r ∷ rs) = both (rule_fits kinds r) (all_fit kinds rs)
+
+-- The claims on the symbols of these rules pass every test. For rules and claims that are written out, each test is `refl`.
+pub record IsCertified (g : List Rule) (kinds : ℕ) (cs : List Claim) : Type 0 where
+  pub some : 0 < length g
+  pub closed : all_closed (length g) 0 g ≡ true
+  pub fits : all_fit kinds g ≡ true
+  pub claimed : all_claimed cs 0 g cs ≡ true
+  pub lower : all_lower cs 0 g cs ≡ true

@@ -4,10 +4,11 @@ ghost use Rattle.vkg_grammar.specs.Rank.{rank_in, HasRows, AllHaveRows};
 ghost use Rattle.vkg_grammar.specs.Tables.{HasColumns, StartsBy, WaysApart, ShapeApart};
 
 use crate::follow::follow_table;
+use crate::grammar::Grammar;
 use crate::productive::is_productive;
 use crate::rule::Rule;
 use crate::table::{begin_table, begins, is_ranked};
-use std::alloc::Global;
+use std::alloc::{AllocError, Global};
 use vkg_base::Memory;
 
 pub(crate) fn starts(
@@ -141,8 +142,8 @@ pub(crate) fn all_apart(rules: &[Rule], table: &[usize], follow: &[usize], width
     true
 }
 
-/// Whether the grammar is LL(1).
-pub fn check_ll1(alloc: Global, rules: &[Rule], width: usize) -> Result<bool, Memory>
+// Whether the grammar of these rules is LL(1), by its tables of this width.
+pub(crate) fn are_ll1(alloc: Global, rules: &[Rule], width: usize) -> Result<bool, AllocError>
     requires grammar { IsGrammar rules.now }
     requires columns { HasColumns rules.now width }
     requires wide { 0 < width }
@@ -155,4 +156,12 @@ pub fn check_ll1(alloc: Global, rules: &[Rule], width: usize) -> Result<bool, Me
     let table = begin_table(alloc, rules, width)?;
     let follow = follow_table(alloc, rules, &table, width)?;
     Ok(all_apart(rules, &table, &follow, width))
+}
+
+/// Whether the grammar is LL(1): every symbol derives some list of tokens, and at each choice, option and repetition at most
+/// one way may be empty and no kind of token begins two ways (where a way may be empty, what may follow there begins it too).
+pub fn check_ll1(alloc: Global, grammar: &Grammar) -> Result<bool, Memory>
+    ensures { IfOk result (λ b. IsTrue b ↔ IsLL1 grammar.now.rules) }
+{
+    Ok(are_ll1(alloc, grammar.rules(), grammar.width())?)
 }

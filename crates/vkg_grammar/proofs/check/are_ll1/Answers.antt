@@ -1,6 +1,6 @@
 use Rattle.vkg_grammar.specs.Grammar.{IsProductive}
 use Rattle.vkg_grammar.proofs.Checking.{apart_ll1, ll1_apart}
-use Rattle.vkg_grammar.proofs.check.check_ll1.Goals as goal
+use Rattle.vkg_grammar.proofs.check.are_ll1.Goals as goal
 
 pub returns : goal.returns
 returns c =
