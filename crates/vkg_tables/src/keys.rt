@@ -1,6 +1,6 @@
 ghost use Rattle.std.specs.Prelude.{◌≡◌, ◌<◌, ◌++◌, ◌∷◌, [], IfOk, OnOk, Some, None, List, ℕ, map, option_map, string_bytes, is_some};
 ghost use Rattle.std.specs.List.{AllByRecursion, list_any};
-ghost use Rattle.vkg_tables.specs.Faults.{first_repeat as first_repeat_of, first_orphan as first_orphan_of};
+ghost use Rattle.vkg_tables.specs.Firsts.{first_repeat as first_repeat_of, first_orphan as first_orphan_of};
 ghost use Rattle.vkg_tables.specs.Parts.{HasNoTerm, all_parts, is_missing, part as part_of_cell, parts as parts_of_row, texts_eq, texts_of};
 
 use indexmap::IndexSet;

@@ -9,4 +9,4 @@ mod load;
 mod records;
 
 pub use database::Database;
-pub use fault::{Place, TableFault};
+pub use fault::{TableError, TableFault};

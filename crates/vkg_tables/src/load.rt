@@ -2,14 +2,13 @@ ghost use Rattle.std.specs.Prelude.{◌≡◌, ◌<◌, ◌+◌, ◌^◌, ◌∷
 ghost use Rattle.std.specs.List.{list_any, position_or_len};
 ghost use Rattle.std.specs.Str.{bytes_eq};
 ghost use Rattle.csv.specs.Records.{fields_of};
-ghost use Rattle.vkg_tables.specs.Texts.{AreTexts};
-ghost use Rattle.vkg_tables.specs.declared.fault.Trouble.TheVariants.{Memory as OutOfMemory};
-ghost use Rattle.vkg_tables.specs.Field.{cell_of_csv, stands_for_null};
-ghost use Rattle.vkg_tables.specs.Load.{FailsAs, Gives, cells_from, field_cell as cell_of_text, file_records, header_fault as fault_of_header, field_of, not_once, place_in, row_of, rows_from, table_of_bytes, table_rows, unknown};
+ghost use Rattle.vkg_tables.specs.Field.{field_of, stands_for_null};
+ghost use Rattle.vkg_tables.specs.Steps.{FailsAs, Gives, cells_from, field_cell as cell_of_text, file_records, header_fault as fault_of_header, not_once, place_in, row_from, rows_from, table_from, unknown};
+ghost use Rattle.vkg_tables.specs.TableFile.{table_of_bytes};
 
-use crate::fault::{Fault, Trouble, at};
+use crate::fault::{FileError, FileFault, at};
 use crate::records::text_records;
-use csv::{ByteRecord, StringRecord};
+use csv::StringRecord;
 use std::alloc::Global;
 use vkg_base::{Items, Memory, Text};
 use vkg_cells::{Cell, FieldFault, SqlType, read_cell};
@@ -29,7 +28,7 @@ fn read_field(
     row: usize,
     place: usize,
     text: &str,
-) -> Result<Cell, Trouble>
+) -> Result<Cell, FileError>
     ensures { Gives (cell_of_text column.now row place text.now) result }
 {
     if is_null_field(column.kind, text) {
@@ -43,7 +42,7 @@ fn read_field(
         Ok(cell) => Ok(cell),
         Err(FieldFault::BadValue) => Err(at(6, row, place)),
         Err(FieldFault::TooWide) => Err(at(8, row, place)),
-        Err(FieldFault::Memory) => Err(Trouble::Memory),
+        Err(FieldFault::Memory) => Err(FileError::Memory),
     }
 }
 
@@ -94,18 +93,18 @@ fn places(alloc: Global, columns: &[Column], header: &[Text]) -> Result<Vec<usiz
     Ok(columns.iter().map(|c| place_of(header, c)).collect(alloc)?)
 }
 
-fn header_fault(columns: &[Column], header: &[Text]) -> Option<Fault>
+fn header_fault(columns: &[Column], header: &[Text]) -> Option<FileFault>
     ensures { result ≡ fault_of_header columns.now header.now }
 {
     if let Some(place) = find_unknown(columns, header) {
-        return Some(Fault {
+        return Some(FileFault {
             check: 2,
             row: 0,
             column: place + 1,
         });
     }
     match find_not_once(columns, header) {
-        Some(place) => Some(Fault {
+        Some(place) => Some(FileFault {
             check: 3,
             row: 0,
             column: place + 1,
@@ -115,10 +114,10 @@ fn header_fault(columns: &[Column], header: &[Text]) -> Option<Fault>
 }
 
 /// The field at a place, and an empty text past the end.
-fn field_at(record: &StringRecord, place: usize) -> &str
-    ensures { result.now ≡ field_of (fields_of record.now) place }
+fn field_at(fields: &StringRecord, place: usize) -> &str
+    ensures { result.now ≡ field_of (fields_of fields.now) place }
 {
-    match record.get(place) {
+    match fields.get(place) {
         Some(text) => text,
         None => "",
     }
@@ -130,15 +129,15 @@ fn read_cells(
     columns: &[Column],
     places: &[usize],
     row: usize,
-    record: &StringRecord,
+    fields: &StringRecord,
     header: &[Text],
-) -> Result<Items<Cell>, Trouble>
+) -> Result<Items<Cell>, FileError>
     requires { places.now ≡ map (λ c. place_in header.now c) columns.now }
-    ensures { Gives (cells_from header.now columns.now row 1 (fields_of record.now)) result }
+    ensures { Gives (cells_from header.now columns.now row 1 (fields_of fields.now)) result }
 {
     let mut cells = Items::new(alloc);
     for (i, column) in columns.iter().enumerate() {
-        let cell = read_field(alloc, column, row, i + 1, field_at(record, places[i]))?;
+        let cell = read_field(alloc, column, row, i + 1, field_at(fields, places[i]))?;
         cells.push(cell)?;
     }
     Ok(cells)
@@ -149,16 +148,16 @@ fn read_row(
     columns: &[Column],
     places: &[usize],
     row: usize,
-    record: &StringRecord,
+    fields: &StringRecord,
     header: &[Text],
-) -> Result<Items<Cell>, Trouble>
+) -> Result<Items<Cell>, FileError>
     requires { places.now ≡ map (λ c. place_in header.now c) columns.now }
-    ensures { Gives (row_of header.now columns.now row (fields_of record.now)) result }
+    ensures { Gives (row_from header.now columns.now row (fields_of fields.now)) result }
 {
-    if record.len() != header.len() {
+    if fields.len() != header.len() {
         return Err(at(4, row, 0));
     }
-    read_cells(alloc, columns, places, row, record, header)
+    read_cells(alloc, columns, places, row, fields, header)
 }
 
 /// The rows of the records, which are numbered from 1.
@@ -167,25 +166,25 @@ fn read_rows(
     columns: &[Column],
     records: &[StringRecord],
     header: &[Text],
-) -> Result<Items<Items<Cell>>, Trouble>
+) -> Result<Items<Items<Cell>>, FileError>
     ensures { Gives (rows_from header.now columns.now 1 (map fields_of records.now)) result }
 {
     let places = places(alloc, columns, header)?;
     let mut rows = Items::new(alloc);
-    for (i, record) in records.iter().enumerate() {
-        let row = read_row(alloc, columns, places.as_slice(), i + 1, record, header)?;
+    for (i, fields) in records.iter().enumerate() {
+        let row = read_row(alloc, columns, places.as_slice(), i + 1, fields, header)?;
         rows.push(row)?;
     }
     Ok(rows)
 }
 
 /// The texts of a record.
-fn texts_of(alloc: Global, record: &StringRecord) -> Result<Items<Text>, Memory>
-    ensures { IfOk result (λ r. r ≡ fields_of record.now) }
+fn texts_of(alloc: Global, fields: &StringRecord) -> Result<Items<Text>, Memory>
+    ensures { IfOk result (λ r. r ≡ fields_of fields.now) }
 {
     let mut texts = Items::new(alloc);
-    for i in 0..record.len() {
-        texts.push(Text::new(alloc, field_at(record, i))?)?;
+    for i in 0..fields.len() {
+        texts.push(Text::new(alloc, field_at(fields, i))?)?;
     }
     Ok(texts)
 }
@@ -194,37 +193,21 @@ fn read_table(
     alloc: Global,
     columns: &[Column],
     records: &[StringRecord],
-) -> Result<Items<Items<Cell>>, Trouble>
-    ensures { Gives (table_rows columns.now (map fields_of records.now)) result }
+) -> Result<Items<Items<Cell>>, FileError>
+    ensures { Gives (table_from columns.now (map fields_of records.now)) result }
 {
     let Some((first, rows)) = records.split_first() else {
         return Err(at(1, 0, 0));
     };
     let header = texts_of(alloc, first)?;
     if let Some(fault) = header_fault(columns, header.as_slice()) {
-        return Err(Trouble::At(fault));
+        return Err(FileError::Fault(fault));
     }
     read_rows(alloc, columns, rows, header.as_slice())
 }
 
-/// The records as texts.
-fn string_records(alloc: Global, records: Vec<ByteRecord>) -> Result<Vec<StringRecord>, Trouble>
-    requires { AreTexts (map fields_of records.items) }
-    ensures ok { IfOk result (λ v. map fields_of v.items ≡ map fields_of records.items) }
-    ensures err { IfErr result (λ e. e ≡ OutOfMemory) }
-{
-    let mut out = Vec::new(alloc);
-    for record in records {
-        match StringRecord::from_byte_record(record) {
-            Ok(record) => out.push(record)?,
-            Err(_) => return Err(Trouble::Memory),
-        }
-    }
-    Ok(out)
-}
-
 /// The records of a file.
-fn read_records(alloc: Global, bytes: &[u8]) -> Result<Vec<StringRecord>, Trouble>
+fn read_records(alloc: Global, bytes: &[u8]) -> Result<Vec<StringRecord>, FileError>
     ensures ok { IfOk result (λ v. file_records bytes.now ≡ Ok (map fields_of v.items)) }
     ensures err { IfErr result (λ e. FailsAs (file_records bytes.now) e) }
 {
@@ -234,10 +217,7 @@ fn read_records(alloc: Global, bytes: &[u8]) -> Result<Vec<StringRecord>, Troubl
     let Ok(text) = str::from_utf8(bytes) else {
         return Err(at(5, 0, 0));
     };
-    let Ok(records) = text_records(alloc, text) else {
-        return Err(Trouble::Memory);
-    };
-    string_records(alloc, records)
+    Ok(text_records(alloc, text)?)
 }
 
 /// The rows of a file.
@@ -245,7 +225,7 @@ pub fn read_file(
     alloc: Global,
     columns: &[Column],
     bytes: &[u8],
-) -> Result<Items<Items<Cell>>, Trouble>
+) -> Result<Items<Items<Cell>>, FileError>
     ensures { Gives (table_of_bytes columns.now bytes.now) result }
 {
     let records = read_records(alloc, bytes)?;
