@@ -1,6 +1,6 @@
 -- The cells that are read fit their columns.
 use Rattle.std.proofs.Common.{◌≡◌, ◌≢◌, ◌∙◌, ◌+◌, ◌<◌, ◌&&◌, ◌==◌, ◌⊎◌, inl, inr, ℕ, zero, suc, Bool, true, false, List, [], ◌∷◌, Option, Some, None, if◌then◌else◌, refl, sym, ap, subst, arith, length, get_or, nat_lt, map, IsUtf8}
-use Rattle.std.specs.Prelude.{Result, Ok, Err, slice_get, slice_set, unwrap_or}
+use Rattle.std.specs.Prelude.{Result, Ok, Err, OnErr, OnOk, ◌++◌, slice_get, slice_set, unwrap_or}
 use Rattle.std.proofs.lemmas.Str.{IsUtf8-nil, IsUtf8-from_is_utf8}
 use Rattle.std.specs.List.{AllByRecursion, AllZip}
 use Rattle.std.specs.Str.{is_utf8}
@@ -234,7 +234,29 @@ table-width (t ∷ ts) [] i row d h l = absurd h
 table-width (t ∷ ts) (rows ∷ db) zero row d h l = row-width t.columns rows row d h.0 l
 table-width (t ∷ ts) (rows ∷ db) (suc i) row d h l = table-width ts db i row d h.1 l
 
-pub row-there : (rows : List Row) (row : ℕ) (d : Row) → row < length rows → get_or rows row d ≡ unwrap_or (slice_get rows row) []
-row-there [] row d l = absurd (omega (arith, l))
-row-there (r ∷ rs) zero d l = refl
-row-there (r ∷ rs) (suc row) d l = row-there rs row d (omega (arith, l))
+-- the list at a place of a list of lists
+pub list-there : {A : Type 0} (xs : List (List A)) (i : ℕ) (d : List A) → i < length xs → get_or xs i d ≡ unwrap_or (slice_get xs i) []
+list-there [] i d l = absurd (omega (arith, l))
+list-there (x ∷ xs) zero d l = refl
+list-there (x ∷ xs) (suc i) d l = list-there xs i d (omega (arith, l))
+
+-- ---- one row more
+rows-pushed : (columns : List Column) (rows : List Row) (row : Row) → AllByRecursion (AllZip FitsColumn columns) rows → AllZip FitsColumn columns row → AllByRecursion (AllZip FitsColumn columns) (rows ++ row ∷ [])
+rows-pushed columns [] row h f = (f, tt)
+rows-pushed columns (r ∷ rs) row h f = (h.0, rows-pushed columns rs row h.1 f)
+
+pub pushed-holds : (tables : List Table) (db : List (List Row)) (i : ℕ) (row : Row) → i < length tables → HoldsCells tables db → AllZip FitsColumn (columns_of tables i) row → HoldsCells tables (slice_set db i (rows_of db i ++ row ∷ []))
+pushed-holds [] db i row l h f = absurd (omega (arith, l))
+pushed-holds (t ∷ ts) [] i row l h f = absurd h
+pushed-holds (t ∷ ts) (rows ∷ db) zero row l h f = (rows-pushed t.columns rows row h.0 f, h.1)
+pushed-holds (t ∷ ts) (rows ∷ db) (suc i) row l h f = (h.0, pushed-holds ts db i row (omega (arith, l)) h.1 f)
+
+pub set-same : (db : List (List Row)) (i : ℕ) → slice_set db i (rows_of db i) ≡ db
+set-same [] i = refl
+set-same (rows ∷ db) zero = refl
+set-same (rows ∷ db) (suc i) = ap (λ l. rows ∷ l) (set-same db i)
+
+-- a push gives the row behind the others, or changes nothing
+pub pushed-or-not : {A E : Type 0} (r : Result A E) (old new : List Row) (row : Row) → OnOk r (new ≡ old ++ row ∷ []) → OnErr r (new ≡ old) → (new ≡ old ++ row ∷ []) ⊎ (new ≡ old)
+pushed-or-not (Ok x) old new row a b = inl a
+pushed-or-not (Err x) old new row a b = inr b

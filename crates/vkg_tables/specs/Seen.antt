@@ -1,5 +1,5 @@
 -- A database as contracts see it, and what a call makes of it.
-use Rattle.std.specs.Prelude.{◌≡◌, ℕ, ◌+◌, List, map, slice_set, slice_get, unwrap_or, Option, Some, None, Result, Ok, Err, ⊤, []}
+use Rattle.std.specs.Prelude.{◌≡◌, ℕ, ◌+◌, ◌++◌, ◌∷◌, List, map, slice_set, slice_get, unwrap_or, Option, Some, None, Result, Ok, Err, ⊤, []}
 use Rattle.std.specs.List.{AllByRecursion, AllZip}
 use Rattle.vkg_cells.specs.declared.cell.Cell.{Cell}
 use Rattle.vkg_schema.specs.declared.table.Table.{Table}
@@ -40,6 +40,10 @@ cell_of db table row column = cell_at (unwrap_or (slice_get (rows_of db.tables t
 -- the database with these rows in place of those of a table
 abbrev pub with_rows : Seen → ℕ → List Row → Seen
 with_rows db table rows = record { schema = db.schema; tables = slice_set db.tables table rows }
+
+-- the database with a row behind those of a table
+abbrev pub with_row : Seen → ℕ → Row → Seen
+with_row db table row = with_rows db table (rows_of db.tables table ++ row ∷ [])
 
 -- tables count from 1 in a fault
 abbrev pub placed : ℕ → FileFault → TableFault

@@ -1,14 +1,16 @@
 ghost use Rattle.std.specs.Prelude.{◌≡◌, ◌<◌, [], Ok, None, IfOk, IfErr, OnOk, OnErr, length, map};
-ghost use Rattle.vkg_schema.specs.Meets.{MeetsSchema};
+ghost use Rattle.std.specs.List.{AllZip};
+ghost use Rattle.vkg_schema.specs.Meets.{FitsColumn, MeetsSchema};
 ghost use Rattle.vkg_schema.specs.Rows.{cell_at, rows_of};
 ghost use Rattle.vkg_tables.specs.Checks.{key_fault, reference_fault};
-ghost use Rattle.vkg_tables.specs.Seen.{FailsWith, HoldsCells, Tells, cell_of, columns_of, loaded, without_rows};
+ghost use Rattle.vkg_tables.specs.Seen.{FailsWith, HoldsCells, Tells, cell_of, columns_of, loaded, with_row, without_rows};
 
 use crate::checks::{find_key_fault, find_reference_fault, rows_at};
 use crate::fault::{FileError, TableError, TableFault};
 use crate::load::read_file;
 use std::alloc::Global;
 use std::marker::Model;
+use std::mem;
 use vkg_base::{Items, Memory};
 use vkg_cells::Cell;
 use vkg_schema::Schema;
@@ -99,6 +101,20 @@ impl Database {
             })),
             Err(FileError::Memory) => Err(TableError::Memory),
         }
+    }
+
+    /// Puts a row behind those of a table. Want of memory changes nothing.
+    pub fn push_row(&mut self, table: usize, row: Vec<Cell>) -> Result<(), Memory>
+        requires table { table < length self.old.schema }
+        requires row { AllZip FitsColumn (columns_of self.old.schema table) row.items }
+        ensures ok { OnOk result (self.new ≡ with_row self.old table row.items) }
+        ensures err { OnErr result (self.new ≡ self.old) }
+    {
+        let none = Items::new(self.tables.alloc());
+        let mut tables = mem::replace(&mut self.tables, none).into_vec();
+        let pushed = tables[table].push(Items::from_vec(row));
+        self.tables = Items::from_vec(tables);
+        pushed
     }
 
     /// That no two rows of a table agree on a whole key (SQL 92, 4.10.2).
