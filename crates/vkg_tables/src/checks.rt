@@ -13,7 +13,7 @@ use vkg_base::{Items, Memory};
 use vkg_cells::Cell;
 use vkg_schema::Table;
 
-/// The place of the lesser row; of one row, the former.
+// The place of the lesser row; of one row, the former.
 fn earlier(a: Option<(usize, usize)>, b: Option<(usize, usize)>) -> Option<(usize, usize)>
     ensures { result ≡ earlier_of a b }
 {
@@ -33,7 +33,7 @@ fn with_number(row: Option<usize>, number: usize) -> Option<(usize, usize)>
     }
 }
 
-/// The least row that repeats a key, and the first key that it repeats.
+// The least row that repeats a key, and the first key that it repeats.
 fn key_place(
     alloc: Global,
     table: &Table,
@@ -50,7 +50,7 @@ fn key_place(
     Ok(least)
 }
 
-/// The least row that refers to no row, and the first foreign key by which it does.
+// The least row that refers to no row, and the first foreign key by which it does.
 fn reference_place(
     alloc: Global,
     tables: &[Items<Items<Cell>>],

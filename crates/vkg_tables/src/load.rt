@@ -1,140 +1,34 @@
-ghost use Rattle.std.specs.Prelude.{◌≡◌, ◌<◌, ◌+◌, ◌^◌, ◌∷◌, ◌==◌, not, IfOk, IfErr, position, List, ℕ, length, map, count_by, nat_eq, string_bytes, OnOk, OnErr, Ok, Err, option_map, Option, Some};
-ghost use Rattle.std.specs.List.{list_any, position_or_len};
-ghost use Rattle.std.specs.Str.{bytes_eq};
+// The rows of a table file.
+ghost use Rattle.std.specs.Prelude.{◌≡◌, ◌<◌, ◌+◌, IfOk, IfErr, Ok, length, map};
 ghost use Rattle.csv.specs.Records.{fields_of};
-ghost use Rattle.vkg_tables.specs.Field.{field_of, stands_for_null};
-ghost use Rattle.vkg_tables.specs.Steps.{FailsAs, Gives, cells_from, field_cell as cell_of_text, file_records, header_fault as fault_of_header, not_once, place_in, row_from, rows_from, table_from, unknown};
+ghost use Rattle.vkg_tables.specs.Steps.{FailsAs, Gives, cells_from, file_records, place_in, row_from, rows_from, table_from};
 ghost use Rattle.vkg_tables.specs.TableFile.{table_of_bytes};
 
-use crate::fault::{FileError, FileFault, at};
+use crate::fault::{FileError, at};
+use crate::field::{field_at, read_field};
+use crate::header::{Header, header_fault, texts_of};
 use crate::records::text_records;
 use csv::StringRecord;
 use std::alloc::Global;
-use vkg_base::{Items, Memory, Text};
-use vkg_cells::{Cell, FieldFault, SqlType, read_cell};
+use vkg_base::Items;
+use vkg_cells::Cell;
 use vkg_schema::Column;
 
-/// Whether a field of a kind is NULL.
-fn is_null_field(kind: SqlType, text: &str) -> bool
-    ensures { result ≡ stands_for_null kind text.now }
-{
-    text == "\\N" || text == "" && !matches!(kind, SqlType::Text)
-}
+/// The most bytes of a file.
+const LIMIT: usize = 2_147_483_647;
 
-/// The cell of a field under a column.
-fn read_field(
-    alloc: Global,
-    column: &Column,
-    row: usize,
-    place: usize,
-    text: &str,
-) -> Result<Cell, FileError>
-    ensures { Gives (cell_of_text column.now row place text.now) result }
-{
-    if is_null_field(column.kind, text) {
-        return if column.not_null {
-            Err(at(7, row, place))
-        } else {
-            Ok(Cell::Null)
-        };
-    }
-    match read_cell(alloc, column.kind, text) {
-        Ok(cell) => Ok(cell),
-        Err(FieldFault::BadValue) => Err(at(6, row, place)),
-        Err(FieldFault::TooWide) => Err(at(8, row, place)),
-        Err(FieldFault::Memory) => Err(FileError::Memory),
-    }
-}
-
-fn is_column(columns: &[Column], name: &str) -> bool
-    ensures { result ≡ list_any (λ c. bytes_eq c.name name.now) columns.now }
-{
-    columns.iter().any(|c| c.name.as_str() == name)
-}
-
-fn find_unknown(columns: &[Column], header: &[Text]) -> Option<usize>
-    ensures { result ≡ unknown columns.now header.now }
-{
-    header.iter().position(|f| !is_column(columns, f.as_str()))
-}
-
-fn count_named(header: &[Text], name: &str) -> usize
-    ensures { result ≡ count_by (λ f. bytes_eq f name.now) header.now }
-{
-    header.iter().filter(|f| f.as_str() == name).count()
-}
-
-fn find_not_once(columns: &[Column], header: &[Text]) -> Option<usize>
-    ensures { result ≡ not_once columns.now header.now }
-{
-    columns
-        .iter()
-        .position(|c| !(count_named(header, c.name.as_str()) == 1))
-}
-
-fn find_field(header: &[Text], name: &str) -> Option<usize>
-    ensures { result ≡ position (λ f. bytes_eq f name.now) header.now }
-{
-    header.iter().position(|f| f.as_str() == name)
-}
-
-fn place_of(header: &[Text], column: &Column) -> usize
-    ensures { result ≡ place_in header.now column.now }
-{
-    match find_field(header, column.name.as_str()) {
-        Some(place) => place,
-        None => header.len(),
-    }
-}
-
-fn places(alloc: Global, columns: &[Column], header: &[Text]) -> Result<Vec<usize>, Memory>
-    ensures { IfOk result (λ v. v.items ≡ map (λ c. place_in header.now c) columns.now) }
-{
-    Ok(columns.iter().map(|c| place_of(header, c)).collect(alloc)?)
-}
-
-fn header_fault(columns: &[Column], header: &[Text]) -> Option<FileFault>
-    ensures { result ≡ fault_of_header columns.now header.now }
-{
-    if let Some(place) = find_unknown(columns, header) {
-        return Some(FileFault {
-            check: 2,
-            row: 0,
-            column: place + 1,
-        });
-    }
-    match find_not_once(columns, header) {
-        Some(place) => Some(FileFault {
-            check: 3,
-            row: 0,
-            column: place + 1,
-        }),
-        None => None,
-    }
-}
-
-/// The field at a place, and an empty text past the end.
-fn field_at(fields: &StringRecord, place: usize) -> &str
-    ensures { result.now ≡ field_of (fields_of fields.now) place }
-{
-    match fields.get(place) {
-        Some(text) => text,
-        None => "",
-    }
-}
-
-/// The cells of a row, in the order of the schema's columns.
+// The cells of a row, in the order of the schema's columns.
 fn read_cells(
     alloc: Global,
     columns: &[Column],
-    places: &[usize],
+    header: &Header,
     row: usize,
     fields: &StringRecord,
-    header: &[Text],
 ) -> Result<Items<Cell>, FileError>
-    requires { places.now ≡ map (λ c. place_in header.now c) columns.now }
-    ensures { Gives (cells_from header.now columns.now row 1 (fields_of fields.now)) result }
+    requires { header.now.places.items ≡ map (λ c. place_in header.now.names c) columns.now }
+    ensures { Gives (cells_from header.now.names columns.now row 1 (fields_of fields.now)) result }
 {
+    let places = header.places.as_slice();
     let mut cells = Items::new(alloc);
     for (i, column) in columns.iter().enumerate() {
         let cell = read_field(alloc, column, row, i + 1, field_at(fields, places[i]))?;
@@ -146,47 +40,35 @@ fn read_cells(
 fn read_row(
     alloc: Global,
     columns: &[Column],
-    places: &[usize],
+    header: &Header,
     row: usize,
     fields: &StringRecord,
-    header: &[Text],
 ) -> Result<Items<Cell>, FileError>
-    requires { places.now ≡ map (λ c. place_in header.now c) columns.now }
-    ensures { Gives (row_from header.now columns.now row (fields_of fields.now)) result }
+    requires { header.now.places.items ≡ map (λ c. place_in header.now.names c) columns.now }
+    ensures { Gives (row_from header.now.names columns.now row (fields_of fields.now)) result }
 {
-    if fields.len() != header.len() {
+    if fields.len() != header.names.len() {
         return Err(at(4, row, 0));
     }
-    read_cells(alloc, columns, places, row, fields, header)
+    read_cells(alloc, columns, header, row, fields)
 }
 
-/// The rows of the records, which are numbered from 1.
+// The rows of the records, which are numbered from 1.
 fn read_rows(
     alloc: Global,
     columns: &[Column],
+    header: &Header,
     records: &[StringRecord],
-    header: &[Text],
 ) -> Result<Items<Items<Cell>>, FileError>
-    ensures { Gives (rows_from header.now columns.now 1 (map fields_of records.now)) result }
+    requires { header.now.places.items ≡ map (λ c. place_in header.now.names c) columns.now }
+    ensures { Gives (rows_from header.now.names columns.now 1 (map fields_of records.now)) result }
 {
-    let places = places(alloc, columns, header)?;
     let mut rows = Items::new(alloc);
     for (i, fields) in records.iter().enumerate() {
-        let row = read_row(alloc, columns, places.as_slice(), i + 1, fields, header)?;
+        let row = read_row(alloc, columns, header, i + 1, fields)?;
         rows.push(row)?;
     }
     Ok(rows)
-}
-
-/// The texts of a record.
-fn texts_of(alloc: Global, fields: &StringRecord) -> Result<Items<Text>, Memory>
-    ensures { IfOk result (λ r. r ≡ fields_of fields.now) }
-{
-    let mut texts = Items::new(alloc);
-    for i in 0..fields.len() {
-        texts.push(Text::new(alloc, field_at(fields, i))?)?;
-    }
-    Ok(texts)
 }
 
 fn read_table(
@@ -199,19 +81,20 @@ fn read_table(
     let Some((first, rows)) = records.split_first() else {
         return Err(at(1, 0, 0));
     };
-    let header = texts_of(alloc, first)?;
-    if let Some(fault) = header_fault(columns, header.as_slice()) {
+    let names = texts_of(alloc, first)?;
+    if let Some(fault) = header_fault(columns, names.as_slice()) {
         return Err(FileError::Fault(fault));
     }
-    read_rows(alloc, columns, rows, header.as_slice())
+    let header = Header::new(alloc, columns, names)?;
+    read_rows(alloc, columns, &header, rows)
 }
 
-/// The records of a file.
+// The records of a file.
 fn read_records(alloc: Global, bytes: &[u8]) -> Result<Vec<StringRecord>, FileError>
     ensures ok { IfOk result (λ v. file_records bytes.now ≡ Ok (map fields_of v.items)) }
     ensures err { IfErr result (λ e. FailsAs (file_records bytes.now) e) }
 {
-    if bytes.len() > 2_147_483_647 {
+    if bytes.len() > LIMIT {
         return Err(at(11, 0, 0));
     }
     let Ok(text) = str::from_utf8(bytes) else {
