@@ -3,7 +3,8 @@ use Rattle.std.proofs.Common.{◌≡◌, ◌∙◌, ◌+◌, ◌<◌, ◌++◌, 
 use Rattle.std.proofs.lemmas.List.{take_more, length-take-le, map-append}
 use Rattle.std.specs.List.{AllByRecursion, list_any}
 use Rattle.vkg_schema.specs.Rows.{Row}
-use Rattle.vkg_tables.specs.Faults.{first_after, is_orphan, repeats}
+use Rattle.vkg_tables.specs.Checks.{is_orphan, repeats}
+use Rattle.vkg_tables.specs.Firsts.{first_after}
 use Rattle.vkg_tables.specs.Parts.{HasNoTerm, all_parts, is_missing, one_or_none, parts, texts_eq, texts_of}
 use Rattle.vkg_tables.proofs.PartsLemmas.{all_parts-more, found, orphan-missing, repeats-found}
 

@@ -1,6 +1,6 @@
 -- The cells that are read fit their columns.
 use Rattle.std.proofs.Common.{◌≡◌, ◌≢◌, ◌∙◌, ◌+◌, ◌<◌, ◌&&◌, ◌==◌, ◌⊎◌, inl, inr, ℕ, zero, suc, Bool, true, false, List, [], ◌∷◌, Option, Some, None, if◌then◌else◌, refl, sym, ap, subst, arith, length, get_or, nat_lt, map, IsUtf8}
-use Rattle.std.specs.Prelude.{Result, Ok, Err, slice_set}
+use Rattle.std.specs.Prelude.{Result, Ok, Err, OnErr, OnOk, ◌++◌, slice_get, slice_set, unwrap_or}
 use Rattle.std.proofs.lemmas.Str.{IsUtf8-nil, IsUtf8-from_is_utf8}
 use Rattle.std.specs.List.{AllByRecursion, AllZip}
 use Rattle.std.specs.Str.{is_utf8}
@@ -22,12 +22,16 @@ use Rattle.vkg_cells.specs.Order.{family_of}
 use Rattle.vkg_schema.specs.declared.table.Column.{Column}
 use Rattle.vkg_schema.specs.declared.table.Table.{Table}
 use Rattle.vkg_schema.specs.Meets.{FitsColumn, IsColumn, IsTable, IsWellFormed}
-use Rattle.vkg_schema.specs.Rows.{Row, is_null}
+use Rattle.vkg_schema.specs.Rows.{Row, is_null, rows_of}
 use Rattle.vkg_tables.specs.Field.{cell_of_csv, stands_for_null}
-use Rattle.vkg_tables.specs.Load.{cells_from, checked, fault, field_cell, field_of, header_fault, onto, place_in, row_of, rows_from, table_of_bytes, table_of_records, table_rows, unless}
+use Rattle.vkg_tables.specs.Field.{field_of}
+use Rattle.vkg_tables.specs.Steps.{cells_from, checked, field_cell, file_from, header_fault, onto, place_in, row_from, rows_from, table_from, table_of_records, unless}
+use Rattle.vkg_tables.specs.TableFile.{fault}
+use Rattle.vkg_tables.specs.TableFile.{table_of_bytes}
 use Rattle.vkg_tables.specs.Parts.{HasNoTerm, IsNoTerm}
+use Rattle.vkg_tables.proofs.FileFaults.{file_from-settled}
 use Rattle.vkg_tables.specs.Seen.{HoldsCells, HoldsRows, columns_of}
-use Rattle.vkg_tables.specs.declared.fault.Fault.{Fault}
+use Rattle.vkg_tables.specs.declared.fault.FileFault.{FileFault}
 
 -- ---- a field is read as no term
 fam : Result Cell FieldFault → ℕ
@@ -131,7 +135,7 @@ checked-ok : (nn : Bool) (row place : ℕ) (r : Result Cell FieldFault) (c : Cel
 checked-ok nn row place (Err x) c e = cc e
 checked-ok nn row place (Ok d) c e = by (is_null d && nn) refl e
   where
-    by : (b : Bool) → is_null d && nn ≡ b → ◌≡◌ {A = Result Cell Fault} (if b then Err (fault 7 row place) else Ok d) (Ok c) → (◌≡◌ {A = Result Cell FieldFault} (Ok d) (Ok c)) × (is_null c && nn ≡ false)
+    by : (b : Bool) → is_null d && nn ≡ b → ◌≡◌ {A = Result Cell FileFault} (if b then Err (fault 7 row place) else Ok d) (Ok c) → (◌≡◌ {A = Result Cell FieldFault} (Ok d) (Ok c)) × (is_null c && nn ≡ false)
     by true h f = cc f
     by false h f = let same : d ≡ c = cc f in (ap Ok same, ap (λ x. is_null x && nn) (sym same) ∙ h)
 
@@ -147,7 +151,7 @@ field-text [] (suc i) h = IsUtf8-nil
 field-text (f ∷ fs) zero h = h.0
 field-text (f ∷ fs) (suc i) h = field-text fs i h.1
 
-ok-onto : {A : Type 0} (x : Result A Fault) (r : Result (List A) Fault) (ys : List A) → onto x r ≡ Ok ys → (y : A) × (zs : List A) × (x ≡ Ok y) × (r ≡ Ok zs) × (ys ≡ y ∷ zs)
+ok-onto : {A : Type 0} (x : Result A FileFault) (r : Result (List A) FileFault) (ys : List A) → onto x r ≡ Ok ys → (y : A) × (zs : List A) × (x ≡ Ok y) × (r ≡ Ok zs) × (ys ≡ y ∷ zs)
 ok-onto (Err f) r ys e = cc e
 ok-onto (Ok x) (Err f) ys e = cc e
 ok-onto (Ok x) (Ok xs) ys e = (x, xs, refl, refl, cc e)
@@ -159,7 +163,7 @@ cells-fit header (c ∷ cs) row place fields cells t e =
     subst (AllZip FitsColumn (c ∷ cs)) (sym o.4)
     (field-fits c row place (field_of fields (place_in header c)) o.0 (field-text fields (place_in header c) t) o.2, cells-fit header cs row (place + 1) fields o.1 t o.3)
 
-row-fits : (header : List (List ℕ)) (columns : List Column) (row : ℕ) (fields : List (List ℕ)) (cells : Row) → AllText fields → row_of header columns row fields ≡ Ok cells → AllZip FitsColumn columns cells
+row-fits : (header : List (List ℕ)) (columns : List Column) (row : ℕ) (fields : List (List ℕ)) (cells : Row) → AllText fields → row_from header columns row fields ≡ Ok cells → AllZip FitsColumn columns cells
 row-fits header columns row fields cells t e = by (length fields == length header) e
   where
     by : (b : Bool) → (if b then cells_from header columns row 1 fields else Err (fault 4 row 0)) ≡ Ok cells → AllZip FitsColumn columns cells
@@ -169,19 +173,19 @@ row-fits header columns row fields cells t e = by (length fields == length heade
 rows-fit : (header : List (List ℕ)) (columns : List Column) (row : ℕ) (recs : List (List (List ℕ))) (rows : List Row) → AreTexts recs → rows_from header columns row recs ≡ Ok rows → AllByRecursion (AllZip FitsColumn columns) rows
 rows-fit header columns row [] rows t e = let none : [] ≡ rows = cc e in subst (AllByRecursion (AllZip FitsColumn columns)) none tt
 rows-fit header columns row (r ∷ rs) rows t e =
-    let o = ok-onto (row_of header columns row r) (rows_from header columns (row + 1) rs) rows e in
+    let o = ok-onto (row_from header columns row r) (rows_from header columns (row + 1) rs) rows e in
     subst (AllByRecursion (AllZip FitsColumn columns)) (sym o.4) (row-fits header columns row r o.0 t.0 o.2, rows-fit header columns (row + 1) rs o.1 t.1 o.3)
 
-table-fits : (columns : List Column) (recs : List (List (List ℕ))) (rows : List Row) → AreTexts recs → table_rows columns recs ≡ Ok rows → AllByRecursion (AllZip FitsColumn columns) rows
+table-fits : (columns : List Column) (recs : List (List (List ℕ))) (rows : List Row) → AreTexts recs → table_from columns recs ≡ Ok rows → AllByRecursion (AllZip FitsColumn columns) rows
 table-fits columns [] rows t e = cc e
 table-fits columns (header ∷ rs) rows t e = by (header_fault columns header) e
   where
-    by : (o : Option Fault) → unless o (rows_from header columns 1 rs) ≡ Ok rows → AllByRecursion (AllZip FitsColumn columns) rows
+    by : (o : Option FileFault) → unless o (rows_from header columns 1 rs) ≡ Ok rows → AllByRecursion (AllZip FitsColumn columns) rows
     by (Some f) h = cc h
     by None h = rows-fit header columns 1 rs rows t.1 h
 
-pub file-fits : (columns : List Column) (bytes : List ℕ) (rows : List Row) → table_of_bytes columns bytes ≡ Ok rows → AllByRecursion (AllZip FitsColumn columns) rows
-file-fits columns bytes rows e = long (nat_lt 2147483647 (length bytes)) e
+from-fits : (columns : List Column) (bytes : List ℕ) (rows : List Row) → file_from columns bytes ≡ Ok rows → AllByRecursion (AllZip FitsColumn columns) rows
+from-fits columns bytes rows e = long (nat_lt 2147483647 (length bytes)) e
   where
     text : (b : Bool) → is_utf8 bytes ≡ b → table_of_records columns (if b then Ok (records default_config (strip_bom bytes)) else Err (fault 5 0 0)) ≡ Ok rows → AllByRecursion (AllZip FitsColumn columns) rows
     text true u h = table-fits columns (records default_config (strip_bom bytes)) rows (AreTexts-records (strip_bom bytes) (IsUtf8-strip_bom bytes (IsUtf8-from_is_utf8 bytes u))) h
@@ -190,6 +194,9 @@ file-fits columns bytes rows e = long (nat_lt 2147483647 (length bytes)) e
     long : (b : Bool) → table_of_records columns (if b then Err (fault 11 0 0) else if is_utf8 bytes then Ok (records default_config (strip_bom bytes)) else Err (fault 5 0 0)) ≡ Ok rows → AllByRecursion (AllZip FitsColumn columns) rows
     long true h = cc h
     long false h = text (is_utf8 bytes) refl h
+
+pub file-fits : (columns : List Column) (bytes : List ℕ) (rows : List Row) → table_of_bytes columns bytes ≡ Ok rows → AllByRecursion (AllZip FitsColumn columns) rows
+file-fits columns bytes rows e = from-fits columns bytes rows (file_from-settled columns bytes ∙ e)
 
 -- ---- a table among the others
 pub set-holds : (tables : List Table) (db : List (List Row)) (i : ℕ) (rows : List Row) (d : Table) → i < length tables → HoldsCells tables db → HoldsRows (get_or tables i d) rows → HoldsCells tables (slice_set db i rows)
@@ -206,3 +213,50 @@ pub columns-there : (tables : List Table) (i : ℕ) (d : Table) → i < length t
 columns-there [] i d l = absurd (omega (arith, l))
 columns-there (t ∷ ts) zero d l = refl
 columns-there (t ∷ ts) (suc i) d l = columns-there ts i d (omega (arith, l))
+
+-- ---- a row of a table
+zip-length : (columns : List Column) (row : Row) → AllZip FitsColumn columns row → length row ≡ length columns
+zip-length [] [] h = refl
+zip-length [] (c ∷ cs) h = absurd h
+zip-length (k ∷ ks) [] h = absurd h
+zip-length (k ∷ ks) (c ∷ cs) h = ap suc (zip-length ks cs h.1)
+
+row-width : (columns : List Column) (rows : List Row) (row : ℕ) (d : Row) → AllByRecursion (AllZip FitsColumn columns) rows → row < length rows → length (get_or rows row d) ≡ length columns
+row-width columns [] row d h l = absurd (omega (arith, l))
+row-width columns (r ∷ rs) zero d h l = zip-length columns r h.0
+row-width columns (r ∷ rs) (suc row) d h l = row-width columns rs row d h.1 (omega (arith, l))
+
+-- a row has a cell for each column of its table
+pub table-width : (tables : List Table) (db : List (List Row)) (i row : ℕ) (d : Row) → HoldsCells tables db → row < length (rows_of db i) → length (get_or (rows_of db i) row d) ≡ length (columns_of tables i)
+table-width [] [] i row d h l = absurd (omega (arith, l))
+table-width [] (rows ∷ db) i row d h l = absurd h
+table-width (t ∷ ts) [] i row d h l = absurd h
+table-width (t ∷ ts) (rows ∷ db) zero row d h l = row-width t.columns rows row d h.0 l
+table-width (t ∷ ts) (rows ∷ db) (suc i) row d h l = table-width ts db i row d h.1 l
+
+-- the list at a place of a list of lists
+pub list-there : {A : Type 0} (xs : List (List A)) (i : ℕ) (d : List A) → i < length xs → get_or xs i d ≡ unwrap_or (slice_get xs i) []
+list-there [] i d l = absurd (omega (arith, l))
+list-there (x ∷ xs) zero d l = refl
+list-there (x ∷ xs) (suc i) d l = list-there xs i d (omega (arith, l))
+
+-- ---- one row more
+rows-pushed : (columns : List Column) (rows : List Row) (row : Row) → AllByRecursion (AllZip FitsColumn columns) rows → AllZip FitsColumn columns row → AllByRecursion (AllZip FitsColumn columns) (rows ++ row ∷ [])
+rows-pushed columns [] row h f = (f, tt)
+rows-pushed columns (r ∷ rs) row h f = (h.0, rows-pushed columns rs row h.1 f)
+
+pub pushed-holds : (tables : List Table) (db : List (List Row)) (i : ℕ) (row : Row) → i < length tables → HoldsCells tables db → AllZip FitsColumn (columns_of tables i) row → HoldsCells tables (slice_set db i (rows_of db i ++ row ∷ []))
+pushed-holds [] db i row l h f = absurd (omega (arith, l))
+pushed-holds (t ∷ ts) [] i row l h f = absurd h
+pushed-holds (t ∷ ts) (rows ∷ db) zero row l h f = (rows-pushed t.columns rows row h.0 f, h.1)
+pushed-holds (t ∷ ts) (rows ∷ db) (suc i) row l h f = (h.0, pushed-holds ts db i row (omega (arith, l)) h.1 f)
+
+pub set-same : (db : List (List Row)) (i : ℕ) → slice_set db i (rows_of db i) ≡ db
+set-same [] i = refl
+set-same (rows ∷ db) zero = refl
+set-same (rows ∷ db) (suc i) = ap (λ l. rows ∷ l) (set-same db i)
+
+-- a push gives the row behind the others, or changes nothing
+pub pushed-or-not : {A E : Type 0} (r : Result A E) (old new : List Row) (row : Row) → OnOk r (new ≡ old ++ row ∷ []) → OnErr r (new ≡ old) → (new ≡ old ++ row ∷ []) ⊎ (new ≡ old)
+pushed-or-not (Ok x) old new row a b = inl a
+pushed-or-not (Err x) old new row a b = inr b

@@ -3,15 +3,17 @@ use Rattle.std.proofs.Common.{◌≡◌, ◌∙◌, ◌+◌, ◌<◌, ◌≤◌,
 use Rattle.std.proofs.lemmas.List.{append-nil, get_or-map}
 use Rattle.std.specs.Prelude.{Result, Ok, Err}
 use Rattle.std.specs.List.{position_or_len}
-use Rattle.vkg_tables.specs.declared.fault.Fault.{Fault}
-use Rattle.vkg_tables.specs.declared.fault.Trouble.{Trouble}
-use Rattle.vkg_tables.specs.declared.fault.Trouble.TheVariants as trouble
+use Rattle.vkg_tables.specs.declared.fault.FileFault.{FileFault}
+use Rattle.vkg_tables.specs.declared.fault.FileError.{FileError}
+use Rattle.vkg_tables.specs.declared.fault.FileError.TheVariants as file_error
 use Rattle.csv.specs.Reading.{default_config, records, strip_bom}
 use Rattle.csv.specs.Records.{field_at}
 use Rattle.std.specs.Str.{is_utf8}
 use Rattle.std.proofs.lemmas.Str.{IsUtf8-from_is_utf8, is_utf8-from_IsUtf8}
 use Rattle.vkg_schema.specs.declared.table.Column.{Column}
-use Rattle.vkg_tables.specs.Load.{FailsAs, cells_from, fault, field_cell, field_of, file_records, onto, place_in, row_of, rows_from}
+use Rattle.vkg_tables.specs.Field.{field_of}
+use Rattle.vkg_tables.specs.Steps.{FailsAs, cells_from, field_cell, file_records, onto, place_in, row_from, rows_from}
+use Rattle.vkg_tables.specs.TableFile.{fault}
 
 module _ {A : Type 0} (p : A → Bool) where
   place-le : (xs : List A) → position_or_len p xs ≤ length xs
@@ -33,28 +35,28 @@ module _ {A : Type 0} (p : A → Bool) where
       by false h e = grind (arith, h, place-le xs)
 
 -- what is done already, in front of the rest
-abbrev pub after : {A : Type 0} → List A → Result (List A) Fault → Result (List A) Fault
+abbrev pub after : {A : Type 0} → List A → Result (List A) FileFault → Result (List A) FileFault
 after xs (Ok ys) = Ok (xs ++ ys)
 after xs (Err f) = Err f
 
 module _ {A : Type 0} where
-  onto-after : (xs : List A) (x : A) (r : Result (List A) Fault) → after (xs ++ x ∷ []) r ≡ after xs (onto (Ok x) r)
+  onto-after : (xs : List A) (x : A) (r : Result (List A) FileFault) → after (xs ++ x ∷ []) r ≡ after xs (onto (Ok x) r)
   onto-after xs x (Ok ys) = ap Ok (append_assoc xs (x ∷ []) ys)
   onto-after xs x (Err f) = refl
 
   -- one more is done
-  pub walk-step : (xs : List A) (x : A) (one : Result A Fault) (rest whole : Result (List A) Fault) → one ≡ Ok x → after xs (onto one rest) ≡ whole → after (xs ++ x ∷ []) rest ≡ whole
+  pub walk-step : (xs : List A) (x : A) (one : Result A FileFault) (rest whole : Result (List A) FileFault) → one ≡ Ok x → after xs (onto one rest) ≡ whole → after (xs ++ x ∷ []) rest ≡ whole
   walk-step xs x one rest whole e w = onto-after xs x rest ∙ ap (λ r. after xs (onto r rest)) (sym e) ∙ w
 
   -- the next one fails
-  pub walk-fails : (xs : List A) (one : Result A Fault) (rest whole : Result (List A) Fault) (e : Trouble) → FailsAs one e → after xs (onto one rest) ≡ whole → FailsAs whole e
-  walk-fails xs one rest whole trouble.Memory h w = tt
-  walk-fails xs one rest whole (trouble.At f) h w = sym w ∙ ap (λ r. after xs (onto r rest)) h
+  pub walk-fails : (xs : List A) (one : Result A FileFault) (rest whole : Result (List A) FileFault) (e : FileError) → FailsAs one e → after xs (onto one rest) ≡ whole → FailsAs whole e
+  walk-fails xs one rest whole file_error.Memory h w = tt
+  walk-fails xs one rest whole (file_error.Fault f) h w = sym w ∙ ap (λ r. after xs (onto r rest)) h
 
-  pub walk-end : (xs : List A) (whole : Result (List A) Fault) → after xs (Ok []) ≡ whole → whole ≡ Ok xs
+  pub walk-end : (xs : List A) (whole : Result (List A) FileFault) → after xs (Ok []) ≡ whole → whole ≡ Ok xs
   walk-end xs whole w = sym w ∙ ap Ok (append-nil xs)
 
-  pub walk-start : (r : Result (List A) Fault) → after [] r ≡ r
+  pub walk-start : (r : Result (List A) FileFault) → after [] r ≡ r
   walk-start (Ok xs) = refl
   walk-start (Err f) = refl
 
@@ -71,7 +73,7 @@ pub cells-next : (header : List (List ℕ)) (columns : List Column) (row i : ℕ
 cells-next header columns row i fields d h = ap (λ cs. cells_from header cs row (i + 1) fields) (drop-cons columns i d h ∙ ap (λ n. get_or columns i d ∷ drop n columns) (sym (add-one i)))
 
 pub rows-next : (header : List (List ℕ)) (columns : List Column) (i : ℕ) (records : List (List (List ℕ))) (d : List (List ℕ)) → i < length records
-    → rows_from header columns (i + 1) (drop i records) ≡ onto (row_of header columns (i + 1) (get_or records i d)) (rows_from header columns (i + 1 + 1) (drop (i + 1) records))
+    → rows_from header columns (i + 1) (drop i records) ≡ onto (row_from header columns (i + 1) (get_or records i d)) (rows_from header columns (i + 1 + 1) (drop (i + 1) records))
 rows-next header columns i records d h = ap (rows_from header columns (i + 1)) (drop-cons records i d h ∙ ap (λ n. get_or records i d ∷ drop n records) (sym (add-one i)))
 
 pub place-at : (header : List (List ℕ)) (columns : List Column) (i : ℕ) (d : Column) → i < length columns → get_or (map (place_in header) columns) i 0 ≡ place_in header (get_or columns i d)

@@ -1,16 +1,17 @@
 -- A database without a fault meets its schema.
 use Rattle.std.proofs.Common.{◌≡◌, ◌∙◌, ◌+◌, ◌++◌, ◌&&◌, ◌||◌, ℕ, Bool, true, false, not, List, [], ◌∷◌, Option, Some, None, option_map, if◌then◌else◌, refl, sym, nat_lt, length}
-use Rattle.std.specs.Prelude.{IsFalse, IsTrue}
+use Rattle.std.specs.Prelude.{IsFalse, IsTrue, slice_get}
 use Rattle.std.specs.List.{AllByRecursion, AllZip, list_any}
 use Rattle.vkg_schema.specs.declared.table.Key.{Key}
 use Rattle.vkg_schema.specs.declared.table.Reference.{Reference}
 use Rattle.vkg_schema.specs.declared.table.Table.{Table}
 use Rattle.vkg_schema.specs.Meets.{KeyHolds, MeetsSchema, ReferenceHolds, TableMeets, child_columns}
 use Rattle.vkg_schema.specs.Rows.{Row, agree, has_no_null, rows_of}
-use Rattle.vkg_tables.specs.Checks.{earlier, first_place, first_table, key_fault, key_place, least_place, place, reference_fault, reference_place}
-use Rattle.vkg_tables.specs.Faults.{first_after, first_orphan, first_repeat, is_orphan, repeats, with_itself}
+use Rattle.vkg_tables.specs.Checks.{broken_references, is_orphan, key_fault, reference_fault, repeated_keys, repeats, table_fault, with_itself}
+use Rattle.vkg_tables.specs.Firsts.{earlier, first_after, first_orphan, first_repeat}
+use Rattle.vkg_tables.proofs.Places.{first_fault, first_table, first_table-first, least_place, least_place-first}
 use Rattle.vkg_tables.specs.Seen.{HoldsCells}
-use Rattle.vkg_tables.specs.declared.fault.Place.{Place}
+use Rattle.vkg_tables.specs.declared.fault.TableFault.{TableFault}
 use Rattle.vkg_tables.proofs.PartsLemmas.{any-push}
 
 neither : (a b : Bool) → a || b ≡ false → (a ≡ false) × (b ≡ false)
@@ -76,7 +77,7 @@ no-place : {X : Type 0} (f : X → Option ℕ) (n : ℕ) (xs : List X) → least
 no-place f n [] e = tt
 no-place f n (x ∷ xs) e = let two = no-earlier (option_map (λ r. (r, n)) (f x)) (least_place f (n + 1) xs) e in (no-map (λ r. (r, n)) (f x) two.0, no-place f (n + 1) xs two.1)
 
-no-first : (a b : Option Place) → first_place a b ≡ None → (a ≡ None) × (b ≡ None)
+no-first : (a b : Option TableFault) → first_fault a b ≡ None → (a ≡ None) × (b ≡ None)
 no-first None b e = (refl, e)
 no-first (Some p) b e = cc e
 
@@ -84,21 +85,24 @@ weaker : {X : Type 0} (P Q : X → Type 0) (xs : List X) → ((x : X) → P x �
 weaker P Q [] f h = tt
 weaker P Q (x ∷ xs) f h = (f x h.0, weaker P Q xs f h.1)
 
-meets : (all : List (List Row)) (n : ℕ) (ts : List Table) (dbs : List (List Row)) → HoldsCells ts dbs → first_table 9 key_place n ts dbs ≡ None → first_table 10 (reference_place all) n ts dbs ≡ None → AllZip (TableMeets all) ts dbs
+meets : (all : List (List Row)) (n : ℕ) (ts : List Table) (dbs : List (List Row)) → HoldsCells ts dbs
+    → first_table 9 (λ t rows. slice_get (repeated_keys t rows) 0) n ts dbs ≡ None → first_table 10 (λ t rows. slice_get (broken_references all t rows) 0) n ts dbs ≡ None → AllZip (TableMeets all) ts dbs
 meets all n [] [] h k r = tt
 meets all n [] (rows ∷ dbs) h k r = absurd h
 meets all n (t ∷ ts) [] h k r = absurd h
 meets all n (t ∷ ts) (rows ∷ dbs) h k r =
-    let keys = no-first (option_map (place 9 n) (key_place t rows)) (first_table 9 key_place (n + 1) ts dbs) k in
-    let refs = no-first (option_map (place 10 n) (reference_place all t rows)) (first_table 10 (reference_place all) (n + 1) ts dbs) r in (
+    let keys = no-first (option_map (table_fault 9 n) (slice_get (repeated_keys t rows) 0)) (first_table 9 (λ t rows. slice_get (repeated_keys t rows) 0) (n + 1) ts dbs) k in
+    let refs = no-first (option_map (table_fault 10 n) (slice_get (broken_references all t rows) 0)) (first_table 10 (λ t rows. slice_get (broken_references all t rows) 0) (n + 1) ts dbs) r in
+    let key_none = least_place-first (λ key before row. repeats key.columns before row) t.keys rows ∙ no-map (table_fault 9 n) (slice_get (repeated_keys t rows) 0) keys.0 in
+    let ref_none = least_place-first (λ reference before row. is_orphan reference.pairs (rows_of all reference.table) row) t.references rows ∙ no-map (table_fault 10 n) (slice_get (broken_references all t rows) 0) refs.0 in (
       record {
         cells = h.0;
-        keys = weaker _ (λ key. KeyHolds key rows) t.keys (λ key e. key-holds key rows e) (no-place (λ key. first_repeat key.columns rows) 1 t.keys (no-map (place 9 n) (key_place t rows) keys.0));
-        references = weaker _ (ReferenceHolds all rows) t.references (λ ref e. reference-holds all rows ref e) (no-place (λ ref. first_orphan ref.pairs (rows_of all ref.table) rows) 1 t.references (no-map (place 10 n) (reference_place all t rows) refs.0));
+        keys = weaker _ (λ key. KeyHolds key rows) t.keys (λ key e. key-holds key rows e) (no-place (λ key. first_repeat key.columns rows) 1 t.keys key_none);
+        references = weaker _ (ReferenceHolds all rows) t.references (λ ref e. reference-holds all rows ref e) (no-place (λ ref. first_orphan ref.pairs (rows_of all ref.table) rows) 1 t.references ref_none);
       },
       meets all (n + 1) ts dbs h.1 keys.1 refs.1,
     )
 
 -- after both checks the database meets its schema
 pub meets_schema : (tables : List Table) (db : List (List Row)) → HoldsCells tables db → key_fault tables db ≡ None → reference_fault tables db ≡ None → MeetsSchema tables db
-meets_schema tables db h k r = meets db 1 tables db h k r
+meets_schema tables db h k r = meets db 1 tables db h (first_table-first 9 repeated_keys tables db ∙ k) (first_table-first 10 (broken_references db) tables db ∙ r)

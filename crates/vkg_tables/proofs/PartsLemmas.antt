@@ -11,7 +11,7 @@ use Rattle.vkg_cells.specs.declared.cell.Cell.{Cell}
 use Rattle.vkg_cells.specs.declared.cell.Cell.TheVariants as cell
 use Rattle.vkg_cells.specs.Order.{same}
 use Rattle.vkg_schema.specs.Rows.{Row, agree, equal_at, has_no_null, is_known, is_known_true, is_null, cell_at}
-use Rattle.vkg_tables.specs.Faults.{is_orphan, repeats, with_itself}
+use Rattle.vkg_tables.specs.Checks.{is_orphan, repeats, with_itself}
 use Rattle.vkg_tables.specs.Parts.{IsNoTerm, HasNoTerm, all_parts, is_missing, one_or_none, onto_parts, part, parts, texts_eq, texts_of}
 
 abbrev same_part : Option (List ℕ) → Option (List ℕ) → Bool

@@ -1,9 +1,7 @@
 -- The texts by which the cells of a key are found.
-use Rattle.std.specs.Prelude.{◌≢◌, ℕ, ◌+◌, Bool, false, not, List, [], ◌∷◌, Option, Some, None, map, flat_map, string_bytes}
+use Rattle.std.specs.Prelude.{◌≢◌, ℕ, ◌+◌, Bool, false, not, List, [], ◌∷◌, Option, Some, None, map, flat_map, string_bytes, String, Vec}
 use Rattle.std.specs.Cmp.Lexicographic.{pointwise}
 use Rattle.std.specs.Str.{bytes_eq}
-use Rattle.std.specs.Prelude.{String}
-use Rattle.std.specs.Prelude.{Vec}
 use Rattle.std.specs.List.{AllByRecursion, list_any}
 use Rattle.vkg_cells.specs.declared.cell.Cell.{Cell}
 use Rattle.vkg_cells.specs.Form.{lexical_form}

@@ -1,6 +1,6 @@
 ghost use Rattle.std.specs.Prelude.{◌≡◌, ◌<◌, ◌++◌, ◌∷◌, [], IfOk, OnOk, Some, None, List, ℕ, map, option_map, string_bytes, is_some};
 ghost use Rattle.std.specs.List.{AllByRecursion, list_any};
-ghost use Rattle.vkg_tables.specs.Faults.{first_repeat as first_repeat_of, first_orphan as first_orphan_of};
+ghost use Rattle.vkg_tables.specs.Firsts.{first_repeat as first_repeat_of, first_orphan as first_orphan_of};
 ghost use Rattle.vkg_tables.specs.Parts.{HasNoTerm, all_parts, is_missing, part as part_of_cell, parts as parts_of_row, texts_eq, texts_of};
 
 use indexmap::IndexSet;
@@ -8,7 +8,7 @@ use std::alloc::Global;
 use vkg_base::{Items, Memory};
 use vkg_cells::Cell;
 
-/// A family's digit, and a text.
+// A family's digit, and a text.
 fn tagged(alloc: Global, tag: char, text: &str) -> Result<Option<String>, Memory>
     requires { tag < 128 }
     ensures { IfOk result (λ o. option_map string_bytes o ≡ Some (tag ∷ text.now)) }
@@ -19,7 +19,7 @@ fn tagged(alloc: Global, tag: char, text: &str) -> Result<Option<String>, Memory
     Ok(Some(out))
 }
 
-/// The text by which a cell is found. NULL has none.
+// The text by which a cell is found. NULL has none.
 #[tactic(auto, unfolding(crate::specs::Parts::part))]
 fn part(alloc: Global, cell: &Cell) -> Result<Option<String>, Memory>
     ensures { IfOk result (λ o. option_map string_bytes o ≡ part_of_cell cell.now) }
@@ -38,7 +38,7 @@ fn part(alloc: Global, cell: &Cell) -> Result<Option<String>, Memory>
     }
 }
 
-/// The texts by which a row's columns are found, none where one is NULL.
+// The texts by which a row's columns are found, none where one is NULL.
 fn parts(alloc: Global, row: &[Cell], columns: &[usize]) -> Result<Option<Vec<String>>, Memory>
     ensures { IfOk result (λ o. option_map (λ v. map string_bytes v.items) o ≡ parts_of_row columns.now row.now) }
 {
@@ -77,7 +77,7 @@ pub fn first_repeat(
     Ok(None)
 }
 
-/// The texts by which the rows are found.
+// The texts by which the rows are found.
 fn known_parts(
     alloc: Global,
     rows: &[Items<Cell>],
@@ -95,7 +95,7 @@ fn known_parts(
     Ok(known)
 }
 
-/// Whether the row refers to no row of those that are known.
+// Whether the row refers to no row of those that are known.
 fn is_orphan(
     alloc: Global,
     row: &[Cell],

@@ -1,10 +1,10 @@
 // The records of a text in CSV (RFC 4180), as the crate `csv` reads them.
 ghost use Rattle.std.specs.Prelude.{◌≡◌, IfOk, map};
 ghost use Rattle.csv.specs.Reading.{NotLengths, default_config, error_kind, records, strip_bom};
-ghost use Rattle.csv.specs.Records.{fields_of};
+ghost use Rattle.csv.specs.Records.{AllText, fields_of};
 ghost use Rattle.vkg_tables.specs.Texts.{AreTexts};
 
-use csv::{ByteRecord, Error, ReaderBuilder};
+use csv::{ByteRecord, Error, ReaderBuilder, StringRecord};
 use std::alloc::Global;
 use vkg_base::Memory;
 
@@ -37,10 +37,32 @@ fn byte_records(alloc: Global, text: &[u8]) -> Result<Vec<ByteRecord>, Memory>
     Ok(rows)
 }
 
-/// Every record of a text, the header row too. Their fields are texts.
-pub fn text_records(alloc: Global, text: &str) -> Result<Vec<ByteRecord>, Memory>
+// The same, where their fields are texts.
+fn checked_records(alloc: Global, text: &str) -> Result<Vec<ByteRecord>, Memory>
     ensures records { IfOk result (λ v. map fields_of v.items ≡ records default_config (strip_bom text.now)) }
     ensures texts { IfOk result (λ v. AreTexts (map fields_of v.items)) }
 {
     byte_records(alloc, text.as_bytes())
+}
+
+// The text of a record whose fields are texts.
+fn text_of(row: ByteRecord) -> StringRecord
+    requires { AllText (fields_of row) }
+    ensures { fields_of result ≡ fields_of row }
+{
+    match StringRecord::from_byte_record(row) {
+        Ok(row) => row,
+        Err(_) => unreachable!(),
+    }
+}
+
+/// Every record of a text, the header row too. A first byte order mark is dropped.
+pub fn text_records(alloc: Global, text: &str) -> Result<Vec<StringRecord>, Memory>
+    ensures { IfOk result (λ v. map fields_of v.items ≡ records default_config (strip_bom text.now)) }
+{
+    let mut rows = Vec::new(alloc);
+    for row in checked_records(alloc, text)? {
+        rows.push(text_of(row))?;
+    }
+    Ok(rows)
 }

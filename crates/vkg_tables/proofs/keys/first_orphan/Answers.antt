@@ -1,5 +1,5 @@
 use Rattle.std.proofs.Common.{◌≡◌, ◌∙◌, ap, ap₂, sym}
-use Rattle.vkg_tables.specs.Faults.{is_orphan}
+use Rattle.vkg_tables.specs.Checks.{is_orphan}
 use Rattle.vkg_tables.specs.Parts.{all_parts, is_missing, parts, texts_of}
 use Rattle.vkg_tables.proofs.FirstLemmas.{first-found, first-step, missing-same, orphan-known}
 use Rattle.vkg_tables.proofs.keys.first_orphan.Goals as goal

@@ -1,6 +1,6 @@
 use Rattle.std.proofs.Common.{◌≡◌, ◌∙◌, ◌++◌, Bool, true, false, not, None, Some, ap, ap₂, map, option_map, string_bytes, sym, take, refl}
 use Rattle.std.proofs.lemmas.List.{append-nil}
-use Rattle.vkg_tables.specs.Faults.{repeats}
+use Rattle.vkg_tables.specs.Checks.{repeats}
 use Rattle.vkg_tables.specs.Parts.{all_parts, one_or_none, parts}
 use Rattle.vkg_tables.proofs.PartsLemmas.{any-texts}
 use Rattle.vkg_tables.proofs.FirstLemmas.{first-found, first-step, parts-next, repeats-known, texts-pushed}

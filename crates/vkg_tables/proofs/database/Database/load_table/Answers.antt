@@ -1,7 +1,7 @@
-use Rattle.std.proofs.Common.{◌≡◌, ◌∙◌, ◌<◌, ap, sym, subst, length, refl, get_or}
-use Rattle.std.specs.Prelude.{slice_set}
-use Rattle.vkg_tables.specs.Load.{table_of_bytes}
-use Rattle.vkg_tables.specs.Seen.{HoldsRows, columns_of}
+use Rattle.std.proofs.Common.{◌≡◌, ◌∙◌, ◌<◌, ap, sym, subst, length, get_or}
+use Rattle.std.specs.Prelude.{Ok, slice_set}
+use Rattle.vkg_tables.specs.TableFile.{table_of_bytes}
+use Rattle.vkg_tables.specs.Seen.{HoldsRows, columns_of, with_read}
 use Rattle.vkg_tables.proofs.FitLemmas.{columns-there, file-fits, same-length, set-holds}
 use Rattle.vkg_tables.proofs.database.Database.load_table.Goals as goal
 
@@ -28,14 +28,15 @@ returns-in-Ok-clause-ok c =
     let columns : columns_of c.args.self.now.schema c.args.table ≡ c.as_slice.result.now =
     ap (λ s. columns_of s c.args.table) (sym same_schema) ∙ columns-there schema c.args.table d lt ∙ ap (λ ts. (get_or ts c.args.table d).columns) (sym c.tables.ensures.value) ∙ sym c.as_slice.ensures in
     let tables = c.set.ensures ∙ ap (λ s. slice_set s.tables c.args.table c.in-Ok.rows) c.self.view_is in
-    (c.in-Ok.rows, ap (λ cs. table_of_bytes cs c.args.bytes.now) columns ∙ c.in-Ok.ensures, λ i. record { schema = same_schema i; tables = tables i })
+    ap (with_read c.args.self.now c.args.table) (ap (λ cs. table_of_bytes cs c.args.bytes.now) columns ∙ c.in-Ok.ensures)
+    ∙ (λ i. Ok (record { schema = sym same_schema i; tables = sym tables i }))
 
-pub returns-in-Err-At-clause-fault : goal.returns-in-Err-At-clause-fault
-returns-in-Err-At-clause-fault c =
+pub returns-in-Err-Fault-clause-fault : goal.returns-in-Err-Fault-clause-fault
+returns-in-Err-Fault-clause-fault c =
     let schema = c.self.inside.schema in
     let d = c.index-tables-table.result in
     let same_schema : schema ≡ c.args.self.now.schema = ap (λ s. s.schema) c.self.view_is in
     let lt : c.args.table < length schema = subst (λ s. c.args.table < length s) (sym same_schema) c.requires in
     let columns : columns_of c.args.self.now.schema c.args.table ≡ c.as_slice.result.now =
     ap (λ s. columns_of s c.args.table) (sym same_schema) ∙ columns-there schema c.args.table d lt ∙ ap (λ ts. (get_or ts c.args.table d).columns) (sym c.tables.ensures.value) ∙ sym c.as_slice.ensures in
-    (c.in-Err-At.fault, ap (λ cs. table_of_bytes cs c.args.bytes.now) columns ∙ (rw c.in-Err-At.field-0-is at c.in-Err-At.ensures), refl)
+    ap (with_read c.args.self.now c.args.table) (ap (λ cs. table_of_bytes cs c.args.bytes.now) columns ∙ (rw c.in-Err-Fault.field-0-is at c.in-Err-Fault.ensures))
