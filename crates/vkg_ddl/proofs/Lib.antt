@@ -1,0 +1,4 @@
+pub mod Certificate
+pub mod Last
+pub mod Meaning
+pub mod Naming
