@@ -73,6 +73,9 @@ claims =
     ∷ record { empty = false; begin = 6 ∷ 16 ∷ []; follow = 3 ∷ 4 ∷ []; level = 2 }
     ∷ record { empty = false; begin = 6 ∷ []; follow = 3 ∷ 4 ∷ []; level = 1 }
     ∷ record { empty = false; begin = 16 ∷ []; follow = 3 ∷ 4 ∷ []; level = 1 }
+    ∷ record { empty = false; begin = 6 ∷ 16 ∷ []; follow = 3 ∷ 4 ∷ []; level = 2 }
+    ∷ record { empty = false; begin = 6 ∷ []; follow = 3 ∷ 4 ∷ []; level = 1 }
+    ∷ record { empty = false; begin = 16 ∷ []; follow = 3 ∷ 4 ∷ []; level = 1 }
     ∷ record { empty = false; begin = 3 ∷ []; follow = 3 ∷ 4 ∷ []; level = 3 }
     ∷ record { empty = true; begin = 3 ∷ []; follow = 4 ∷ []; level = 1 }
     ∷ record { empty = false; begin = 3 ∷ 4 ∷ []; follow = 3 ∷ 4 ∷ []; level = 2 }

@@ -1,4 +1,5 @@
 pub mod FirstFault
+pub mod Formed
 pub mod NameChecks
 pub mod Names
 pub mod Places

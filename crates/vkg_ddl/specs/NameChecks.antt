@@ -1,5 +1,5 @@
 -- Names that are given twice or name nothing, and the limits: for each check the least place at which it fails.
-use Rattle.std.specs.Prelude.{ℕ, Bool, not, ◌&&◌, List, length, take, slice_get, Option, Some, None, if◌then◌else◌}
+use Rattle.std.specs.Prelude.{ℕ, Bool, false, not, nat_eq, position, ◌&&◌, List, length, take, slice_get, Option, Some, None, if◌then◌else◌}
 use Rattle.std.specs.List.{list_any, range_with_len}
 use Rattle.std.specs.Str.{bytes_eq, str_eq_ignore_ascii_case}
 use Rattle.vkg_ddl.specs.declared.name.Name.{Name}
@@ -57,9 +57,17 @@ unknown_in_table t = lesser
 abbrev pub key_column_unknown : List WrittenTable → Option ℕ
 key_column_unknown tables = least_of unknown_in_table tables
 
+-- the place of the first column that has the name
+abbrev pub column_place : List WrittenColumn → Name → Option ℕ
+column_place columns n = position (λ c. matches n c.name) columns
+
+abbrev pub one_place : Option ℕ → Option ℕ → Bool
+one_place (Some i) (Some j) = nat_eq i j
+one_place a b = false
+
 -- two names of one column
 abbrev pub one_column : List WrittenColumn → Name → Name → Bool
-one_column columns a b = list_any (λ c. matches a c.name && matches b c.name) columns
+one_column columns a b = one_place (column_place columns a) (column_place columns b)
 
 abbrev pub name_again : List WrittenColumn → List Name → Option Name → ℕ → Option ℕ
 name_again columns names None i = None

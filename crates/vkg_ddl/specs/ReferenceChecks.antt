@@ -5,10 +5,9 @@ use Rattle.vkg_ddl.specs.declared.name.Name.{Name}
 use Rattle.vkg_ddl.specs.declared.written.WrittenColumn.{WrittenColumn}
 use Rattle.vkg_ddl.specs.declared.written.WrittenReference.{WrittenReference}
 use Rattle.vkg_ddl.specs.declared.written.WrittenTable.{WrittenTable}
-use Rattle.vkg_cells.specs.declared.cell.SqlType.{SqlType}
 use Rattle.vkg_ddl.specs.Places.{least_of, place_if, is_nowhere}
 use Rattle.vkg_ddl.specs.NameChecks.{matches, unknown_columns, one_column, name_twice}
-use Rattle.vkg_ddl.specs.TypeChecks.{kind_named}
+use Rattle.vkg_ddl.specs.TypeChecks.{column_kind}
 use Rattle.vkg_cells.specs.Order.{family}
 
 -- the columns that a foreign key means: those that it lists, or those of the primary key there
@@ -49,13 +48,10 @@ columns_wrong tables = target_fault columns_fault tables
 abbrev pub no_key : List WrittenTable → Option ℕ
 no_key tables = target_fault key_fault tables
 
-abbrev pub family_at : Option SqlType → ℕ
-family_at None = 0
-family_at (Some s) = family s
-
+-- the family of the kind of a column, and 0 of none
 abbrev pub family_of : Option WrittenColumn → ℕ
 family_of None = 0
-family_of (Some c) = family_at (kind_named c.kind.text)
+family_of (Some c) = family (column_kind c)
 
 abbrev pub family_named : List WrittenColumn → Option Name → ℕ
 family_named columns None = 0

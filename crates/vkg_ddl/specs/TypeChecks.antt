@@ -1,5 +1,5 @@
 -- Types that are unknown or take no such numbers: for each check the least place at which it fails.
-use Rattle.std.specs.Prelude.{ℕ, ◌+◌, ◌-◌, ◌*◌, Bool, true, false, not, ◌&&◌, List, [], ◌∷◌, codes, fold, take, Option, Some, None, if◌then◌else◌, nat_le, min}
+use Rattle.std.specs.Prelude.{unwrap_or, ℕ, ◌+◌, ◌-◌, ◌*◌, Bool, true, false, not, ◌&&◌, List, [], ◌∷◌, codes, fold, take, Option, Some, None, if◌then◌else◌, nat_le, min}
 use Rattle.std.specs.List.{list_any}
 use Rattle.std.specs.Str.{str_eq_ignore_ascii_case}
 use Rattle.vkg_ddl.specs.declared.name.Name.{Name}
@@ -20,6 +20,10 @@ kind_named word =
     else if str_eq_ignore_ascii_case word (codes "timestamp") then Some kind.Stamp
     else if list_any (str_eq_ignore_ascii_case word) (codes "binary" ∷ codes "varbinary" ∷ codes "blob" ∷ []) then Some kind.Bin
     else None
+
+-- the kind of a column whose type is known
+abbrev pub column_kind : WrittenColumn → SqlType
+column_kind c = unwrap_or (kind_named c.kind.text) kind.Text
 
 abbrev pub is_no_kind : Option SqlType → Bool
 is_no_kind None = true

@@ -26,13 +26,13 @@ on_last f [] = []
 on_last f (x ∷ []) = f x ∷ []
 on_last f (x ∷ y ∷ xs) = x ∷ on_last f (y ∷ xs)
 
-abbrev pub named : Option WrittenColumn → List Name
-named None = []
-named (Some c) = c.name ∷ []
+abbrev pub name_or : Name → Option WrittenColumn → Name
+name_or t None = t
+name_or t (Some c) = c.name
 
 -- the name of the last column, as a list
-abbrev pub last_name : List WrittenColumn → List Name
-last_name columns = named (slice_get columns (length columns - 1))
+abbrev pub last_name : Name → List WrittenColumn → List Name
+last_name t columns = name_or t (slice_get columns (length columns - 1)) ∷ []
 
 abbrev pub edit_column : Role → Name → WrittenColumn → WrittenColumn
 edit_column role.Kind t c = record c { kind = t }
@@ -40,8 +40,10 @@ edit_column role.NotNull t c = record c { not_null = true }
 edit_column role.Number t c = record c { numbers = c.numbers ++ t ∷ [] }
 edit_column r t c = c
 
-abbrev pub edit_key : Name → WrittenKey → WrittenKey
-edit_key t k = record k { columns = k.columns ++ t ∷ [] }
+abbrev pub edit_key : Role → Name → WrittenKey → WrittenKey
+edit_key role.KeyFirst t k = record k { columns = t ∷ [] }
+edit_key role.KeyColumn t k = record k { columns = k.columns ++ t ∷ [] }
+edit_key r t k = k
 
 abbrev pub edit_reference : Role → Name → WrittenReference → WrittenReference
 edit_reference role.References t r = record r { first = t }
@@ -56,6 +58,12 @@ with_columns table columns = record table { columns = columns }
 abbrev pub with_key : WrittenTable → WrittenKey → WrittenTable
 with_key table key = record table { keys = table.keys ++ key ∷ [] }
 
+abbrev pub with_keys : WrittenTable → List WrittenKey → WrittenTable
+with_keys table keys = record table { keys = keys }
+
+abbrev pub with_references : WrittenTable → List WrittenReference → WrittenTable
+with_references table references = record table { references = references }
+
 abbrev pub with_reference : WrittenTable → WrittenReference → WrittenTable
 with_reference table reference = record table { references = table.references ++ reference ∷ [] }
 
@@ -65,17 +73,18 @@ edit role.Column t table = with_columns table (table.columns ++ new_column t ∷
 edit role.Kind t table = with_columns table (on_last (edit_column role.Kind t) table.columns)
 edit role.Number t table = with_columns table (on_last (edit_column role.Number t) table.columns)
 edit role.NotNull t table = with_columns table (on_last (edit_column role.NotNull t) table.columns)
-edit role.ColumnPrimary t table = with_key table (new_key true t (last_name table.columns))
-edit role.ColumnUnique t table = with_key table (new_key false t (last_name table.columns))
-edit role.Primary t table = with_key table (new_key true t [])
-edit role.Unique t table = with_key table (new_key false t [])
-edit role.KeyColumn t table = record table { keys = on_last (edit_key t) table.keys }
-edit role.ColumnReferences t table = with_reference table (new_reference t (last_name table.columns))
+edit role.ColumnPrimary t table = with_key table (new_key true t (last_name t table.columns))
+edit role.ColumnUnique t table = with_key table (new_key false t (last_name t table.columns))
+edit role.Primary t table = with_key table (new_key true t (t ∷ []))
+edit role.Unique t table = with_key table (new_key false t (t ∷ []))
+edit role.KeyFirst t table = with_keys table (on_last (edit_key role.KeyFirst t) table.keys)
+edit role.KeyColumn t table = with_keys table (on_last (edit_key role.KeyColumn t) table.keys)
+edit role.ColumnReferences t table = with_reference table (new_reference t (last_name t table.columns))
 edit role.Foreign t table = with_reference table (new_reference t [])
-edit role.ChildColumn t table = record table { references = on_last (edit_reference role.ChildColumn t) table.references }
-edit role.References t table = record table { references = on_last (edit_reference role.References t) table.references }
-edit role.Target t table = record table { references = on_last (edit_reference role.Target t) table.references }
-edit role.TargetColumn t table = record table { references = on_last (edit_reference role.TargetColumn t) table.references }
+edit role.ChildColumn t table = with_references table (on_last (edit_reference role.ChildColumn t) table.references)
+edit role.References t table = with_references table (on_last (edit_reference role.References t) table.references)
+edit role.Target t table = with_references table (on_last (edit_reference role.Target t) table.references)
+edit role.TargetColumn t table = with_references table (on_last (edit_reference role.TargetColumn t) table.references)
 edit r t table = table
 
 -- what a token adds to the tables

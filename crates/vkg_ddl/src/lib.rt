@@ -18,9 +18,10 @@ mod written;
 
 pub use faults::first_fault;
 pub use grammar_table::{DDL, ROLES};
-pub use matching::{matches, primary_of, table_named};
+pub use matching::{column_place, matches, primary_of, table_named};
 pub use name::Name;
 pub use reading::{TextFault, read_written};
 pub use role::Role;
 pub use type_word::kind_named;
+pub use types::column_kind;
 pub use written::{WrittenColumn, WrittenKey, WrittenReference, WrittenTable};

@@ -1,5 +1,5 @@
 ghost use Rattle.std.specs.Prelude.{◌≡◌, find};
-ghost use Rattle.vkg_ddl.specs.NameChecks.{same_name, matches, names_column, unknown_column, one_column};
+ghost use Rattle.vkg_ddl.specs.NameChecks.{same_name, matches, names_column, unknown_column, column_place, one_column};
 ghost use Rattle.std.specs.Option.{option_copied};
 ghost use Rattle.vkg_ddl.specs.Places.{least_of};
 ghost use Rattle.std.specs.List.{list_any};
@@ -62,12 +62,20 @@ pub fn unknown_columns(columns: &[WrittenColumn], names: &[Name]) -> Option<usiz
         .fold(None, |best, n| lesser(best, unknown_column(columns, n)))
 }
 
+/// The place of the first column that has the name.
+pub fn column_place(columns: &[WrittenColumn], n: &Name) -> Option<usize>
+    ensures { result ≡ column_place columns.now n.now }
+{
+    columns.iter().position(|c| matches(n, &c.name))
+}
+
 pub fn one_column(columns: &[WrittenColumn], a: &Name, b: &Name) -> bool
     ensures { result ≡ one_column columns.now a.now b.now }
 {
-    columns
-        .iter()
-        .any(|c| matches(a, &c.name) && matches(b, &c.name))
+    match (column_place(columns, a), column_place(columns, b)) {
+        (Some(i), Some(j)) => i == j,
+        _ => false,
+    }
 }
 
 pub fn any_one_column(columns: &[WrittenColumn], n: &Name, seen: &[Name]) -> bool

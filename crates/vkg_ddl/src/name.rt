@@ -1,6 +1,7 @@
 ghost use Rattle.std.specs.Prelude.{◌≡◌, ◌==◌, ◌-◌, ◌+◌, ◌≤◌, length, take, drop, IfOk};
 ghost use Rattle.std.specs.List.{AllByRecursion};
 ghost use Rattle.vkg_tokens.specs.Cut.{AreSpans};
+ghost use Rattle.vkg_ddl.specs.Formed.{IsWord};
 ghost use Rattle.vkg_ddl.specs.Names.{is_second, undoubled, undoubled_from, name_bytes, name_at, names_of};
 
 use std::alloc::Global;
@@ -74,7 +75,8 @@ fn name_bytes(alloc: Global, text: &[u8], token: Token) -> Result<Vec<u8>, Memor
 fn name_at(alloc: Global, text: &[u8], token: Token) -> Result<Name, Memory>
     requires order { token.start ≤ token.end }
     requires inside { token.end ≤ length text.now }
-    ensures { IfOk result (λ n. n ≡ name_at text.now token) }
+    ensures value { IfOk result (λ n. n ≡ name_at text.now token) }
+    ensures utf8 { IfOk result IsWord }
 {
     let bytes = name_bytes(alloc, text, token)?;
     match String::from_utf8(bytes) {
@@ -90,7 +92,8 @@ fn name_at(alloc: Global, text: &[u8], token: Token) -> Result<Name, Memory>
 /// What each token says.
 pub fn names_of(alloc: Global, text: &str, tokens: &[Token]) -> Result<Vec<Name>, Memory>
     requires { AreSpans 0 tokens.now (length text.now) }
-    ensures { IfOk result (λ names. names.items ≡ names_of text.now tokens.now) }
+    ensures value { IfOk result (λ names. names.items ≡ names_of text.now tokens.now) }
+    ensures utf8 { IfOk result (λ names. AllByRecursion IsWord names.items) }
 {
     let bytes = text.as_bytes();
     let mut names = Vec::new(alloc);

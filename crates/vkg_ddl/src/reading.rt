@@ -2,6 +2,7 @@ ghost use Rattle.vkg_grammar.specs.Parsing.{IsTheText, Fails};
 ghost use Rattle.std.specs.Prelude.{◌≡◌, ◌<◌, ◌+◌, ℕ, slice_index, slice_get, unwrap_or, [], length, map, IfOk, IfErr, slice_index_or, true, false};
 ghost use Rattle.std.specs.List.{AllByRecursion};
 ghost use Rattle.vkg_tokens.specs.Cut.{HasKind};
+ghost use Rattle.vkg_ddl.specs.Formed.{IsFormed};
 ghost use Rattle.vkg_ddl.specs.Reading.{role_of, is_choice, written_of, kinds_of, Says, TextFails};
 ghost use Rattle.vkg_ddl.specs.declared.reading.TextFault.TheVariants.{Memory as OutOfMemory};
 ghost use Rattle.vkg_ddl.specs.declared.role.Role.TheVariants.{Choice};
@@ -128,6 +129,7 @@ fn notes_of(alloc: Global, kinds: &[usize]) -> Result<Vec<Note>, ParseFault>
 /// What stands in a text of the grammar, or its first fault.
 pub fn read_written(alloc: Global, text: &str) -> Result<Items<WrittenTable>, TextFault>
     ensures ok { IfOk result (Says text.now) }
+    ensures form { IfOk result (AllByRecursion IsFormed) }
     ensures err { IfErr result (TextFails text.now) }
 {
     let tokens = match tokens(alloc, Lang::Ddl, text) {

@@ -14,6 +14,8 @@ pub enum Role {
     ColumnReferences,
     Primary,
     Unique,
+    /// The first column of a key.
+    KeyFirst,
     KeyColumn,
     Foreign,
     ChildColumn,

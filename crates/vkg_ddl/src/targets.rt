@@ -1,5 +1,5 @@
 ghost use Rattle.std.specs.Prelude.{◌≡◌, Some, find, slice_get};
-ghost use Rattle.vkg_ddl.specs.ReferenceChecks.{are_columns, columns_fault, targets_in, at_target, columns_wrong, same_columns, are_key, key_fault, no_key, family_at, family_named, over_families, family_fault, family_at_target, families_differ};
+ghost use Rattle.vkg_ddl.specs.ReferenceChecks.{are_columns, columns_fault, targets_in, at_target, columns_wrong, same_columns, are_key, key_fault, no_key, family_named, over_families, family_fault, family_at_target, families_differ};
 ghost use Rattle.vkg_ddl.specs.NameChecks.{matches, one_column};
 ghost use Rattle.vkg_ddl.specs.Places.{least_of};
 ghost use Rattle.std.specs.List.{list_any, list_all};
@@ -9,7 +9,7 @@ use crate::matching::{column_named, one_column, primary_of, table_named, unknown
 use crate::name::Name;
 use crate::places::{lesser, place_if};
 use crate::twice::name_twice;
-use crate::type_word::kind_named;
+use crate::types::column_kind;
 use crate::written::{WrittenColumn, WrittenReference, WrittenTable};
 use vkg_cells::SqlType;
 
@@ -157,21 +157,12 @@ fn family(kind: SqlType) -> usize
     }
 }
 
-fn family_at(kind: Option<SqlType>) -> usize
-    ensures { result ≡ family_at kind }
-{
-    match kind {
-        None => 0,
-        Some(kind) => family(kind),
-    }
-}
-
 fn family_of(columns: &[WrittenColumn], n: &Name) -> usize
     ensures { result ≡ family_named columns.now (Some n.now) }
 {
     match column_named(columns, n) {
         None => 0,
-        Some(c) => family_at(kind_named(c.kind.text.as_str())),
+        Some(c) => family(column_kind(c)),
     }
 }
 

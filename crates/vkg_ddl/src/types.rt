@@ -1,5 +1,5 @@
 ghost use Rattle.std.specs.Prelude.{◌≡◌};
-ghost use Rattle.vkg_ddl.specs.TypeChecks.{is_no_kind, unknown_type, type_unknown, capped, takes_one, takes_two, takes, wrong_numbers, precision_wrong};
+ghost use Rattle.vkg_ddl.specs.TypeChecks.{column_kind, is_no_kind, unknown_type, type_unknown, capped, takes_one, takes_two, takes, wrong_numbers, precision_wrong};
 ghost use Rattle.vkg_ddl.specs.Places.{least_of};
 
 use crate::name::Name;
@@ -103,4 +103,11 @@ pub fn precision_wrong(tables: &[WrittenTable]) -> Option<usize>
         None,
         |best, t| lesser(best, all_wrong_numbers(t.columns.as_slice())),
     )
+}
+
+/// The kind of a column whose type is known.
+pub fn column_kind(c: &WrittenColumn) -> SqlType
+    ensures { result ≡ column_kind c.now }
+{
+    kind_named(c.kind.text.as_str()).unwrap_or(SqlType::Text)
 }

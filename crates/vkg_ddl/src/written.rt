@@ -1,5 +1,5 @@
 ghost use Rattle.std.specs.Prelude.{◌≡◌, ◌++◌, ◌∷◌, [], IfOk, OnOk, slice_index_or, true, false};
-ghost use Rattle.vkg_ddl.specs.Written.{act, edit, edit_column, edit_key, edit_reference, on_last, last_name, new_table, new_column, new_key, new_reference};
+ghost use Rattle.vkg_ddl.specs.Written.{act, edit, edit_column, edit_key, edit_reference, on_last, last_name, new_table, new_column, new_key, new_reference, with_columns, with_key, with_keys, with_reference, with_references};
 
 use crate::name::Name;
 use crate::role::Role;
@@ -93,15 +93,23 @@ fn new_table(alloc: Global, token: &Name) -> Result<WrittenTable, Memory>
     })
 }
 
-// The name of the last column, as a list.
-fn last_name(alloc: Global, columns: &[WrittenColumn]) -> Result<Items<Name>, Memory>
-    ensures { IfOk result (λ names. names ≡ last_name columns.now) }
+// One name, as a list.
+fn one_name(alloc: Global, name: &Name) -> Result<Items<Name>, Memory>
+    ensures { IfOk result (λ names. names ≡ name.now ∷ []) }
 {
     let mut names = Items::new(alloc);
-    if let Some(last) = columns.last() {
-        names.push(last.name.copy()?)?;
-    }
+    names.push(name.copy()?)?;
     Ok(names)
+}
+
+// The name of the last column, as a list.
+fn last_name(alloc: Global, token: &Name, columns: &[WrittenColumn]) -> Result<Items<Name>, Memory>
+    ensures { IfOk result (λ names. names ≡ last_name token.now columns.now) }
+{
+    match columns.last() {
+        None => one_name(alloc, token),
+        Some(last) => one_name(alloc, &last.name),
+    }
 }
 
 fn edit_column(role: Role, token: &Name, column: WrittenColumn) -> Result<WrittenColumn, Memory>
@@ -117,11 +125,15 @@ fn edit_column(role: Role, token: &Name, column: WrittenColumn) -> Result<Writte
     Ok(column)
 }
 
-fn edit_key(token: &Name, key: WrittenKey) -> Result<WrittenKey, Memory>
-    ensures { IfOk result (λ k. k ≡ edit_key token.now key) }
+fn edit_key(alloc: Global, role: Role, token: &Name, key: WrittenKey) -> Result<WrittenKey, Memory>
+    ensures { IfOk result (λ k. k ≡ edit_key role token.now key) }
 {
     let mut key = key;
-    key.columns.push(token.copy()?)?;
+    match role {
+        Role::KeyFirst => key.columns = one_name(alloc, token)?,
+        Role::KeyColumn => key.columns.push(token.copy()?)?,
+        _ => {}
+    }
     Ok(key)
 }
 
@@ -156,13 +168,18 @@ fn edit_last_column(
     columns.push(edit_column(role, token, last)?)
 }
 
-fn edit_last_key(token: &Name, keys: &mut Items<WrittenKey>) -> Result<(), Memory>
-    ensures { OnOk result (keys.new ≡ on_last (edit_key token.now) keys.old) }
+fn edit_last_key(
+    alloc: Global,
+    role: Role,
+    token: &Name,
+    keys: &mut Items<WrittenKey>,
+) -> Result<(), Memory>
+    ensures { OnOk result (keys.new ≡ on_last (edit_key role token.now) keys.old) }
 {
     let Some(last) = keys.pop() else {
         return Ok(());
     };
-    keys.push(edit_key(token, last)?)
+    keys.push(edit_key(alloc, role, token, last)?)
 }
 
 fn edit_last_reference(
@@ -178,6 +195,99 @@ fn edit_last_reference(
     references.push(edit_reference(role, token, last)?)
 }
 
+fn add_column(alloc: Global, token: &Name, table: WrittenTable) -> Result<WrittenTable, Memory>
+    ensures { IfOk result (λ t. t ≡ with_columns table (table.columns ++ new_column token.now ∷ [])) }
+{
+    let mut table = table;
+    table.columns.push(new_column(alloc, token)?)?;
+    Ok(table)
+}
+
+fn change_column(role: Role, token: &Name, table: WrittenTable) -> Result<WrittenTable, Memory>
+    ensures { IfOk result (λ t. t ≡ with_columns table (on_last (edit_column role token.now) table.columns)) }
+{
+    let mut table = table;
+    edit_last_column(role, token, &mut table.columns)?;
+    Ok(table)
+}
+
+fn add_column_key(
+    alloc: Global,
+    primary: bool,
+    token: &Name,
+    table: WrittenTable,
+) -> Result<WrittenTable, Memory>
+    ensures { IfOk result (λ t. t ≡ with_key table (new_key primary token.now (last_name token.now table.columns))) }
+{
+    let mut table = table;
+    let names = last_name(alloc, token, table.columns.as_slice())?;
+    table.keys.push(new_key(primary, token, names)?)?;
+    Ok(table)
+}
+
+fn add_table_key(
+    alloc: Global,
+    primary: bool,
+    token: &Name,
+    table: WrittenTable,
+) -> Result<WrittenTable, Memory>
+    ensures { IfOk result (λ t. t ≡ with_key table (new_key primary token.now (token.now ∷ []))) }
+{
+    let mut table = table;
+    let names = one_name(alloc, token)?;
+    table.keys.push(new_key(primary, token, names)?)?;
+    Ok(table)
+}
+
+fn change_key(
+    alloc: Global,
+    role: Role,
+    token: &Name,
+    table: WrittenTable,
+) -> Result<WrittenTable, Memory>
+    ensures { IfOk result (λ t. t ≡ with_keys table (on_last (edit_key role token.now) table.keys)) }
+{
+    let mut table = table;
+    edit_last_key(alloc, role, token, &mut table.keys)?;
+    Ok(table)
+}
+
+fn add_column_reference(
+    alloc: Global,
+    token: &Name,
+    table: WrittenTable,
+) -> Result<WrittenTable, Memory>
+    ensures { IfOk result (λ t. t ≡ with_reference table (new_reference token.now (last_name token.now table.columns))) }
+{
+    let mut table = table;
+    let names = last_name(alloc, token, table.columns.as_slice())?;
+    table.references.push(new_reference(alloc, token, names)?)?;
+    Ok(table)
+}
+
+fn add_table_reference(
+    alloc: Global,
+    token: &Name,
+    table: WrittenTable,
+) -> Result<WrittenTable, Memory>
+    ensures { IfOk result (λ t. t ≡ with_reference table (new_reference token.now [])) }
+{
+    let mut table = table;
+    table
+        .references
+        .push(new_reference(alloc, token, Items::new(alloc))?)?;
+    Ok(table)
+}
+
+fn change_reference(role: Role, token: &Name, table: WrittenTable) -> Result<WrittenTable, Memory>
+    ensures { IfOk result (λ t. t ≡ with_references table (on_last (edit_reference role token.now) table.references)) }
+{
+    let mut table = table;
+    edit_last_reference(role, token, &mut table.references)?;
+    Ok(table)
+}
+
+// What a token adds to the last table.
 fn edit(
     alloc: Global,
     role: Role,
@@ -186,38 +296,25 @@ fn edit(
 ) -> Result<WrittenTable, Memory>
     ensures { IfOk result (λ t. t ≡ edit role token.now table) }
 {
-    let mut table = table;
     match role {
-        Role::Column => table.columns.push(new_column(alloc, token)?)?,
-        Role::Kind | Role::Number | Role::NotNull => {
-            edit_last_column(role, token, &mut table.columns)?
-        }
-        Role::ColumnPrimary => {
-            let names = last_name(alloc, table.columns.as_slice())?;
-            table.keys.push(new_key(true, token, names)?)?
-        }
-        Role::ColumnUnique => {
-            let names = last_name(alloc, table.columns.as_slice())?;
-            table.keys.push(new_key(false, token, names)?)?
-        }
-        Role::Primary => table.keys.push(new_key(true, token, Items::new(alloc))?)?,
-        Role::Unique => table.keys.push(new_key(false, token, Items::new(alloc))?)?,
-        Role::KeyColumn => edit_last_key(token, &mut table.keys)?,
-        Role::ColumnReferences => {
-            let names = last_name(alloc, table.columns.as_slice())?;
-            table.references.push(new_reference(alloc, token, names)?)?
-        }
-        Role::Foreign => {
-            table
-                .references
-                .push(new_reference(alloc, token, Items::new(alloc))?)?
-        }
-        Role::ChildColumn | Role::References | Role::Target | Role::TargetColumn => {
-            edit_last_reference(role, token, &mut table.references)?
-        }
-        _ => {}
+        Role::Column => add_column(alloc, token, table),
+        Role::Kind => change_column(role, token, table),
+        Role::Number => change_column(role, token, table),
+        Role::NotNull => change_column(role, token, table),
+        Role::ColumnPrimary => add_column_key(alloc, true, token, table),
+        Role::ColumnUnique => add_column_key(alloc, false, token, table),
+        Role::Primary => add_table_key(alloc, true, token, table),
+        Role::Unique => add_table_key(alloc, false, token, table),
+        Role::KeyFirst => change_key(alloc, role, token, table),
+        Role::KeyColumn => change_key(alloc, role, token, table),
+        Role::ColumnReferences => add_column_reference(alloc, token, table),
+        Role::Foreign => add_table_reference(alloc, token, table),
+        Role::ChildColumn => change_reference(role, token, table),
+        Role::References => change_reference(role, token, table),
+        Role::Target => change_reference(role, token, table),
+        Role::TargetColumn => change_reference(role, token, table),
+        _ => Ok(table),
     }
-    Ok(table)
 }
 
 pub fn act(
