@@ -1,0 +1,7 @@
+pub mod Checks
+pub mod Faults
+pub mod Field
+pub mod Load
+pub mod Parts
+pub mod Seen
+pub mod Texts
