@@ -1,0 +1,4 @@
+pub mod Terms
+pub mod DataFaults
+pub mod QuadRules
+pub mod Dataset
