@@ -7,6 +7,7 @@ mod fixed_line;
 mod host;
 mod in_memory;
 mod items;
+mod line;
 mod lines;
 mod outside;
 mod text;
