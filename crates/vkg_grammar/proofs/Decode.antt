@@ -2,10 +2,10 @@
 use Rattle.std.proofs.Common.{◌≡◌, ℕ, ◌+◌, ◌-◌, ◌<◌, ◌≤◌, List, ◌∷◌, ◌++◌, drop, length, get_or, refl, ap, sym, ◌∙◌, arith, append_assoc}
 use Rattle.std.proofs.lemmas.List.{drop_more, get_or-map, length-map}
 use Rattle.vkg_grammar.specs.declared.note.Note.{Note}
-use Rattle.vkg_grammar.specs.Trees.{Tree, leaf, nothing, pair, first, second}
+use Rattle.vkg_grammar.specs.Trees.{Tree, leaf, nothing, pair, first, second, size, IsFrom}
 use Rattle.vkg_grammar.specs.declared.note.Act.{Act as Step}
 use Rattle.vkg_grammar.specs.declared.note.Act.TheVariants as step
-use Rattle.vkg_grammar.specs.Decoding.{acts_of, token_before, decoded, stepped, steps_of, size, IsFrom}
+use Rattle.vkg_grammar.specs.Decoding.{acts_of, token_before, decoded, stepped, steps_of}
 
 -- the steps of a tree before others
 pub decodes : (n at : ℕ) (t : Tree) (q : List Step) → IsFrom at t → (decoded n q).token ≡ at + size t → ((decoded n (steps_of t ++ q)).token ≡ at) × ((decoded n (steps_of t ++ q)).trees ≡ t ∷ (decoded n q).trees)

@@ -5,9 +5,9 @@ use Rattle.vkg_grammar.specs.declared.rule.Rule.{Rule}
 use Rattle.vkg_grammar.specs.declared.rule.Rule.TheVariants.{Empty, Then, Either, Optional, Repeated}
 use Rattle.vkg_grammar.specs.declared.note.Act.{Act as Step}
 use Rattle.vkg_grammar.specs.declared.note.Act.TheVariants.{Leaf, Nothing, Pair, First, Second}
-use Rattle.vkg_grammar.specs.Decoding.{size, IsFrom, steps_of, decoded}
+use Rattle.vkg_grammar.specs.Decoding.{steps_of, decoded}
 use Rattle.vkg_grammar.proofs.Decode.{decodes}
-use Rattle.vkg_grammar.specs.Trees.{Tree, leaf, nothing, pair, first, second}
+use Rattle.vkg_grammar.specs.Trees.{Tree, leaf, nothing, pair, first, second, size, IsFrom}
 use Rattle.vkg_grammar.specs.OneTree.{rule, parts, IsTree, a_token, a_nothing, a_pair, a_first, a_second, IsTreeOf}
 use Rattle.vkg_grammar.proofs.BySteps.{Derives, done, read, by}
 

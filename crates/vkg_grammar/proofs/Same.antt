@@ -8,8 +8,8 @@ use Rattle.vkg_grammar.specs.declared.note.Act.TheVariants.{Leaf, Nothing, Pair,
 use Rattle.vkg_grammar.specs.Grammar.{noted, One, Parts, Choice, shape, shape_of, at_parts, at_first, at_second}
 use Rattle.vkg_grammar.specs.Grammar as engine
 use Rattle.vkg_grammar.specs.Parsing.{IsTheText}
-use Rattle.vkg_grammar.specs.Trees.{Tree}
-use Rattle.vkg_grammar.specs.Decoding.{acts_of, decoded, steps_of, size}
+use Rattle.vkg_grammar.specs.Trees.{Tree, size}
+use Rattle.vkg_grammar.specs.Decoding.{acts_of, decoded, steps_of}
 use Rattle.vkg_grammar.proofs.Decode.{decodes}
 use Rattle.vkg_grammar.specs.OneTree.{rule, parts, IsTreeOf, IsTheTree}
 use Rattle.vkg_grammar.proofs.BySteps.{Derives, done, read, by}

@@ -1,5 +1,5 @@
--- The trees of steps, read from the right.
-use Rattle.std.specs.Prelude.{◌≡◌, ℕ, ◌<◌, ◌+◌, ◌-◌, List, [], ◌∷◌, ◌++◌, length, map, reverse, get_or}
+-- The trees of a derivation's notes, read from the right: what the private functions of `parse_tree` promise each other.
+use Rattle.std.specs.Prelude.{ℕ, ◌<◌, ◌-◌, List, [], ◌∷◌, ◌++◌, length, map, reverse, get_or}
 use Rattle.vkg_grammar.specs.declared.forest.Node.{Node}
 use Rattle.vkg_grammar.specs.Trees.{Tree, leaf, nothing, pair, first, second, tree_at}
 use Rattle.vkg_grammar.specs.declared.note.Note.{Note}
@@ -18,6 +18,7 @@ AreNodesOf m s = (i : ℕ) → i < length s → get_or s i 0 < m
 abbrev pub tops_of : List Node → List ℕ → List Tree
 tops_of ns s = reverse (map (tree_at ns) s)
 
+-- the trees after one more act from the right, which joins those at the top; a leaf is the token i
 abbrev pub stepped : Step → ℕ → List Tree → List Tree
 stepped Leaf i f = leaf i ∷ f
 stepped Nothing i f = nothing ∷ f
@@ -26,10 +27,12 @@ stepped Second i (a ∷ f) = second a ∷ f
 stepped Pair i (a ∷ b ∷ f) = pair a b ∷ f
 stepped step i f = f
 
+-- the number of the first token, where the last one known is n
 abbrev pub token_before : Step → ℕ → ℕ
 token_before Leaf n = n - 1
 token_before step n = n
 
+-- the number of the first token, and the trees from the left
 pub record Decoded : Type 0 where
   pub token : ℕ
   pub trees : List Tree
@@ -48,19 +51,3 @@ steps_of nothing = Nothing ∷ []
 steps_of (pair a b) = Pair ∷ (steps_of a ++ steps_of b)
 steps_of (first a) = First ∷ steps_of a
 steps_of (second a) = Second ∷ steps_of a
-
--- the number of tokens
-abbrev pub size : Tree → ℕ
-size (leaf i) = 1
-size nothing = 0
-size (pair a b) = size a + size b
-size (first a) = size a
-size (second a) = size a
-
--- its tokens are numbered from here
-abbrev pub IsFrom : ℕ → Tree → Type 0
-IsFrom at (leaf i) = i ≡ at
-IsFrom at nothing = Unit {0}
-IsFrom at (pair a b) = IsFrom at a × IsFrom (at + size a) b
-IsFrom at (first a) = IsFrom at a
-IsFrom at (second a) = IsFrom at a

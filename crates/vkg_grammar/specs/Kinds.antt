@@ -3,6 +3,7 @@ use Rattle.std.specs.Prelude.{ℕ, ◌<◌, List, map}
 use Rattle.std.specs.List.{AllByRecursion}
 use Rattle.vkg_tokens.specs.declared.cutting.Token.{Token}
 
+-- the kinds of these tokens, one after another
 abbrev pub kinds_of : List Token → List ℕ
 kinds_of tokens = map (λ t. t.kind) tokens
 

@@ -4,9 +4,9 @@ use Rattle.vkg_grammar.specs.declared.rule.Rule.{Rule}
 use Rattle.vkg_grammar.specs.declared.rule.Rule.TheVariants.{Token, Empty, Then, Either, Optional, Repeated}
 use Rattle.vkg_grammar.specs.declared.note.Act.{Act as Step}
 use Rattle.vkg_grammar.specs.declared.note.Act.TheVariants.{Nothing, Pair, First, Second}
-use Rattle.vkg_grammar.specs.Decoding.{size, IsFrom}
-use Rattle.vkg_grammar.specs.Trees.{Tree, leaf, nothing, pair, first, second}
+use Rattle.vkg_grammar.specs.Trees.{Tree, leaf, nothing, pair, first, second, size, IsFrom}
 
+-- the rule of the symbol n
 abbrev pub rule : List Rule → ℕ → Rule
 rule g n = get_or g n (Token 0)
 

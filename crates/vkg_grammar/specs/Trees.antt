@@ -1,5 +1,5 @@
 -- Trees, and the trees that numbered nodes stand for.
-use Rattle.std.specs.Prelude.{ℕ, Bool, true, false, ◌<◌, ◌≤◌, ◌+◌, List, [], ◌∷◌, ◌++◌, length, get_or}
+use Rattle.std.specs.Prelude.{◌≡◌, ℕ, Bool, true, false, ◌<◌, ◌≤◌, ◌+◌, List, [], ◌∷◌, ◌++◌, length, get_or}
 use Rattle.vkg_grammar.specs.declared.forest.Node.{Node}
 use Rattle.vkg_grammar.specs.declared.forest.Node.TheVariants.{Leaf, Nothing, Pair, First, Second}
 
@@ -54,3 +54,19 @@ HasPartsBelow m n = (above_first n ≤ m) × (above_last n ≤ m)
 -- each node is made of those before it
 abbrev pub IsForest : List Node → Type 0
 IsForest ns = (i : ℕ) → i < length ns → HasPartsBelow i (get_or ns i Nothing)
+
+-- how many tokens the tree has
+abbrev pub size : Tree → ℕ
+size (leaf i) = 1
+size nothing = 0
+size (pair a b) = size a + size b
+size (first a) = size a
+size (second a) = size a
+
+-- its tokens are numbered from here, from the left
+abbrev pub IsFrom : ℕ → Tree → Type 0
+IsFrom at (leaf i) = i ≡ at
+IsFrom at nothing = Unit {0}
+IsFrom at (pair a b) = IsFrom at a × IsFrom (at + size a) b
+IsFrom at (first a) = IsFrom at a
+IsFrom at (second a) = IsFrom at a

@@ -11,7 +11,8 @@ use std::alloc::{AllocError, Global};
 fn add(forest: &mut Forest, stack: &mut Vec<usize>, node: Node) -> Result<(), AllocError>
     requires node { HasPartsBelow (node_count forest.old) node }
     requires stack { AreNodesOf (node_count forest.old) stack.old.items }
-    ensures tops { OnOk result (tops_of forest.new.nodes.items stack.new.items ≡ grown (trees forest.old) node ∷ tops_of forest.old.nodes.items stack.old.items) }
+    ensures tops { OnOk result (tops_of forest.new.nodes.items stack.new.items
+        ≡ grown (trees forest.old) node ∷ tops_of forest.old.nodes.items stack.old.items) }
     ensures below { OnOk result (AreNodesOf (node_count forest.new) stack.new.items) }
 {
     let at = forest.len();
@@ -28,7 +29,8 @@ fn apply(
     token: usize,
 ) -> Result<(), AllocError>
     requires { AreNodesOf (node_count forest.old) stack.old.items }
-    ensures tops { OnOk result (tops_of forest.new.nodes.items stack.new.items ≡ stepped act token (tops_of forest.old.nodes.items stack.old.items)) }
+    ensures tops { OnOk result (tops_of forest.new.nodes.items stack.new.items
+        ≡ stepped act token (tops_of forest.old.nodes.items stack.old.items)) }
     ensures below { OnOk result (AreNodesOf (node_count forest.new) stack.new.items) }
 {
     match act {
@@ -74,7 +76,8 @@ pub(crate) struct Built {
 
 // The trees of these notes, whose last token has the number before `tokens`.
 pub(crate) fn build(alloc: Global, notes: &[Note], tokens: usize) -> Result<Built, AllocError>
-    ensures tops { IfOk result (λ b. tops_of b.forest.nodes.items b.stack.items ≡ (decoded tokens (acts_of notes.now)).trees) }
+    ensures tops { IfOk result (λ b. tops_of b.forest.nodes.items b.stack.items
+        ≡ (decoded tokens (acts_of notes.now)).trees) }
     ensures below { IfOk result (λ b. AreNodesOf (node_count b.forest) b.stack.items) }
 {
     let mut forest = Forest::new(alloc);

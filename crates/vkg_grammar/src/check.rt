@@ -11,6 +11,7 @@ use crate::table::{begin_table, begins, is_ranked};
 use std::alloc::{AllocError, Global};
 use vkg_base::Memory;
 
+// Whether this kind begins this way of the symbol: it begins what the way is made of, or the way may be empty and it may follow.
 pub(crate) fn starts(
     table: &[usize],
     follow: &[usize],
@@ -29,6 +30,7 @@ pub(crate) fn starts(
     begins(table, width, way, None) && is_ranked(follow, width, symbol, Some(kind))
 }
 
+// Whether this kind begins both ways of the symbol.
 pub(crate) fn both_start(
     table: &[usize],
     follow: &[usize],
@@ -50,7 +52,7 @@ pub(crate) fn both_start(
     starts(table, follow, width, symbol, kind, second)
 }
 
-// Whether no kind begins both notes.
+// Whether no kind begins both ways.
 pub(crate) fn kinds_apart(
     table: &[usize],
     follow: &[usize],
@@ -74,7 +76,7 @@ pub(crate) fn kinds_apart(
     true
 }
 
-// Whether at most one of two notes may be empty and no kind begins both.
+// Whether at most one of two ways may be empty and no kind begins both.
 pub(crate) fn are_apart(
     table: &[usize],
     follow: &[usize],
@@ -100,7 +102,7 @@ pub(crate) fn are_apart(
     kinds_apart(table, follow, width, symbol, first, second)
 }
 
-// Whether the notes of a symbol are apart.
+// Whether the ways of a symbol are apart.
 pub(crate) fn is_apart(
     rules: &[Rule],
     table: &[usize],
@@ -127,6 +129,7 @@ pub(crate) fn is_apart(
     }
 }
 
+// Whether the ways of each symbol are apart.
 pub(crate) fn all_apart(rules: &[Rule], table: &[usize], follow: &[usize], width: usize) -> bool
     requires grammar { IsGrammar rules.now }
     requires sized { length table.now ≡ width * length rules.now }

@@ -4,7 +4,7 @@ ghost use Rattle.vkg_grammar.specs.Form.{Form, IsWellFormed, deepened as deepene
 use crate::rule::Rule;
 use std::marker::Model;
 
-/// A grammar: the rules of its symbols, of which the first makes the texts, and how deep brackets may be open in a text.
+/// A grammar: the rules of its symbols, of which the first makes the texts, and how many brackets may be open at once in a text.
 #[derive(Drop)]
 pub struct Grammar<'a> {
     rules: &'a [Rule],
@@ -19,7 +19,13 @@ impl<'a> Model for Grammar<'a> {
 
     ghost Value = { Form };
 
-    ghost view = { λ g. record { rules = g.rules.now; kinds = g.kinds; openers = g.openers.now; closers = g.closers.now; limit = g.limit } };
+    ghost view = { λ g. record {
+      rules = g.rules.now;
+      kinds = g.kinds;
+      openers = g.openers.now;
+      closers = g.closers.now;
+      limit = g.limit;
+    } };
 
     ghost invariant = { λ g. IsWellFormed g.rules.now g.kinds };
 }
@@ -28,7 +34,13 @@ impl<'a> Grammar<'a> {
     /// The grammar with these rules, whose tokens are of kinds below `kinds`. Brackets may be open without a limit.
     pub fn new(rules: &'a [Rule], kinds: usize) -> Grammar<'a>
         requires { IsWellFormed rules.now kinds }
-        ensures { result ≡ record { rules = rules.now; kinds = kinds; openers = []; closers = []; limit = None } }
+        ensures { result ≡ record {
+          rules = rules.now;
+          kinds = kinds;
+          openers = [];
+          closers = [];
+          limit = None;
+        } }
     {
         Grammar {
             rules,
@@ -49,7 +61,13 @@ impl<'a> Grammar<'a> {
         limit: usize,
     ) -> Grammar<'a>
         requires { IsWellFormed rules.now kinds }
-        ensures { result ≡ record { rules = rules.now; kinds = kinds; openers = openers.now; closers = closers.now; limit = Some limit } }
+        ensures { result ≡ record {
+          rules = rules.now;
+          kinds = kinds;
+          openers = openers.now;
+          closers = closers.now;
+          limit = Some limit;
+        } }
     {
         Grammar {
             rules,

@@ -96,3 +96,16 @@ fn each_fault_has_its_place(rt: HostRuntime) -> Result<(), Fail> {
     );
     Ok(())
 }
+
+#[test]
+fn a_text_has_one_tree(rt: HostRuntime) -> Result<(), Fail> {
+    let parsed = parse_tree(rt.alloc(), &brackets(), &[OPEN, CLOSE])?;
+    assert_eq!(rt; parsed.root, 4);
+    assert_eq!(rt; parsed.forest.node(parsed.root), Node::Pair(3, 2));
+    assert_eq!(rt; parsed.forest.len(), 5);
+    assert_eq!(rt; parsed.forest.node(0), Node::Leaf(1));
+    assert_eq!(rt; parsed.forest.node(1), Node::Nothing);
+    assert_eq!(rt; parsed.forest.node(2), Node::Pair(1, 0));
+    assert_eq!(rt; parsed.forest.node(3), Node::Leaf(0));
+    Ok(())
+}
