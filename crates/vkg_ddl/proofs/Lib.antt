@@ -1,0 +1,5 @@
+pub mod Certificate
+pub mod Forming
+pub mod Last
+pub mod Meaning
+pub mod Naming

@@ -1,0 +1,9 @@
+use Rattle.vkg_ddl.specs.Written.{edit_key}
+use Rattle.vkg_ddl.proofs.Last.{last_none, last_edited}
+use Rattle.vkg_ddl.proofs.written.edit_last_key.Goals as goal
+
+pub returns-in_default : goal.returns-in_default
+returns-in_default c = last_none (edit_key c.args.role c.args.token.now) c.in_default.ensures.0 c.in_default.ensures.1
+
+pub returns : goal.returns
+returns c = last_edited (edit_key c.args.role c.args.token.now) c.push.result c.pop.new.self c.push.new.self c.in-Some.ensures c.in_ok-edit_key.ensures c.push.ensures.ok

@@ -1,0 +1,9 @@
+pub mod FirstFault
+pub mod Formed
+pub mod NameChecks
+pub mod Names
+pub mod Places
+pub mod Reading
+pub mod ReferenceChecks
+pub mod TypeChecks
+pub mod Written

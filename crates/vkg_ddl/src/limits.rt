@@ -1,0 +1,34 @@
+ghost use Rattle.std.specs.Prelude.{◌≡◌, slice_get};
+ghost use Rattle.vkg_ddl.specs.Places.{at_none};
+ghost use Rattle.vkg_ddl.specs.NameChecks.{limit_passed};
+
+use crate::places::lesser;
+use crate::written::{WrittenColumn, WrittenTable};
+
+fn table_past(tables: &[WrittenTable]) -> Option<usize>
+    ensures { result ≡ at_none (λ t. t.name.at) (slice_get tables.now 256) }
+{
+    match tables.get(256) {
+        None => None,
+        Some(t) => Some(t.name.at),
+    }
+}
+
+fn column_past(columns: &[WrittenColumn]) -> Option<usize>
+    ensures { result ≡ at_none (λ c. c.name.at) (slice_get columns.now 128) }
+{
+    match columns.get(128) {
+        None => None,
+        Some(c) => Some(c.name.at),
+    }
+}
+
+pub fn limit_passed(tables: &[WrittenTable]) -> Option<usize>
+    ensures { result ≡ limit_passed tables.now }
+{
+    let columns = tables.iter().fold(
+        None,
+        |best, t| lesser(best, column_past(t.columns.as_slice())),
+    );
+    lesser(table_past(tables), columns)
+}

@@ -1,0 +1,85 @@
+ghost use Rattle.std.specs.Prelude.{◌≡◌, find};
+ghost use Rattle.vkg_ddl.specs.NameChecks.{same_name, matches, names_column, unknown_column, column_place, one_column};
+ghost use Rattle.std.specs.Option.{option_copied};
+ghost use Rattle.vkg_ddl.specs.Places.{least_of};
+ghost use Rattle.std.specs.List.{list_any};
+
+use crate::name::Name;
+use crate::places::{lesser, place_if};
+use crate::written::{WrittenColumn, WrittenKey, WrittenTable};
+
+pub fn same_name(a: &Name, b: &Name) -> bool
+    ensures { result ≡ same_name a.now b.now }
+{
+    a.text.as_str().eq_ignore_ascii_case(b.text.as_str())
+}
+
+pub fn matches(n: &Name, declared: &Name) -> bool
+    ensures { result ≡ matches n.now declared.now }
+{
+    if n.delimited {
+        n.text.as_str() == declared.text.as_str()
+    } else {
+        same_name(n, declared)
+    }
+}
+
+pub fn table_named<'a>(tables: &'a [WrittenTable], n: &Name) -> Option<&'a WrittenTable>
+    ensures { option_copied result ≡ find (λ u. matches n.now u.name) tables.now }
+{
+    tables.iter().find(|u| matches(n, &u.name))
+}
+
+pub fn column_named<'a>(columns: &'a [WrittenColumn], n: &Name) -> Option<&'a WrittenColumn>
+    ensures { option_copied result ≡ find (λ c. matches n.now c.name) columns.now }
+{
+    columns.iter().find(|c| matches(n, &c.name))
+}
+
+pub fn primary_of(keys: &[WrittenKey]) -> Option<&WrittenKey>
+    ensures { option_copied result ≡ find (λ k. k.primary) keys.now }
+{
+    keys.iter().find(|k| k.primary)
+}
+
+fn names_column(columns: &[WrittenColumn], n: &Name) -> bool
+    ensures { result ≡ names_column columns.now n.now }
+{
+    columns.iter().any(|c| matches(n, &c.name))
+}
+
+fn unknown_column(columns: &[WrittenColumn], n: &Name) -> Option<usize>
+    ensures { result ≡ unknown_column columns.now n.now }
+{
+    place_if(!names_column(columns, n), n.at)
+}
+
+pub fn unknown_columns(columns: &[WrittenColumn], names: &[Name]) -> Option<usize>
+    ensures { result ≡ least_of (unknown_column columns.now) names.now }
+{
+    names
+        .iter()
+        .fold(None, |best, n| lesser(best, unknown_column(columns, n)))
+}
+
+/// The place of the first column that has the name.
+pub fn column_place(columns: &[WrittenColumn], n: &Name) -> Option<usize>
+    ensures { result ≡ column_place columns.now n.now }
+{
+    columns.iter().position(|c| matches(n, &c.name))
+}
+
+pub fn one_column(columns: &[WrittenColumn], a: &Name, b: &Name) -> bool
+    ensures { result ≡ one_column columns.now a.now b.now }
+{
+    match (column_place(columns, a), column_place(columns, b)) {
+        (Some(i), Some(j)) => i == j,
+        _ => false,
+    }
+}
+
+pub fn any_one_column(columns: &[WrittenColumn], n: &Name, seen: &[Name]) -> bool
+    ensures { result ≡ list_any (one_column columns.now n.now) seen.now }
+{
+    seen.iter().any(|b| one_column(columns, n, b))
+}

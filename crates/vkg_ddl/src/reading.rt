@@ -1,0 +1,153 @@
+ghost use Rattle.vkg_grammar.specs.Parsing.{IsTheText, Fails};
+ghost use Rattle.std.specs.Prelude.{◌≡◌, ◌<◌, ◌+◌, ℕ, slice_index, slice_get, unwrap_or, [], length, map, IfOk, IfErr, slice_index_or, true, false};
+ghost use Rattle.std.specs.List.{AllByRecursion};
+ghost use Rattle.vkg_tokens.specs.Cut.{HasKind};
+ghost use Rattle.vkg_ddl.specs.Formed.{IsFormed};
+ghost use Rattle.vkg_ddl.specs.Reading.{role_of, is_choice, written_of, kinds_of, Says, TextFails};
+ghost use Rattle.vkg_ddl.specs.declared.reading.TextFault.TheVariants.{Memory as OutOfMemory};
+ghost use Rattle.vkg_ddl.specs.declared.role.Role.TheVariants.{Choice};
+
+use crate::grammar_table::{DDL, ROLES};
+use crate::name::{Name, names_of};
+use crate::role::Role;
+use crate::written::{WrittenTable, act};
+use std::alloc::{AllocError, AllocFailed, Global};
+use vkg_base::{Items, Memory};
+use vkg_grammar::{Note, ParseFault, Rule, parse};
+use vkg_tokens::{Lang, Token, TokensError, tokens};
+
+/// Why a text is none of the grammar.
+#[derive(Debug, Drop)]
+pub enum TextFault {
+    Memory,
+    /// No token begins at this byte.
+    Lexical { at: usize },
+    /// The first token that no text goes on with begins here, or the text ends too early.
+    Grammar { at: usize },
+}
+
+impl From<AllocError> for TextFault {
+    ghost from_gives = { λ _ e. e ≡ OutOfMemory };
+
+    fn from(_: AllocError) -> TextFault {
+        TextFault::Memory
+    }
+}
+
+impl<T: Drop> From<AllocFailed<T>> for TextFault {
+    ghost from_gives = { λ _ e. e ≡ OutOfMemory };
+
+    fn from(_: AllocFailed<T>) -> TextFault {
+        TextFault::Memory
+    }
+}
+
+impl From<Memory> for TextFault {
+    ghost from_gives = { λ _ e. e ≡ OutOfMemory };
+
+    fn from(_: Memory) -> TextFault {
+        TextFault::Memory
+    }
+}
+
+fn meanings() -> &'static [Role]
+    ensures { result.now ≡ ROLES }
+{
+    &ROLES
+}
+
+fn role_in(roles: &[Role], symbol: usize) -> Role
+    ensures { result ≡ unwrap_or (slice_get roles.now symbol) Choice }
+{
+    match roles.get(symbol) {
+        None => Role::Choice,
+        Some(role) => *role,
+    }
+}
+
+fn role_of(symbol: usize) -> Role
+    ensures { result ≡ role_of symbol }
+{
+    role_in(meanings(), symbol)
+}
+
+fn is_choice(role: Role) -> bool
+    ensures { result ≡ is_choice role }
+{
+    match role {
+        Role::Choice => true,
+        _ => false,
+    }
+}
+
+fn written_of(alloc: Global, notes: &[Note], tokens: &[Name]) -> Result<Items<WrittenTable>, Memory>
+    ensures { IfOk result (λ tables. tables ≡ written_of notes.now tokens.now []) }
+{
+    let mut tables = Items::new(alloc);
+    let mut rest = tokens;
+    for note in notes {
+        let role = role_of(note.symbol);
+        if !is_choice(role) {
+            let Some((token, after)) = rest.split_first() else {
+                return Ok(tables);
+            };
+            act(alloc, role, token, &mut tables)?;
+            rest = after;
+        }
+    }
+    Ok(tables)
+}
+
+fn kinds_of(alloc: Global, tokens: &[Token]) -> Result<Vec<usize>, Memory>
+    ensures { IfOk result (λ kinds. kinds.items ≡ kinds_of tokens.now) }
+{
+    Ok(tokens.iter().map(|t| t.kind).collect(alloc)?)
+}
+
+fn start_of(tokens: &[Token], index: usize) -> usize
+    requires { index < length tokens.now }
+    ensures { result ≡ slice_index_or (map (λ t. t.start) tokens.now) index 0 }
+{
+    tokens[index].start
+}
+
+fn rules() -> &'static [Rule]
+    ensures { result.now ≡ DDL }
+{
+    &DDL
+}
+
+// The notes of the derivation of tokens of these kinds.
+fn notes_of(alloc: Global, kinds: &[usize]) -> Result<Vec<Note>, ParseFault>
+    requires { (i : ℕ) → i < length kinds.now → slice_index kinds.now i + 1 < 18 }
+    ensures text { IfOk result (λ notes. IsTheText DDL kinds.now notes.items) }
+    ensures fails { IfErr result (Fails DDL kinds.now) }
+{
+    parse(alloc, rules(), 18, kinds)
+}
+
+/// What stands in a text of the grammar, or its first fault.
+pub fn read_written(alloc: Global, text: &str) -> Result<Items<WrittenTable>, TextFault>
+    ensures ok { IfOk result (Says text.now) }
+    ensures form { IfOk result (AllByRecursion IsFormed) }
+    ensures err { IfErr result (TextFails text.now) }
+{
+    let tokens = match tokens(alloc, Lang::Ddl, text) {
+        Ok(tokens) => tokens,
+        Err(TokensError::Memory) => return Err(TextFault::Memory),
+        Err(TokensError::LexFault { at }) => return Err(TextFault::Lexical { at }),
+    };
+    let kinds = kinds_of(alloc, &tokens)?;
+    match notes_of(alloc, &kinds) {
+        Ok(notes) => {
+            let names = names_of(alloc, text, &tokens)?;
+            Ok(written_of(alloc, &notes, &names)?)
+        }
+        Err(ParseFault::Memory) => Err(TextFault::Memory),
+        Err(ParseFault::Dead { index }) => {
+            let at = start_of(&tokens, index);
+            Err(TextFault::Grammar { at })
+        }
+        Err(ParseFault::Ended) => Err(TextFault::Grammar { at: text.len() }),
+    }
+}
