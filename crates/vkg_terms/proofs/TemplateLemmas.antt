@@ -23,12 +23,12 @@ glue-append : (t : List ℕ) (b : ℕ) (ps : List Part) → glue (t ++ b ∷ [])
 glue-append [] b ps = refl
 glue-append (c ∷ t) b ps = ap (onto_fixed c) (glue-append t b ps)
 
-glue_end : (t : List ℕ) → glue t [] ≡ fixed_part t
+pub glue_end : (t : List ℕ) → glue t [] ≡ fixed_part t
 glue_end [] = refl
 glue_end (b ∷ []) = refl
 glue_end (b ∷ c ∷ t) = ap (onto_fixed b) (glue_end (c ∷ t))
 
-glue_hole : (t name : List ℕ) (ps : List Part) → glue t (part.Hole name ∷ ps) ≡ fixed_part t ++ part.Hole name ∷ ps
+pub glue_hole : (t name : List ℕ) (ps : List Part) → glue t (part.Hole name ∷ ps) ≡ fixed_part t ++ part.Hole name ∷ ps
 glue_hole [] name ps = refl
 glue_hole (b ∷ []) name ps = refl
 glue_hole (b ∷ c ∷ t) name ps = ap (onto_fixed b) (glue_hole (c ∷ t) name ps)
@@ -57,7 +57,7 @@ abbrev whole : State → List ℕ → Option (List Part)
 whole s bs = whole_at s.place s.parts s.text bs
 
 -- an octet that is no backslash
-marks-cons : (b : ℕ) (bs : List ℕ) → (b == 92) ≡ false → marks (b ∷ bs) ≡ onto (mark b) (marks bs)
+pub marks-cons : (b : ℕ) (bs : List ℕ) → (b == 92) ≡ false → marks (b ∷ bs) ≡ onto (mark b) (marks bs)
 marks-cons b [] e = ap (λ t. if t then None else Some (mark b ∷ [])) e
 marks-cons b (c ∷ bs) e = ap (λ t. if t then escape c (marks bs) else onto (mark b) (marks (c ∷ bs))) e
 
@@ -129,7 +129,7 @@ ordinary_mark b e = by_tests (b == 123) (b == 125) refl refl
     by_tests false true f g = absurd (grind (arith, nat_tests))
     by_tests false false f g = refl
 
-ordinary_cons : (b : ℕ) (bs : List ℕ) → is_special b ≡ false → marks (b ∷ bs) ≡ onto (Plain b) (marks bs)
+pub ordinary_cons : (b : ℕ) (bs : List ℕ) → is_special b ≡ false → marks (b ∷ bs) ≡ onto (Plain b) (marks bs)
 ordinary_cons b bs e = marks-cons b bs (grind (arith, nat_tests)) ∙ ap (λ m. onto m (marks bs)) (ordinary_mark b e)
 
 false_from : (b : Bool) → not b ≡ true → b ≡ false
