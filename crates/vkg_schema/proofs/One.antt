@@ -1,0 +1,108 @@
+-- There is one answer.
+use Rattle.std.proofs.Common.{◌≡◌, ℕ, ◌+◌, ◌<◌, ◌≤◌, ◌⊎◌, inl, inr, Bool, List, [], ◌∷◌, ◌++◌, Result, Ok, Err, Option, Some, None, take, drop, length, refl, ap, sym, ◌∙◌, subst, take-append-drop, append_assoc, arith}
+use Rattle.std.specs.Prelude.{IsUtf8}
+use Rattle.std.specs.Str.Lossy.{utf8_valid_len}
+use Rattle.vkg_grammar.specs.declared.note.Note.{Note}
+use Rattle.vkg_grammar.specs.declared.rule.Rule.{Rule}
+use Rattle.vkg_grammar.specs.Grammar.{Derives, IsAlive}
+use Rattle.vkg_grammar.specs.Parsing.{IsTheText, IsFirstDead, IsCutOff}
+use Rattle.vkg_tokens.specs.declared.cutting.Token.{Token}
+use Rattle.vkg_tokens.specs.declared.lang.Lang.TheVariants.{Ddl}
+use Rattle.vkg_tokens.specs.Cut.{tokens_of}
+use Rattle.vkg_ddl.specs.declared.grammar_table.TheConstants.{DDL}
+use Rattle.vkg_ddl.specs.declared.written.WrittenTable.{WrittenTable}
+use Rattle.vkg_ddl.specs.FirstFault.{first_fault}
+use Rattle.vkg_ddl.specs.Names.{names_of}
+use Rattle.vkg_ddl.specs.Reading.{Says, IsNoText, written_of, kinds_of, start_at}
+use Rattle.vkg_schema.specs.declared.reading.SchemaFault.{SchemaFault}
+use Rattle.vkg_schema.specs.declared.table.Table.{Table}
+use Rattle.vkg_schema.specs.Reading.{without_mark, IsSchemaText, IsFaultOf, fault, no_utf8, no_token, no_text, no_schema, IsDetermined}
+use Rattle.vkg_schema.specs.Resolve.{schema_of}
+
+same_tokens : {r : Result (List Token) ℕ} {ts us : List Token} → r ≡ Ok ts → r ≡ Ok us → ts ≡ us
+same_tokens e f = cc
+
+same_place : {r : Result (List Token) ℕ} {a b : ℕ} → r ≡ Err a → r ≡ Err b → a ≡ b
+same_place e f = cc
+
+not_tokens : {r : Result (List Token) ℕ} {ts : List Token} {a : ℕ} → r ≡ Ok ts → r ≡ Err a → ⊥
+not_tokens e f = cc
+
+one_text : {text : List ℕ} {d e : List WrittenTable} → Says text d → Says text e → d ≡ e
+one_text {text = text} a b =
+    let t : b.tokens ≡ a.tokens = same_tokens b.cut a.cut in
+    let n : b.notes ≡ a.notes = a.derived.only b.notes (subst (λ ts. Derives DDL (0 ∷ []) (kinds_of ts) b.notes) t b.derived.derives) in
+    a.said ∙ (λ i. written_of (sym n i) (names_of text (sym t i)) []) ∙ sym b.said
+
+alive_text : (g : List Rule) (ts : List ℕ) (ws : List Note) (n : ℕ) → Derives g (0 ∷ []) ts ws → IsFirstDead g ts n → ⊥
+alive_text g ts ws n d dead = dead.dead (drop (n + 1) ts, ws, subst (λ y. Derives g (0 ∷ []) y ws) (sym (take-append-drop (n + 1) ts)) d)
+
+no_said : {text : List ℕ} {d : List WrittenTable} {at : ℕ} → Says text d → IsNoText text at → ⊥
+no_said a b =
+    let t : b.tokens ≡ a.tokens = same_tokens b.cut a.cut in
+    let d : Derives DDL (0 ∷ []) (kinds_of b.tokens) a.notes = subst (λ ts. Derives DDL (0 ∷ []) (kinds_of ts) a.notes) (sym t) a.derived.derives in
+    elim b.place [ inl p ↦ alive_text DDL (kinds_of b.tokens) a.notes p.0 d p.1 | inr p ↦ p.0.no_text a.notes d ]
+
+-- of two places that are first dead neither is before the other
+not_before : (g : List Rule) (ts : List ℕ) (m n : ℕ) → IsFirstDead g ts m → IsFirstDead g ts n → m < n → ⊥
+not_before g ts m n a b l = a.dead (b.alive m l)
+
+one_dead : (g : List Rule) (ts : List ℕ) (m n : ℕ) → IsFirstDead g ts m → IsFirstDead g ts n → m ≡ n
+one_dead g ts m n a b =
+    let left : m < n → ⊥ = not_before g ts m n a b in
+    let right : n < m → ⊥ = not_before g ts n m b a in
+    omega (arith, left, right)
+
+not_cut : (g : List Rule) (ts : List ℕ) (n : ℕ) → IsFirstDead g ts n → IsCutOff g ts → ⊥
+not_cut g ts n a b =
+    let w = b.alive in
+    a.dead (drop (n + 1) ts ++ w.0, w.1, subst (λ y. Derives g (0 ∷ []) y w.1) (ap (λ y. y ++ w.0) (sym (take-append-drop (n + 1) ts)) ∙ append_assoc (take (n + 1) ts) (drop (n + 1) ts) w.0) w.2)
+
+abbrev NoTextAt : List ℕ → List Token → ℕ → Type 0
+NoTextAt text ts at = ((i : ℕ) × IsFirstDead DDL (kinds_of ts) i × (at ≡ start_at ts i)) ⊎ (IsCutOff DDL (kinds_of ts) × (at ≡ length text))
+
+one_place : (text : List ℕ) (ts : List Token) (a b : ℕ) → NoTextAt text ts a → NoTextAt text ts b → a ≡ b
+one_place text ts a b (inl p) (inl q) = p.2 ∙ ap (start_at ts) (one_dead DDL (kinds_of ts) p.0 q.0 p.1 q.1) ∙ sym q.2
+one_place text ts a b (inl p) (inr q) = absurd (not_cut DDL (kinds_of ts) p.0 p.1 q.0)
+one_place text ts a b (inr p) (inl q) = absurd (not_cut DDL (kinds_of ts) q.0 q.1 p.0)
+one_place text ts a b (inr p) (inr q) = p.1 ∙ sym q.1
+
+one_no_text : {text : List ℕ} {a b : ℕ} → IsNoText text a → IsNoText text b → a ≡ b
+one_no_text {text = text} {a = a} {b = b} x y = one_place text x.tokens a b x.place (subst (λ ts. NoTextAt text ts b) (same_tokens y.cut x.cut) y.place)
+
+one_check : {o : Option (ℕ × ℕ)} {c d : ℕ} {a b : ℕ} → o ≡ Some (c, a) → o ≡ Some (d, b) → fault c a ≡ fault d b
+one_check {c = c} {d = d} {a = a} {b = b} e f = let same : ◌≡◌ {A = ℕ × ℕ} (c, a) (d, b) = cc in ap (λ p. fault p.0 p.1) same
+
+one_value : (text : List ℕ) (tables others : List Table) → IsSchemaText text tables → IsSchemaText text others → tables ≡ others
+one_value text tables others a b = a.resolved ∙ ap schema_of (one_text a.says b.says) ∙ sym b.resolved
+
+not_both : (text : List ℕ) (tables : List Table) (f : SchemaFault) → IsSchemaText text tables → IsFaultOf text f → ⊥
+not_both text tables f a (no_utf8 n e) = n a.utf8
+not_both text tables f a (no_token u e) = not_tokens a.says.cut e
+not_both text tables f a (no_text u n) = no_said a.says n
+not_both text tables f a (no_schema {check = check} {at = at} written u d e) = absurd (let g : ◌≡◌ {A = Option (ℕ × ℕ)} None (Some (check, at)) = sym a.fine ∙ ap first_fault (one_text a.says d) ∙ e in cc)
+
+one_fault : (text : List ℕ) (f g : SchemaFault) → IsFaultOf text f → IsFaultOf text g → f ≡ g
+one_fault text f g (no_utf8 n e) (no_utf8 m d) = ap (fault 15) (e ∙ sym d)
+one_fault text f g (no_utf8 n e) (no_token u d) = absurd (n u)
+one_fault text f g (no_utf8 n e) (no_text u d) = absurd (n u)
+one_fault text f g (no_utf8 n e) (no_schema w u d q) = absurd (n u)
+one_fault text f g (no_token u e) (no_utf8 m d) = absurd (m u)
+one_fault text f g (no_token u e) (no_token v d) = ap (fault 1) (same_place e d)
+one_fault text f g (no_token u e) (no_text v d) = absurd (not_tokens d.cut e)
+one_fault text f g (no_token u e) (no_schema w v d q) = absurd (not_tokens d.cut e)
+one_fault text f g (no_text u e) (no_utf8 m d) = absurd (m u)
+one_fault text f g (no_text u e) (no_token v d) = absurd (not_tokens e.cut d)
+one_fault text f g (no_text u e) (no_text v d) = ap (fault 2) (one_no_text e d)
+one_fault text f g (no_text u e) (no_schema w v d q) = absurd (no_said d e)
+one_fault text f g (no_schema x u e p) (no_utf8 m d) = absurd (m u)
+one_fault text f g (no_schema x u e p) (no_token v d) = absurd (not_tokens e.cut d)
+one_fault text f g (no_schema x u e p) (no_text v d) = absurd (no_said e d)
+one_fault text f g (no_schema x u e p) (no_schema w v d q) = one_check p (ap first_fault (one_text e d) ∙ q)
+
+pub determined : IsDetermined
+determined = record {
+  one_value = λ bytes. one_value (without_mark bytes);
+  one_fault = λ bytes. one_fault (without_mark bytes);
+  not_both = λ bytes. not_both (without_mark bytes);
+}
