@@ -1,5 +1,5 @@
 -- Each term map of the direct mapping makes its term over a database that meets the schema.
-use Rattle.std.proofs.Common.{◌≡◌, ◌⊎◌, inl, inr, ℕ, zero, suc, ◌+◌, ◌<◌, refl, sym, ◌∙◌, ap, subst, List, [], ◌∷◌, length, true, false, cond, ◌||◌, arith, Option, Some, None, Ok}
+use Rattle.std.proofs.Common.{◌≡◌, ◌⊎◌, inl, inr, ℕ, zero, suc, ◌+◌, refl, sym, ◌∙◌, ap, subst, List, [], ◌∷◌, length, true, false, cond, ◌||◌, arith, Option, Some, None, Ok}
 use Rattle.std.specs.Prelude.{Contains, chars, option_map, slice_get, unwrap_or, IfSome, IsTrue, IsUtf8}
 use Rattle.std.specs.List.{AllByRecursion, AllZip, enumerate_from, find, list_any}
 use Rattle.std.proofs.lemmas.Str.{scalars-chars}
@@ -21,35 +21,21 @@ use Rattle.vkg_lists.specs.Sets.{HasSameMembers}
 use Rattle.vkg_maps.specs.Dataset.{dataset}
 use Rattle.vkg_direct.specs.DirectGraph.{primary_key, row_node, direct_graph}
 use Rattle.vkg_direct.specs.DirectMapping.{direct_map, has_primary_key, direct}
-use Rattle.vkg_lists.proofs.Members.{Contains-none, Contains-cons_cases, Contains-there, Contains-here}
-use Rattle.vkg_direct.proofs.Whole.{parent_at, AllMade, same_quads}
+use Rattle.vkg_lists.proofs.Members.{each_from_recursion, Contains-none, Contains-cons_cases, Contains-there, Contains-here}
+use Rattle.vkg_direct.proofs.Members.{some_is}
+use Rattle.vkg_direct.proofs.Whole.{some_at, parent_at, AllMade, same_quads}
 use Rattle.vkg_direct.proofs.Cells.{Formed, formed}
 use Rattle.vkg_direct.proofs.Nodes.{Known, Named, node_made}
 
 all_at : {X : Type 0} (P : X → Type 0) (xs : List X) (j : ℕ) (x : X) → AllByRecursion P xs → slice_get xs j ≡ Some x → P x
 all_at P [] j x a e = cc
 all_at P (y ∷ ys) zero x a e = subst P (some_is y x e) a.0
-  where
-    some_is : {X : Type 0} (y x : X) → Some y ≡ Some x → y ≡ x
-    some_is y x e = cc
 all_at P (y ∷ ys) (suc j) x a e = all_at P ys j x a.1 e
-
-all_in : {X : Type 0} (P : X → Type 0) (xs : List X) (x : X) → AllByRecursion P xs → Contains xs x → P x
-all_in P [] x a h = absurd (Contains-none x h)
-all_in P (y ∷ ys) x a h = elim (Contains-cons_cases y ys x h) [ inl e ↦ subst P e a.0 | inr c ↦ all_in P ys x a.1 c ]
-
-some_at : {X : Type 0} (xs : List X) (j : ℕ) → j < length xs → (x : X) × (slice_get xs j ≡ Some x)
-some_at [] j h = absurd (let n : ⊥ = omega (arith, h) in n)
-some_at (x ∷ xs) zero h = (x, refl)
-some_at (x ∷ xs) (suc j) h = some_at xs j (omega (arith, h))
 
 zip_at : {X Y : Type 0} (R : X → Y → Type 0) (xs : List X) (ys : List Y) (j : ℕ) (x : X) → AllZip R xs ys → slice_get xs j ≡ Some x → (y : Y) × (slice_get ys j ≡ Some y) × R x y
 zip_at R [] ys j x z e = cc
 zip_at R (a ∷ xs) [] j x z e = absurd z
 zip_at R (a ∷ xs) (b ∷ ys) zero x z e = (b, refl, subst (λ w. R w b) (some_is a x e) z.0)
-  where
-    some_is : {X : Type 0} (y x : X) → Some y ≡ Some x → y ≡ x
-    some_is y x e = cc
 zip_at R (a ∷ xs) (b ∷ ys) (suc j) x z e = zip_at R xs ys j x z.1 e
 
 place_of : {X : Type 0} (n : ℕ) (xs : List X) (p : ℕ × X) → Contains (enumerate_from n xs) p → (j : ℕ) × (p.0 ≡ n + j) × (slice_get xs j ≡ Some p.1)
@@ -112,21 +98,18 @@ module _ (base : List ℕ) (tables : List Table) (db : Database) (absolute : is_
   contained : {X : Type 0} (xs : List X) (j : ℕ) (x : X) → slice_get xs j ≡ Some x → Contains xs x
   contained [] j x e = cc
   contained (y ∷ ys) zero x e = (0, omega arith, some_is y x e)
-    where
-      some_is : {X : Type 0} (y x : X) → Some y ≡ Some x → y ≡ x
-      some_is y x e = cc
   contained (y ∷ ys) (suc j) x e = Contains-there y ys x (contained ys j x e)
 
   row_fits : (k : ℕ) (table : Table) → slice_get tables k ≡ Some table → (row : Row) → Contains (rows_of db k) row → AllZip FitsColumn table.columns row
   row_fits k table e row h =
       let z = zip_at (TableMeets db) tables db k table meets e in
-      all_in (AllZip FitsColumn table.columns) z.0 row z.2.cells (subst (λ rs. Contains rs row) (ap (λ o. unwrap_or o []) z.1) h)
+      each_from_recursion (AllZip FitsColumn table.columns) z.0 z.2.cells row (subst (λ rs. Contains rs row) (ap (λ o. unwrap_or o []) z.1) h)
 
   node : (k : ℕ) (table : Table) → slice_get tables k ≡ Some table → (row : Row) → Contains (rows_of db k) row → term_of base (direct_map base (k, table)).subject row ≡ Ok (Some (row_node base table row))
   node k table e row h =
       let t = all_at (IsTable tables) tables k table well e in
       let f = found table.keys (keyed table (contained tables k table e)) in
-      let is = all_in (IsKey table) table.keys f.0 t.keys f.2 in
+      let is = each_from_recursion (IsKey table) table.keys t.keys f.0 f.2 in
       let key : primary_key table ≡ f.0.columns = ap (λ o. unwrap_or (option_map (λ k. k.columns) o) []) f.1 in
       let known = all_known table row (row_fits k table e row h) t.columns f.0.columns is.columns (is.primary f.3) in
       node_made base k table row absolute (named tables table t) (λ n. is.some (sym key ∙ n)) (subst (λ cs. AllByRecursion (Known row) cs) (sym key) known)
@@ -139,7 +122,7 @@ module _ (base : List ℕ) (tables : List Table) (db : Database) (absolute : is_
         node = node kt.0 kt.1 e row r;
         literals = λ c c_is. made_literal kt.1 row (row_fits kt.0 kt.1 e row r) t.columns c c_is base;
         parents = λ ref ref_is other o_is.
-            let f = all_in (IsReference tables kt.1) kt.1.references ref t.references ref_is in
+            let f = each_from_recursion (IsReference tables kt.1) kt.1.references t.references ref ref_is in
             let target = some_at tables ref.table f.inside in
             ap (λ m. term_of base m.subject other) (parent_at base tables (direct_map base kt) ref.table target.0 target.1)
             ∙ (node ref.table target.0 target.1 other o_is

@@ -22,7 +22,7 @@ use Rattle.vkg_cells.specs.WellTyped.{is_xsd_date, is_xsd_date_time}
 use Rattle.vkg_direct.proofs.Moments.{Made, date_is, form_ascii, form_is, stamp_made}
 use Rattle.vkg_maps.specs.Terms.{literal}
 use Rattle.vkg_maps.specs.declared.data_fault.TermFault.TheVariants.{IllTyped, TooWide}
-use Rattle.vkg_direct.proofs.SafeText.{and_parts}
+use Rattle.vkg_terms.proofs.Octets.{and_parts}
 use Rattle.vkg_direct.proofs.Numbers.{width_is, decimal_is, ascii_is, integer_is, decimal_parts, integer_parts, Digits, written}
 
 pub record Formed (k : SqlType) (c : Cell) : Type 0 where

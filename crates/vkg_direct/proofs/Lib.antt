@@ -11,3 +11,4 @@ pub mod AllMade
 pub mod Law
 pub mod Moments
 pub mod RuleCount
+mod Examples

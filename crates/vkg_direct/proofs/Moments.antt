@@ -9,7 +9,8 @@ use Rattle.std.proofs.lemmas.Str.Ascii.{IsAscii-nil, IsAscii-cons}
 use Rattle.vkg_cells.specs.Number.{is_digits, after_point, without_trailing_zeros}
 use Rattle.vkg_cells.specs.Moment.{two_digits_at, day_of_text, clock_of_text, is_date, is_clock, cut, or_cut, form_if, form_at, form_of_parts, stamp_form}
 use Rattle.vkg_cells.specs.WellTyped.{is_xsd_date, is_zone, is_fraction, is_moment, is_end_of_day, zone_place, is_xsd_date_time}
-use Rattle.vkg_direct.proofs.SafeText.{and_true, and_parts}
+use Rattle.vkg_terms.proofs.Octets.{and_true, and_parts}
+use Rattle.vkg_direct.proofs.Members.{some_is}
 use Rattle.vkg_direct.proofs.Numbers.{Digits, trail_digits, after_ascii}
 
 some_then : {A B : Type 0} (f : A → Option B) (o : Option A) → is_some (option_and_then f o) ≡ true → (a : A) × (o ≡ Some a) × (is_some (f a) ≡ true)
@@ -199,9 +200,6 @@ made_if true date clock fraction form h e = record {
   is_digits = trail_digits fraction (h refl).2;
   is = some_is _ _ (sym e);
 }
-  where
-    some_is : (a b : List ℕ) → Some a ≡ Some b → a ≡ b
-    some_is a b e = cc
 
 all_digits : (text : List ℕ) → is_digits text ≡ true → Digits text
 all_digits [] e = cc

@@ -1,59 +1,18 @@
 -- IRI-safe text stands in an IRI.
-use Rattle.std.proofs.Common.{◌≡◌, ℕ, zero, suc, ◌+◌, ◌/◌, ◌<◌, ◌≤◌, refl, sym, ◌∙◌, ap, List, [], ◌∷◌, ◌++◌, take, flat_map, Bool, true, false, not, cond, ◌&&◌, ◌||◌, ltb, arith, ◌==◌, nat_le, ◌⊎◌, ⊎_elim}
+use Rattle.std.proofs.Common.{◌≡◌, ℕ, suc, ◌+◌, ◌<◌, ◌≤◌, refl, sym, ◌∙◌, ap, List, [], ◌∷◌, ◌++◌, take, flat_map, Bool, true, false, not, cond, ◌||◌, arith, ◌==◌, nat_le}
 use Rattle.std.specs.Prelude.{chars, encode_utf8}
 use Rattle.std.specs.List.{list_all, list_any, before_first, position_or_len}
 use Rattle.std.proofs.lemmas.List.Folds.{list_all-append, list_any-append}
-use Rattle.std.proofs.lemmas.Bool.{ltb-true}
-use lib.Utf8.{encode, next, scalar, scalars}
+use lib.Utf8.{encode, scalar, scalars}
 use Rattle.vkg_terms.specs.Iri.{is_iri_character, is_absolute, has_scheme, is_scheme}
 use Rattle.vkg_terms.specs.Safe.{safe, safe_character, is_unreserved, percent}
-
-pub and_true : (a b : Bool) → a ≡ true → b ≡ true → (a && b) ≡ true
-and_true true b e f = f
-and_true false b e f = e
-
-pub and_parts : (a b : Bool) → (a && b) ≡ true → (a ≡ true) × (b ≡ true)
-and_parts true b e = (refl, e)
-and_parts false b e = cc
-
--- a test that was made of every number below n
-abbrev below : ℕ → (ℕ → Bool) → Bool
-below zero p = true
-below (suc n) p = p n && below n p
-
-use_below : (n : ℕ) (p : ℕ → Bool) → below n p ≡ true → (k : ℕ) → k < n → p k ≡ true
-use_below zero p e k h = absurd (let x : ⊥ = omega (arith, h) in x)
-use_below (suc n) p e k h = let b = and_parts (p n) (below n p) e in
-    ⊎_elim (λ (l : k < n). use_below n p b.1 k l) (λ (s : k ≡ n). ap p s ∙ b.0) (cases k n h)
-  where
-    cases : (k n : ℕ) → k < suc n → (k < n) ⊎ (k ≡ n)
-    cases k n h = grind arith
-
-encode_all : (p : ℕ → Bool) (c : ℕ) → c < 1114112 → ((b : ℕ) → 128 ≤ b → b < 256 → p b ≡ true) → (c < 128 → p c ≡ true) → list_all p (encode c) ≡ true
-unfolding encode
-encode_all p c s h l = elim (ltb c 128) as (λ x. ltb c 128 ≡ x → list_all p (cond x (c ∷ []) (cond (ltb c 2048) ((192 + c / 64) ∷ next c ∷ []) (cond (ltb c 65536) ((224 + c / 4096) ∷ next (c / 64) ∷ next c ∷ []) ((240 + c / 262144) ∷ next (c / 4096) ∷ next (c / 64) ∷ next c ∷ [])))) ≡ true) [
-  | true ↦ λ e. and_true (p c) true (l (ltb-true c 128 e)) refl
-  | false ↦ λ e. elim (ltb c 2048) as (λ x. ltb c 2048 ≡ x → list_all p (cond x ((192 + c / 64) ∷ next c ∷ []) (cond (ltb c 65536) ((224 + c / 4096) ∷ next (c / 64) ∷ next c ∷ []) ((240 + c / 262144) ∷ next (c / 4096) ∷ next (c / 64) ∷ next c ∷ []))) ≡ true) [
-    | true ↦ λ f. let g = ltb-true c 2048 f in and_true (p (192 + c / 64)) _ (h (192 + c / 64) (omega arith) (omega (arith, g))) (and_true (p (next c)) true (more c) refl)
-    | false ↦ λ f. elim (ltb c 65536) as (λ x. ltb c 65536 ≡ x → list_all p (cond x ((224 + c / 4096) ∷ next (c / 64) ∷ next c ∷ []) ((240 + c / 262144) ∷ next (c / 4096) ∷ next (c / 64) ∷ next c ∷ [])) ≡ true) [
-      | true ↦ λ f. let g = ltb-true c 65536 f in and_true (p (224 + c / 4096)) _ (h (224 + c / 4096) (omega arith) (omega (arith, g))) (and_true (p (next (c / 64))) _ (more (c / 64)) (and_true (p (next c)) true (more c) refl))
-      | false ↦ λ f. and_true (p (240 + c / 262144)) _ (h (240 + c / 262144) (omega arith) (omega (arith, s))) (and_true (p (next (c / 4096))) _ (more (c / 4096)) (and_true (p (next (c / 64))) _ (more (c / 64)) (and_true (p (next c)) true (more c) refl)))
-    ] refl
-  ] refl
-] refl
-  where
-    more : (b : ℕ) → p (next b) ≡ true
-    more b = h (next b) (omega arith) (omega arith)
+use Rattle.vkg_terms.proofs.Octets.{and_true, and_parts, implied, use_below, encode_all}
 
 all_percent : (bs : List ℕ) → list_all (λ b. list_all is_iri_character (percent b)) bs ≡ true → list_all is_iri_character (flat_map percent bs) ≡ true
 all_percent [] e = refl
 all_percent (b ∷ bs) e =
     let h = and_parts (list_all is_iri_character (percent b)) (list_all (λ b. list_all is_iri_character (percent b)) bs) e in
     list_all-append is_iri_character (percent b) (flat_map percent bs) ∙ and_true (list_all is_iri_character (percent b)) _ h.0 (all_percent bs h.1)
-
-implied : (a b : Bool) → (not a || b) ≡ true → a ≡ true → b ≡ true
-implied true b e f = e
-implied false b e f = cc
 
 percents : (b : ℕ) → b < 256 → list_all is_iri_character (percent b) ≡ true
 percents = use_below 256 (λ b. list_all is_iri_character (percent b)) refl

@@ -15,7 +15,7 @@ use Rattle.vkg_maps.specs.Dataset.{quads, quads_of_rule, quad_eq, dataset}
 use Rattle.vkg_maps.proofs.Quads.{quads_apart}
 use Rattle.vkg_direct.specs.DirectGraph.{row_graph, direct_graph}
 use Rattle.vkg_direct.specs.DirectMapping.{direct_map, direct}
-use Rattle.vkg_lists.proofs.Members.{Contains-there, Contains-cons_cases, Contains-none, Contains-from_flat_map, Contains-flat_map, Contains-from_map, Contains-map}
+use Rattle.vkg_lists.proofs.Members.{each_from_recursion, Contains-there, Contains-cons_cases, Contains-none, Contains-from_flat_map, Contains-flat_map, Contains-from_map, Contains-map}
 use Rattle.vkg_direct.proofs.Members.{first}
 use Rattle.vkg_direct.proofs.Tables.{Makes, from_mapping, into_mapping}
 
@@ -25,7 +25,7 @@ map_at base [] n j = refl
 map_at base (t ∷ ts) n zero = let e : n ≡ n + 0 = omega arith in ap (λ k. Some (direct_map base (k, t))) e
 map_at base (t ∷ ts) n (suc j) = let e : (n + 1) + j ≡ n + suc j = omega arith in map_at base ts (n + 1) j ∙ ap (λ k. option_map (λ t. direct_map base (k, t)) (slice_get ts j)) e
 
-some_at : {X : Type 0} (xs : List X) (j : ℕ) → j < length xs → (x : X) × (slice_get xs j ≡ Some x)
+pub some_at : {X : Type 0} (xs : List X) (j : ℕ) → j < length xs → (x : X) × (slice_get xs j ≡ Some x)
 some_at [] j h = absurd (let n : ⊥ = omega (arith, h) in n)
 some_at (x ∷ xs) zero h = (x, refl)
 some_at (x ∷ xs) (suc j) h = some_at xs j (omega (arith, h))
@@ -35,11 +35,7 @@ parent_at base ts m j t e =
     let z : 0 + j ≡ j = omega arith in
     ap (λ o. unwrap_or o m) (map_at base ts 0 j ∙ ap (λ o. option_map (λ t. direct_map base (0 + j, t)) o) e) ∙ ap (λ k. direct_map base (k, t)) z
 
-all_in : {X : Type 0} (P : X → Type 0) (xs : List X) (x : X) → AllByRecursion P xs → Contains xs x → P x
-all_in P [] x a h = absurd (Contains-none x h)
-all_in P (y ∷ ys) x a h = elim (Contains-cons_cases y ys x h) [ inl e ↦ subst P e a.0 | inr c ↦ all_in P ys x a.1 c ]
-
-enumerated : {X : Type 0} (n : ℕ) (xs : List X) (p : ℕ × X) → Contains (enumerate_from n xs) p → Contains xs p.1
+pub enumerated : {X : Type 0} (n : ℕ) (xs : List X) (p : ℕ × X) → Contains (enumerate_from n xs) p → Contains xs p.1
 enumerated n [] p h = absurd (Contains-none p h)
 enumerated n (x ∷ xs) p h = elim (Contains-cons_cases (n, x) (enumerate_from (n + 1) xs) p h) [
   | inl e ↦ first x p.1 xs (ap (λ q. q.1) e)
@@ -56,8 +52,8 @@ module _ (base : List ℕ) (tables : List Table) (db : Database) where
 
   refers : IsWellFormed tables → (kt : ℕ × Table) → Contains (enumerate_from 0 tables) kt → (r : Reference) → Contains kt.1.references r → (r.pairs ≢ []) × ((parent_of maps (direct_map base kt) r.table).table ≡ r.table)
   refers w kt is r r_is =
-      let t = all_in (IsTable tables) tables kt.1 w (enumerated 0 tables kt is) in
-      let f = all_in (IsReference tables kt.1) kt.1.references r t.references r_is in
+      let t = each_from_recursion (IsTable tables) tables w kt.1 (enumerated 0 tables kt is) in
+      let f = each_from_recursion (IsReference tables kt.1) kt.1.references t.references r r_is in
       let target = some_at tables r.table f.inside in
       let P : Option Table → Type 0 = λ o. IfSome o (λ t. RefersTo r t × AllByRecursion (Comparable kt.1 t) r.pairs) in
       let known = subst P target.1 f.target in

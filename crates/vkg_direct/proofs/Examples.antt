@@ -1,0 +1,234 @@
+-- Worked examples: the direct graph and the direct mapping of two tables, of a table with all kinds and of one with a key of
+-- two columns.
+use Rattle.std.proofs.Common.{◌≡◌, refl, ℕ, Bool, true, false, List, [], ◌∷◌, ◌++◌, codes, map, inl, inr, Ok, Err, arith}
+use Rattle.std.specs.Prelude.{IsUtf8}
+use Rattle.std.specs.Str.{chars}
+use Rattle.std.specs.Char.{encode_utf8}
+use Rattle.std.specs.Fmt.{digits}
+use Rattle.vkg_lists.specs.Ascending.{ascending_once}
+use Rattle.vkg_terms.specs.NQuads.{Quad, line}
+use Rattle.vkg_cells.specs.declared.cell.SqlType.{SqlType}
+use Rattle.vkg_cells.specs.declared.cell.SqlType.TheVariants as kind
+use Rattle.vkg_cells.specs.declared.cell.Cell.{Cell}
+use Rattle.vkg_cells.specs.declared.cell.Cell.TheVariants as cell
+use Rattle.vkg_cells.specs.Field.{cell_of_field}
+use Rattle.vkg_cells.specs.Moment.{day_of_text, clock_of_text}
+use Rattle.vkg_schema.specs.declared.table.Table.{Table}
+use Rattle.vkg_schema.specs.Rows.{Row, Database, equal_at, is_known}
+use Rattle.vkg_schema.specs.Meets.{MeetsSchema, FitsColumn, IsWellFormed}
+use Rattle.vkg_maps.specs.DataFaults.{data_faults}
+use Rattle.vkg_maps.specs.Dataset.{quads}
+use Rattle.vkg_direct.specs.declared.direct_error.DirectError.TheVariants.{NoPrimaryKey}
+use Rattle.vkg_direct.specs.DirectGraph.{direct_graph}
+use Rattle.vkg_direct.specs.DirectMapping.{direct, direct_result}
+
+-- what the examples compute with
+unfoldable opened : Unit {0}
+unfolding chars encode_utf8 digits equal_at is_known day_of_text clock_of_text
+opened = tt
+
+abbrev lines_of : List Quad → List (List ℕ)
+lines_of qs = ascending_once (map line qs)
+
+abbrev dept : Table
+dept = record {
+  name = codes "dept";
+  columns = record { name = codes "id"; kind = kind.Int; not_null = true } ∷ record { name = codes "title"; kind = kind.Text; not_null = false } ∷ [];
+  keys = record { primary = true; columns = 0 ∷ [] } ∷ [];
+  references = [];
+}
+
+abbrev emp : Table
+emp = record {
+  name = codes "emp";
+  columns = record { name = codes "id"; kind = kind.Int; not_null = true } ∷ record { name = codes "name"; kind = kind.Text; not_null = false }
+      ∷ record { name = codes "dept"; kind = kind.Int; not_null = false } ∷ [];
+  keys = record { primary = true; columns = 0 ∷ [] } ∷ [];
+  references = record { table = 0; pairs = (2, 0) ∷ [] } ∷ [];
+}
+
+abbrev tables : List Table
+tables = dept ∷ emp ∷ []
+
+abbrev int : List ℕ → Cell
+int text = cell.Int text
+
+abbrev text : List ℕ → Cell
+text t = cell.Text t
+
+abbrev dept_rows : List Row
+dept_rows = (int (codes "1") ∷ text (codes "Ore") ∷ []) ∷ (int (codes "2") ∷ cell.Null ∷ []) ∷ []
+
+abbrev emp_rows : List Row
+emp_rows = (int (codes "7") ∷ text (codes "Ann") ∷ int (codes "1") ∷ [])
+    ∷ (int (codes "8") ∷ text (codes "Bo") ∷ cell.Null ∷ [])
+    ∷ (int (codes "9") ∷ text (codes "Ann") ∷ int (codes "1") ∷ []) ∷ []
+
+abbrev db : Database
+db = dept_rows ∷ emp_rows ∷ []
+
+abbrev base : List ℕ
+base = codes "http://e/"
+
+-- the lines of the two tables
+abbrev i_text : List ℕ
+i_text = codes "<http://www.w3.org/2001/XMLSchema#integer>"
+
+abbrev a_text : List ℕ
+a_text = codes "<http://www.w3.org/1999/02/22-rdf-syntax-ns#type>"
+
+abbrev lines_7 : List (List ℕ)
+lines_7 =
+    (codes "<http://e/emp/id=7> <http://e/emp#dept> \"1\"^^" ++ i_text ++ codes " .")
+    ∷ (codes "<http://e/emp/id=7> <http://e/emp#id> \"7\"^^" ++ i_text ++ codes " .")
+    ∷ codes "<http://e/emp/id=7> <http://e/emp#name> \"Ann\" ."
+    ∷ codes "<http://e/emp/id=7> <http://e/emp#ref-dept> <http://e/dept/id=1> ."
+    ∷ (codes "<http://e/emp/id=7> " ++ a_text ++ codes " <http://e/emp> .") ∷ []
+
+abbrev lines_9 : List (List ℕ)
+lines_9 =
+    (codes "<http://e/emp/id=9> <http://e/emp#dept> \"1\"^^" ++ i_text ++ codes " .")
+    ∷ (codes "<http://e/emp/id=9> <http://e/emp#id> \"9\"^^" ++ i_text ++ codes " .")
+    ∷ codes "<http://e/emp/id=9> <http://e/emp#name> \"Ann\" ."
+    ∷ codes "<http://e/emp/id=9> <http://e/emp#ref-dept> <http://e/dept/id=1> ."
+    ∷ (codes "<http://e/emp/id=9> " ++ a_text ++ codes " <http://e/emp> .") ∷ []
+
+abbrev two_tables : List (List ℕ)
+two_tables =
+    (codes "<http://e/dept/id=1> <http://e/dept#id> \"1\"^^" ++ i_text ++ codes " .")
+    ∷ codes "<http://e/dept/id=1> <http://e/dept#title> \"Ore\" ."
+    ∷ (codes "<http://e/dept/id=1> " ++ a_text ++ codes " <http://e/dept> .")
+    ∷ (codes "<http://e/dept/id=2> <http://e/dept#id> \"2\"^^" ++ i_text ++ codes " .")
+    ∷ (codes "<http://e/dept/id=2> " ++ a_text ++ codes " <http://e/dept> .")
+    ∷ lines_7
+    ++ (codes "<http://e/emp/id=8> <http://e/emp#id> \"8\"^^" ++ i_text ++ codes " .")
+    ∷ codes "<http://e/emp/id=8> <http://e/emp#name> \"Bo\" ."
+    ∷ (codes "<http://e/emp/id=8> " ++ a_text ++ codes " <http://e/emp> .")
+    ∷ lines_9
+
+graph_of_two_tables : lines_of (direct_graph tables base db) ≡ two_tables
+unfolding opened
+graph_of_two_tables = refl
+
+mapping_of_two_tables : lines_of (quads (direct tables base) db) ≡ two_tables
+unfolding opened
+mapping_of_two_tables = refl
+
+no_data_fault : data_faults (direct tables base) db ≡ []
+unfolding opened
+no_data_fault = refl
+
+-- ---- the two tables and their rows are a schema and a database that meets it
+
+int_fits : (name text : List ℕ) (n : Bool) → IsUtf8 text → cell_of_field kind.Int text ≡ Ok (cell.Int text) → FitsColumn (record { name = name; kind = kind.Int; not_null = n }) (cell.Int text)
+int_fits name text n u e = record { kind = inr (text, u, e); not_null = λ _ is. cc }
+
+text_fits : (name text : List ℕ) → IsUtf8 text → FitsColumn (record { name = name; kind = kind.Text; not_null = false }) (cell.Text text)
+text_fits name text u = record { kind = inr (text, u, refl); not_null = λ _ is. cc }
+
+null_fits : (name : List ℕ) (k : SqlType) → FitsColumn (record { name = name; kind = k; not_null = false }) cell.Null
+null_fits name k = record { kind = inl refl; not_null = λ h. cc }
+
+meets_schema : MeetsSchema tables db
+unfolding opened
+meets_schema = (
+  record {
+    cells = ((int_fits _ _ _ (codes "1", (refl, refl)) refl, (text_fits _ _ (codes "Ore", (refl, refl)), tt)), ((int_fits _ _ _ (codes "2", (refl, refl)) refl, (null_fits _ _, tt)), tt));
+    keys = (((refl, tt), (tt, tt)), tt);
+    references = tt;
+  },
+  (
+    record {
+      cells = (
+        (int_fits _ _ _ (codes "7", (refl, refl)) refl, (text_fits _ _ (codes "Ann", (refl, refl)), (int_fits _ _ _ (codes "1", (refl, refl)) refl, tt))),
+        (
+          (int_fits _ _ _ (codes "8", (refl, refl)) refl, (text_fits _ _ (codes "Bo", (refl, refl)), (null_fits _ _, tt))),
+          ((int_fits _ _ _ (codes "9", (refl, refl)) refl, (text_fits _ _ (codes "Ann", (refl, refl)), (int_fits _ _ _ (codes "1", (refl, refl)) refl, tt))), tt),
+        ),
+      );
+      keys = (((refl, (refl, tt)), ((refl, tt), (tt, tt))), tt);
+      references = ((λ _. refl, ((λ h. cc), (λ _. refl, tt))), tt);
+    },
+    tt,
+  ),
+)
+
+well_formed : IsWellFormed tables
+unfolding opened
+well_formed = (
+  record {
+    name = (codes "dept", (refl, refl));
+    columns = (record { name = (codes "id", (refl, refl)); kind = λ e. cc }, (record { name = (codes "title", (refl, refl)); kind = λ e. cc }, tt));
+    keys = (record { some = λ e. cc; columns = (omega arith, tt); primary = λ _. (refl, tt) }, tt);
+    references = tt;
+  },
+  (
+    record {
+      name = (codes "emp", (refl, refl));
+      columns = (record { name = (codes "id", (refl, refl)); kind = λ e. cc }, (record { name = (codes "name", (refl, refl)); kind = λ e. cc }, (record { name = (codes "dept", (refl, refl)); kind = λ e. cc }, tt)));
+      keys = (record { some = λ e. cc; columns = (omega arith, tt); primary = λ _. (refl, tt) }, tt);
+      references = (record { children = (omega arith, tt); inside = omega arith; target = (record { some = λ e. cc; parents = (omega arith, tt); key = refl }, (refl, tt)) }, tt);
+    },
+    tt,
+  ),
+)
+
+-- ---- more tables
+
+-- all kinds, by the direct mapping
+abbrev kinds : Table
+kinds = record {
+  name = codes "k";
+  columns = record { name = codes "b"; kind = kind.Bool; not_null = true } ∷ record { name = codes "ts"; kind = kind.Stamp; not_null = false } ∷ record { name = codes "x"; kind = kind.Bin; not_null = false } ∷ [];
+  keys = record { primary = true; columns = 0 ∷ [] } ∷ [];
+  references = [];
+}
+
+abbrev kinds_db : Database
+kinds_db = ((cell.Bool true ∷ cell.Stamp (codes "2024-02-29T12:00:00.5") ∷ cell.Bin (codes "0AFF") ∷ []) ∷ []) ∷ []
+
+abbrev kinds_lines : List (List ℕ)
+kinds_lines =
+    codes "<http://e/k/b=true> <http://e/k#b> \"true\"^^<http://www.w3.org/2001/XMLSchema#boolean> ."
+    ∷ codes "<http://e/k/b=true> <http://e/k#ts> \"2024-02-29T12:00:00.5\"^^<http://www.w3.org/2001/XMLSchema#dateTime> ."
+    ∷ codes "<http://e/k/b=true> <http://e/k#x> \"0AFF\"^^<http://www.w3.org/2001/XMLSchema#hexBinary> ."
+    ∷ (codes "<http://e/k/b=true> " ++ a_text ++ codes " <http://e/k> .") ∷ []
+
+kinds_by_mapping : lines_of (quads (direct (kinds ∷ []) base) kinds_db) ≡ kinds_lines
+unfolding opened
+kinds_by_mapping = refl
+
+kinds_graph : lines_of (direct_graph (kinds ∷ []) base kinds_db) ≡ kinds_lines
+unfolding opened
+kinds_graph = refl
+
+-- a key of two columns
+abbrev pair_table : Table
+pair_table = record {
+  name = codes "p";
+  columns = record { name = codes "a"; kind = kind.Text; not_null = true } ∷ record { name = codes "b"; kind = kind.Text; not_null = true } ∷ [];
+  keys = record { primary = true; columns = 0 ∷ 1 ∷ [] } ∷ [];
+  references = [];
+}
+
+abbrev pair_db : Database
+pair_db = ((text (codes "x-y") ∷ text (codes "z") ∷ []) ∷ []) ∷ []
+
+abbrev pair_lines : List (List ℕ)
+pair_lines = codes "<http://e/p/a=x-y;b=z> <http://e/p#a> \"x-y\" ." ∷ codes "<http://e/p/a=x-y;b=z> <http://e/p#b> \"z\" ." ∷ (codes "<http://e/p/a=x-y;b=z> " ++ a_text ++ codes " <http://e/p> .") ∷ []
+
+pair_by_mapping : lines_of (quads (direct (pair_table ∷ []) base) pair_db) ≡ pair_lines
+unfolding opened
+pair_by_mapping = refl
+
+pair_graph : lines_of (direct_graph (pair_table ∷ []) base pair_db) ≡ pair_lines
+unfolding opened
+pair_graph = refl
+
+-- ---- a table without a primary key
+
+abbrev keyless : Table
+keyless = record { name = codes "l"; columns = record { name = codes "v"; kind = kind.Text; not_null = false } ∷ []; keys = []; references = [] }
+
+first_keyless : direct_result (dept ∷ keyless ∷ keyless ∷ []) base ≡ Err (NoPrimaryKey 2)
+first_keyless = refl
