@@ -132,7 +132,8 @@ fn the_system_gives_files(rt: HostRuntime) -> Result<(), Fail> {
         };
         assert_eq!(rt; bytes.as_slice(), text.as_bytes(), "at {limit}");
     }
-    let missing = store.load(alloc, "no such file", 20);
+    fs::remove_file(&rt, "greeting.txt")?;
+    let missing = store.load(alloc, "greeting.txt", 20);
     assert!(rt; matches!(&missing, Err(LoadFault::Failed)));
     Ok(())
 }

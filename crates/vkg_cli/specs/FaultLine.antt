@@ -1,7 +1,7 @@
 -- The lines of the standard error: `vkg: `, the code of the check, its words, ` at ` and the places.
 use Rattle.std.specs.Prelude.{ℕ, List, [], ◌++◌, codes, decimal, slice_get, unwrap_or, map}
-use Rattle.vkg_base.specs.declared.answers.Status.{Status}
-use Rattle.vkg_base.specs.declared.answers.Status.TheVariants.{BadSchema, BadTable, BadMapping}
+use Rattle.vkg_base.specs.declared.status.Status.{Status}
+use Rattle.vkg_base.specs.declared.status.Status.TheVariants.{BadSchema, BadTable, BadMapping}
 use Rattle.vkg_cli.specs.declared.fault_line.TheConstants.{SCHEMA_CHECKS, TABLE_CHECKS}
 use Rattle.vkg_cli.specs.declared.stops.Fault.{Fault}
 use Rattle.vkg_cli.specs.declared.stops.Fault.TheVariants.{Schema, Table, Keyless, TooManyRules}
