@@ -1,5 +1,5 @@
-pub mod Outside
-pub mod Answers
 pub mod InMemory
-pub mod Ascending
+pub mod Outside
+pub mod Status
+pub mod Written
 pub mod formers

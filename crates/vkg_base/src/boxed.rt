@@ -6,7 +6,8 @@ use std::boxed;
 use std::marker::Model;
 use std::ops::Deref;
 
-/// A box that contracts see as its value, so that a copy equals what it copies.
+/// A value on the heap. It is seen as the value itself, so that a copy equals what it copies, and a type may hold itself
+/// in it.
 #[derive(Debug, Drop)]
 pub struct Box<T> {
     inner: boxed::Box<T>,

@@ -5,7 +5,8 @@ use crate::Memory;
 use std::alloc::Global;
 use std::marker::Model;
 
-/// A `Vec` that contracts see as the list of its elements, so that a copy equals what it copies.
+/// A list on the heap. It is seen as the list of its items, so that a copy equals what it copies, and a type may hold
+/// items of itself in it.
 #[derive(Debug, Drop)]
 pub struct Items<T> {
     items: Vec<T>,
@@ -23,6 +24,7 @@ impl<T> Model for Items<T> {
 }
 
 impl<T> Items<T> {
+    /// A list without items, which keeps the allocator.
     pub fn new(alloc: Global) -> Items<T>
         ensures { result ≡ [] }
     {
@@ -44,7 +46,7 @@ impl<T> Items<T> {
         items
     }
 
-    /// The allocator of the list.
+    /// The allocator that the list keeps.
     pub fn alloc(&self) -> Global {
         *self.items.allocator()
     }
@@ -68,17 +70,19 @@ impl<T> Items<T> {
         self.items.get(at)
     }
 
-    /// Moves the items of `more` to the end.
+    /// Moves the items of `more` to the end. At want of memory they are dropped.
     pub fn append(&mut self, more: Items<T>) -> Result<(), Memory>
     where
         T: Drop,
-        ensures { OnOk result (self.new ≡ self.old ++ more) }
+        ensures ok { OnOk result (self.new ≡ self.old ++ more) }
+        ensures err { OnErr result (self.new ≡ self.old) }
     {
         let Items { mut items } = more;
         self.items.append(&mut items)?;
         Ok(())
     }
 
+    /// Takes the last item off.
     pub fn pop(&mut self) -> Option<T>
         ensures { MatchOption result ((self.old ≡ []) × (self.new ≡ [])) (λ last. self.old ≡ self.new ++ last ∷ []) }
     {
@@ -102,6 +106,7 @@ impl<T: Copy> Items<T> {
 }
 
 impl<T: Drop> Items<T> {
+    /// Takes the item at a place off. It costs a move of each item behind it.
     pub fn remove(&mut self, at: usize) -> T
         requires { at < length self.old }
         ensures item { slice_get self.old at ≡ Some result }
@@ -117,6 +122,7 @@ impl<T: Drop> Items<T> {
         self.items[at] = item;
     }
 
+    /// Adds an item at the end.
     pub fn push(&mut self, item: T) -> Result<(), Memory>
         ensures ok { OnOk result (self.new ≡ self.old ++ item ∷ []) }
         ensures err { OnErr result (self.new ≡ self.old) }

@@ -1,22 +1,39 @@
-//! The outside of the program: stores and sinks that count their faults, lines of text, statuses.
+//! What stands outside of the program and what every part of it shares: stores of files and sinks of bytes that count
+//! their faults, in memory and of the system; lines of text that are made before the first is written; the statuses;
+//! want of memory; and the containers `Box`, `Items` and `Text`, which contracts see as what they hold.
+//!
+//! It promises: a fault is answered only where its count rose, lines are sorted by their bytes and written in order.
+//! It stands on vkg_lists, and on itoa for the decimal digits of a number.
 #![tactic(auto)]
 
-mod answers;
 mod boxed;
 mod fixed_line;
-mod host;
-mod in_memory;
+mod host_sink;
+mod host_store;
 mod items;
+mod line;
 mod lines;
-mod outside;
+mod mem_sink;
+mod mem_store;
+mod memory;
+mod sink;
+mod status;
+mod store;
 mod text;
 
-pub use answers::Status;
 pub use boxed::Box;
 pub use fixed_line::FixedLine;
-pub use host::{HostSink, HostStore};
-pub use in_memory::{MemSink, MemStore};
+pub use host_sink::HostSink;
+pub use host_store::HostStore;
 pub use items::{Items, at};
 pub use lines::Lines;
-pub use outside::{Failed, LoadFault, Memory, Sink, Store, WriteFault};
+pub use mem_sink::MemSink;
+pub use mem_store::MemStore;
+pub use memory::Memory;
+pub use sink::{Failed, Sink, WriteFault};
+pub use status::Status;
+pub use store::{LoadFault, Store};
 pub use text::Text;
+
+#[cfg(test)]
+mod tests;

@@ -7,10 +7,12 @@ use Rattle.vkg_grammar.specs.Tables.{HasText}
 use Rattle.vkg_grammar.proofs.Core.{join, moved}
 use Rattle.std.proofs.lemmas.List.{append-nil}
 use Rattle.vkg_grammar.specs.declared.rule.Rule.{Rule}
-use Rattle.vkg_grammar.specs.declared.rule.Rule.TheVariants.{Token}
+use Rattle.vkg_grammar.specs.declared.rule.Rule.TheVariants.{Token, Empty, Then, Either, Optional, Repeated}
 use Rattle.vkg_grammar.specs.Grammar.{noted, at_parts, at_first, at_second, Shape, One, Parts, Choice, shape, shape_of, Derives, done, read, parts, first, second, MayBeEmpty, MayFollow, within, at_end, IsWay, the_parts, the_first, the_second, Starts, IsGrammar, IsProductive, IsLL1, AllBelow}
 use Rattle.vkg_grammar.specs.Machine.{Sees, at_token, at_end_of}
-use Rattle.vkg_grammar.specs.Certified.{Claim, none_claimed, holds, within_all, apart_all, both, if_so, claim_at, empty_way, begin_more, begin_way, follow_way, way_claimed, starts_way, shape_claimed, all_claimed, lower_way, either, shape_lower, all_lower, all_below, shape_below, all_closed}
+use Rattle.vkg_grammar.specs.Certified.{Claim, none_claimed, holds, within_all, apart_all, both, if_so, claim_at, empty_way, begin_more, begin_way, follow_way, way_claimed, starts_way, shape_claimed, all_claimed, lower_way, either, shape_lower, all_lower, all_below, shape_below, all_closed, rule_fits, all_fit}
+use Rattle.vkg_grammar.specs.Form.{HasKinds}
+use Rattle.vkg_grammar.specs.Laws.{CertificatesHold}
 use Rattle.vkg_grammar.proofs.Stepping.{below_way}
 use Rattle.vkg_grammar.proofs.Following.{way_inside}
 
@@ -237,3 +239,23 @@ pub passes_ll1 : (g : List Rule) (cs : List Claim) → 0 < length g → all_clos
 passes_ll1 g cs pos closed claims levels =
     certified g (is_grammar g pos closed) cs (λ n h. claimed_each cs 0 g cs n n (omega arith) h claims)
     (certified_productive g (is_grammar g pos closed) cs (λ n h. lower_each cs 0 g cs n n (omega arith) h levels))
+
+-- The kinds fit.
+kind_fits : (kinds n k : ℕ) (r : Rule) → shape n r ≡ One k → rule_fits kinds r ≡ true → k < kinds
+kind_fits kinds n k (Token j) e f = let same : j ≡ k = cc in subst (λ x. x < kinds) same (ltb-true j kinds f)
+kind_fits kinds n k Empty e f = absurd (cc)
+kind_fits kinds n k (Then a b) e f = absurd (cc)
+kind_fits kinds n k (Either a b) e f = absurd (cc)
+kind_fits kinds n k (Optional a) e f = absurd (cc)
+kind_fits kinds n k (Repeated a) e f = absurd (cc)
+
+fits_at : (kinds n k i : ℕ) (g : List Rule) → i < length g → shape n (get_or g i (Token 0)) ≡ One k → all_fit kinds g ≡ true → k < kinds
+fits_at kinds n k i [] h e f = absurd (omega arith)
+fits_at kinds n k zero (r ∷ g) h e f = kind_fits kinds n k r e (both_first (rule_fits kinds r) (all_fit kinds g) f)
+fits_at kinds n k (suc i) (r ∷ g) h e f = fits_at kinds n k i g (omega arith) e (both_second (rule_fits kinds r) (all_fit kinds g) f)
+
+pub has_kinds : (kinds : ℕ) (g : List Rule) → all_fit kinds g ≡ true → HasKinds g kinds
+has_kinds kinds g f = λ n k h e. fits_at kinds n k n g h e f
+
+pub certificates_hold : CertificatesHold
+certificates_hold g kinds cs c = (is_grammar g c.some c.closed, has_kinds kinds g c.fits, passes_ll1 g cs c.some c.closed c.claimed c.lower)

@@ -1,5 +1,5 @@
 -- A symbol that may be empty does not begin with what may follow it.
-use Rattle.std.proofs.Common.{◌≡◌, ℕ, ◌<◌, Bool, inl, inr, List, [], ◌∷◌, ◌++◌, length, refl, sym, subst, append_assoc}
+use Rattle.std.proofs.Common.{◌≡◌, ℕ, ◌<◌, inl, inr, List, [], ◌∷◌, ◌++◌, length, refl, sym, subst, append_assoc}
 use Rattle.vkg_grammar.specs.declared.note.Note.{Note}
 use Rattle.vkg_grammar.specs.declared.rule.Rule.{Rule}
 use Rattle.vkg_grammar.specs.Grammar.{Derives, done, parts, first, second, MayBeEmpty, MayBegin, IsWay, the_parts, the_first, the_second, MayFollow, within, at_end, IsLL1, IsGrammar, AllBelow}

@@ -1,10 +1,10 @@
 -- Lemmas on derivations that know nothing of the code.
-use Rattle.std.proofs.Common.{◌≡◌, ℕ, ◌<◌, Bool, true, false, inl, inr, List, [], ◌∷◌, ◌++◌, length, Option, Some, None, refl, ap, sym, ◌∙◌, subst, append_assoc}
+use Rattle.std.proofs.Common.{◌≡◌, ℕ, ◌<◌, inl, inr, List, [], ◌∷◌, ◌++◌, length, Option, Some, None, refl, ap, sym, ◌∙◌, subst, append_assoc}
 use Rattle.vkg_grammar.specs.declared.note.Act.TheVariants.{Leaf}
 use Rattle.vkg_grammar.specs.declared.note.Note.{Note}
 use Rattle.vkg_grammar.specs.declared.rule.Rule.{Rule}
 use Rattle.vkg_grammar.specs.Machine.{Sees, at_end_of, at_token, Ahead}
-use Rattle.vkg_grammar.specs.Grammar.{noted, at_parts, at_first, at_second, One, Parts, Choice, shape_of, Derives, done, read, parts, first, second, MayBeEmpty, MayBegin, MayFollow, Starts, IsLL1}
+use Rattle.vkg_grammar.specs.Grammar.{noted, at_parts, at_first, at_second, Choice, shape_of, Derives, done, read, parts, first, second, MayBeEmpty, MayBegin, MayFollow, Starts, IsLL1}
 
 pub record Split (g : List Rule) (xs s ts : List ℕ) (ws : List Note) : Type 0 where
   pub front : List ℕ

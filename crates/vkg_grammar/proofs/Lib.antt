@@ -11,3 +11,13 @@ pub mod Texts
 pub mod Following
 pub mod Checking
 pub mod Certifying
+pub mod Deepening
+pub mod Outcomes
+pub mod Forests
+pub mod Decode
+pub mod Tops
+pub mod BySteps
+pub mod Growing
+pub mod Same
+pub mod Shapes
+pub mod Rooting

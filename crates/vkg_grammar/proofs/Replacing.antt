@@ -1,11 +1,14 @@
 -- The goals of `expand`, over plain variables.
-use Rattle.std.proofs.Common.{◌≡◌, ℕ, zero, suc, ◌+◌, ◌*◌, ◌<◌, Bool, true, false, ◌⊎◌, inl, inr, List, [], ◌∷◌, ◌++◌, length, get_or, Option, Some, None, refl, ap, sym, ◌∙◌, subst, append-nil, arith, reverse}
+use Rattle.std.proofs.Common.{◌≡◌, ℕ, zero, suc, ◌+◌, ◌*◌, ◌<◌, ◌⊎◌, inl, inr, List, [], ◌∷◌, ◌++◌, length, get_or, Option, Some, None, refl, ap, sym, ◌∙◌, subst, arith, reverse}
 use Rattle.std.proofs.lemmas.List.{reverse-append}
 use Rattle.std.proofs.lemmas.Nat.{mul-add-lt}
 use Rattle.vkg_grammar.specs.declared.note.Note.{Note}
 use Rattle.vkg_grammar.specs.declared.note.Act.TheVariants.{Leaf}
 use Rattle.vkg_grammar.specs.declared.rule.Rule.{Rule}
+use Rattle.vkg_grammar.specs.declared.machine.Step.{Step}
 use Rattle.vkg_grammar.specs.declared.machine.Step.TheVariants.{Taken, More}
+use Rattle.std.specs.Prelude.{Result, Ok, Err, IfOk}
+use Rattle.std.specs.declared.alloc.AllocError.{AllocError}
 use Rattle.vkg_grammar.specs.Grammar.{noted, at_parts, at_first, at_second, One, Parts, Choice, shape_of, IsLL1, IsGrammar, AllBelow}
 use Rattle.vkg_grammar.specs.Rank.{column, Begins, IsTable, height, HasRows, AllHaveRows, ShapeFalls}
 use Rattle.vkg_grammar.specs.Machine.{Ahead, move_parts, move_first, move_second, HasStepped, Picked}
@@ -60,3 +63,8 @@ is_stuck_at {g = g} {rank = rank} {c = c} {n = n} w t h z =
 
 pub pushed : (before : List ℕ) {after : List ℕ} {x : ℕ} → after ≡ before ++ x ∷ [] → reverse after ≡ x ∷ reverse before
 pushed before {x = x} e = ap reverse e ∙ reverse-append before (x ∷ [])
+
+-- What is so where one more note was made is so of what `noted` answers.
+pub ok_more : (r : Result Step AllocError) (P : Step → Type 0) (old new : List Note) (m : Note) → (new ≡ old ++ m ∷ [] → P More) → IfOk r (λ s. (s ≡ More) × (new ≡ old ++ m ∷ [])) → IfOk r P
+ok_more (Ok s) P old new m so h = subst P (sym h.0) (so h.1)
+ok_more (Err e) P old new m so h = tt

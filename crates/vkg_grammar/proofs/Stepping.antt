@@ -1,11 +1,11 @@
 -- What the steps of the parser keep, over derivations alone.
-use Rattle.std.proofs.Common.{◌≡◌, ℕ, Bool, true, false, ◌⊎◌, inl, inr, List, [], ◌∷◌, ◌++◌, length, Option, Some, None, refl, ap, sym, ◌∙◌, subst, append_assoc}
+use Rattle.std.proofs.Common.{◌≡◌, ℕ, ◌⊎◌, inl, inr, List, [], ◌∷◌, ◌++◌, length, Option, Some, None, refl, ap, sym, ◌∙◌, subst, append_assoc}
 use Rattle.vkg_grammar.specs.declared.note.Act.TheVariants.{Leaf}
 use Rattle.vkg_grammar.specs.declared.note.Note.{Note}
 use Rattle.vkg_grammar.specs.declared.rule.Rule.{Rule}
 use Rattle.vkg_grammar.specs.Machine.{Sees, at_end_of, at_token, Ahead, Fits, Picked, begins, empties, Reach, Takes, IsDead}
 use Rattle.vkg_grammar.specs.Grammar.{noted, at_parts, at_first, at_second, One, Parts, Choice, shape_of, Derives, read, parts, first, second, MayBegin, IsWay, the_parts, the_first, the_second, MayFollow, within, at_end, IsLL1, IsGrammar, AllBelow}
-use Rattle.vkg_grammar.proofs.Core.{Split, split, moved, spelled, Apart, apart, apart_other, starts_seen, forced, forced_empty, head_is, tail_is}
+use Rattle.vkg_grammar.proofs.Core.{Split, split, spelled, Apart, apart, apart_other, starts_seen, forced, forced_empty, head_is, tail_is}
 
 pub fits_way : {g : List Rule} {n : ℕ} {s : List ℕ} (before xs : List ℕ) → IsWay g n (before ++ xs) → ((k : ℕ) → MayBegin g s k → MayFollow g n k) → Fits g s → Fits g (xs ++ s)
 fits_way before [] w f fs = fs

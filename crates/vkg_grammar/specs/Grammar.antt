@@ -1,15 +1,10 @@
-use Rattle.std.specs.Prelude.{◌≡◌, ℕ, ◌<◌, Bool, true, false, ◌⊎◌, List, [], ◌∷◌, ◌++◌, length, get_or}
+-- Grammars, what they derive, and when they are LL(1).
+use Rattle.std.specs.Prelude.{◌≡◌, ℕ, ◌<◌, ◌⊎◌, List, [], ◌∷◌, ◌++◌, length, get_or}
 use Rattle.vkg_grammar.specs.declared.note.Act.{Act}
 use Rattle.vkg_grammar.specs.declared.note.Note.{Note}
 use Rattle.vkg_grammar.specs.declared.note.Act.TheVariants.{Leaf, Nothing, Pair, First, Second}
 use Rattle.vkg_grammar.specs.declared.rule.Rule.{Rule}
 use Rattle.vkg_grammar.specs.declared.rule.Rule.TheVariants.{Token, Empty, Then, Either, Optional, Repeated}
-
-abbrev pub way_count : Rule → ℕ
-way_count (Token k) = 0
-way_count Empty = 1
-way_count (Then a b) = 1
-way_count _ = 2
 
 -- How a symbol is made: a token of one kind, some symbols one after another, or one of two such ways.
 pub data Shape : Type 0 where
@@ -26,6 +21,7 @@ shape n (Either a b) = Choice (a ∷ []) (b ∷ [])
 shape n (Optional a) = Choice (a ∷ []) []
 shape n (Repeated a) = Choice (a ∷ n ∷ []) []
 
+-- the shape of the symbol n
 abbrev pub shape_of : List Rule → ℕ → Shape
 shape_of g n = shape n (get_or g n (Token 0))
 

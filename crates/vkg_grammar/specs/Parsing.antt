@@ -1,9 +1,10 @@
--- What the parser says of a list of kinds.
-use Rattle.std.specs.Prelude.{◌≡◌, ℕ, ◌+◌, ◌<◌, Bool, List, [], ◌∷◌, length, take}
+-- What the parser says of a list of tokens, by their kinds.
+use Rattle.std.specs.Prelude.{◌≡◌, ℕ, ◌+◌, ◌<◌, List, [], ◌∷◌, length, take}
 use Rattle.vkg_grammar.specs.declared.note.Note.{Note}
 use Rattle.vkg_grammar.specs.declared.rule.Rule.{Rule}
 use Rattle.vkg_grammar.specs.declared.parsing.ParseFault.{ParseFault}
-use Rattle.vkg_grammar.specs.declared.parsing.ParseFault.TheVariants.{Memory, Dead, Ended}
+use Rattle.vkg_grammar.specs.declared.parsing.ParseFault.TheVariants.{Memory, TooDeep, Dead, Ended}
+use Rattle.vkg_grammar.specs.Form.{Form, IsTooDeep, IsShallow}
 use Rattle.vkg_grammar.specs.Grammar.{Derives, IsAlive}
 
 -- n is the least number such that no text of the grammar begins with the first n + 1 tokens.
@@ -17,13 +18,21 @@ pub record IsCutOff (g : List Rule) (ts : List ℕ) : Type 0 where
   pub alive : IsAlive g ts
   pub no_text : (ws : List Note) → Derives g (0 ∷ []) ts ws → ⊥
 
--- These are the ways of the one derivation.
+-- These are the notes of the one derivation.
 pub record IsTheText (g : List Rule) (ts : List ℕ) (ws : List Note) : Type 0 where
   pub derives : Derives g (0 ∷ []) ts ws
   pub only : (vs : List Note) → Derives g (0 ∷ []) ts vs → vs ≡ ws
 
--- When each error comes.
-abbrev pub Fails : List Rule → List ℕ → ParseFault → Type 0
+-- Why the machine stops, where it stops.
+abbrev pub Stops : List Rule → List ℕ → ParseFault → Type 0
+Stops g ts Memory = Unit {0}
+Stops g ts (TooDeep n) = ⊥
+Stops g ts (Dead n) = IsFirstDead g ts n
+Stops g ts Ended = IsCutOff g ts
+
+-- When each error comes: the depth is looked at first.
+abbrev pub Fails : Form → List ℕ → ParseFault → Type 0
 Fails g ts Memory = Unit {0}
-Fails g ts (Dead n) = IsFirstDead g ts n
-Fails g ts Ended = IsCutOff g ts
+Fails g ts (TooDeep n) = IsTooDeep g ts n
+Fails g ts (Dead n) = IsShallow g ts × IsFirstDead g.rules ts n
+Fails g ts Ended = IsShallow g ts × IsCutOff g.rules ts

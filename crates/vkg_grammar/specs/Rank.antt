@@ -18,6 +18,7 @@ abbrev pub Begins : (ℕ → Option ℕ → ℕ) → Option ℕ → List ℕ →
 Begins rank c [] = c ≡ None
 Begins rank c (x ∷ xs) = ((k : ℕ) × (c ≡ Some k) × (0 < rank x (Some k))) ⊎ ((0 < rank x None) × Begins rank c xs)
 
+-- by the table, a symbol of this shape begins with c
 abbrev pub ShapeBegins : (ℕ → Option ℕ → ℕ) → Option ℕ → Shape → Type 0
 ShapeBegins rank c (One k) = c ≡ Some k
 ShapeBegins rank c (Parts xs) = Begins rank c xs
@@ -29,6 +30,7 @@ pub data Falls (rank : ℕ → Option ℕ → ℕ) (r : ℕ) : Option ℕ → Li
   falls_here : {k x : ℕ} {xs : List ℕ} → 0 < rank x (Some k) → rank x (Some k) < r → Falls rank r (Some k) (x ∷ xs)
   falls_later : {c : Option ℕ} {x : ℕ} {xs : List ℕ} → 0 < rank x None → rank x None < r → Falls rank r c xs → Falls rank r c (x ∷ xs)
 
+-- a symbol of this shape begins with c by what was found before r
 abbrev pub ShapeFalls : (ℕ → Option ℕ → ℕ) → ℕ → Option ℕ → Shape → Type 0
 ShapeFalls rank r c (One k) = c ≡ Some k
 ShapeFalls rank r c (Parts xs) = Falls rank r c xs
@@ -44,6 +46,7 @@ abbrev pub tri : ℕ → ℕ
 tri zero = 1
 tri (suc n) = 3 * tri n
 
+-- the bound of a symbol that begins with the next token: by its rank, or the other where it does not begin so
 abbrev pub at_rank : ℕ → ℕ → ℕ
 at_rank zero other = other
 at_rank (suc r) other = tri (suc r)

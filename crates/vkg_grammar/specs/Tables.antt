@@ -50,6 +50,7 @@ ShapeFound table (One k) = Unit {0}
 ShapeFound table (Parts xs) = AllFound table xs
 ShapeFound table (Choice xs ys) = AllFound table xs ⊎ AllFound table ys
 
+-- the symbol derives some list if the symbols that are found do
 abbrev pub TextReason : List Rule → List ℕ → ℕ → Type 0
 TextReason g table n = ShapeFound table (shape_of g n)
 
@@ -62,6 +63,7 @@ abbrev pub PlaceFollows : (ℕ → Option ℕ → ℕ) → Type 0 → ℕ → Op
 PlaceFollows rank behind n c [] = ⊥
 PlaceFollows rank behind n c (x ∷ xs) = ((x ≡ n) × (((k : ℕ) × (c ≡ Some k) × Begins rank c xs) ⊎ (Begins rank None xs × behind))) ⊎ PlaceFollows rank behind n c xs
 
+-- by its place in a symbol of this shape, c may come behind n
 abbrev pub ShapeFollows : (ℕ → Option ℕ → ℕ) → Type 0 → ℕ → Option ℕ → Shape → Type 0
 ShapeFollows rank behind n c (One k) = ⊥
 ShapeFollows rank behind n c (Parts xs) = PlaceFollows rank behind n c xs
@@ -71,6 +73,7 @@ ShapeFollows rank behind n c (Choice xs ys) = PlaceFollows rank behind n c xs �
 abbrev pub HasPlace : List Rule → (ℕ → Option ℕ → ℕ) → List ℕ → ℕ → ℕ → Option ℕ → Type 0
 HasPlace g rank follow width n c = (m : ℕ) × (m < length g) × ShapeFollows rank (0 < rank_in follow width m c) n c (shape_of g m)
 
+-- the symbol of this cell has a reason by the tables to be followed by what the cell's column is for
 abbrev pub FollowReason : List Rule → (ℕ → Option ℕ → ℕ) → ℕ → List ℕ → ℕ → Type 0
 FollowReason g rank width follow i = HasPlace g rank follow width (i / width) (seen_at (i % width))
 
@@ -82,6 +85,7 @@ StartsBy rank follow width n k xs = Begins rank (Some k) xs ⊎ (Begins rank Non
 abbrev pub WaysApart : (ℕ → Option ℕ → ℕ) → List ℕ → ℕ → ℕ → List ℕ → List ℕ → Type 0
 WaysApart rank follow width n xs ys = (Begins rank None xs → Begins rank None ys → ⊥) × ((k : ℕ) → k + 1 < width → StartsBy rank follow width n k xs → StartsBy rank follow width n k ys → ⊥)
 
+-- by the tables, the ways of a symbol of this shape are apart
 abbrev pub ShapeApart : (ℕ → Option ℕ → ℕ) → List ℕ → ℕ → ℕ → Shape → Type 0
 ShapeApart rank follow width n (One k) = Unit {0}
 ShapeApart rank follow width n (Parts xs) = Unit {0}

@@ -4,12 +4,14 @@ ghost use Rattle.vkg_grammar.specs.Rank.{rank_in, HasRows, AllHaveRows};
 ghost use Rattle.vkg_grammar.specs.Tables.{HasColumns, StartsBy, WaysApart, ShapeApart};
 
 use crate::follow::follow_table;
+use crate::grammar::Grammar;
 use crate::productive::is_productive;
 use crate::rule::Rule;
 use crate::table::{begin_table, begins, is_ranked};
-use std::alloc::Global;
+use std::alloc::{AllocError, Global};
 use vkg_base::Memory;
 
+// Whether this kind begins this way of the symbol: it begins what the way is made of, or the way may be empty and it may follow.
 pub(crate) fn starts(
     table: &[usize],
     follow: &[usize],
@@ -28,6 +30,7 @@ pub(crate) fn starts(
     begins(table, width, way, None) && is_ranked(follow, width, symbol, Some(kind))
 }
 
+// Whether this kind begins both ways of the symbol.
 pub(crate) fn both_start(
     table: &[usize],
     follow: &[usize],
@@ -49,7 +52,7 @@ pub(crate) fn both_start(
     starts(table, follow, width, symbol, kind, second)
 }
 
-// Whether no kind begins both notes.
+// Whether no kind begins both ways.
 pub(crate) fn kinds_apart(
     table: &[usize],
     follow: &[usize],
@@ -73,7 +76,7 @@ pub(crate) fn kinds_apart(
     true
 }
 
-// Whether at most one of two notes may be empty and no kind begins both.
+// Whether at most one of two ways may be empty and no kind begins both.
 pub(crate) fn are_apart(
     table: &[usize],
     follow: &[usize],
@@ -99,7 +102,7 @@ pub(crate) fn are_apart(
     kinds_apart(table, follow, width, symbol, first, second)
 }
 
-// Whether the notes of a symbol are apart.
+// Whether the ways of a symbol are apart.
 pub(crate) fn is_apart(
     rules: &[Rule],
     table: &[usize],
@@ -126,6 +129,7 @@ pub(crate) fn is_apart(
     }
 }
 
+// Whether the ways of each symbol are apart.
 pub(crate) fn all_apart(rules: &[Rule], table: &[usize], follow: &[usize], width: usize) -> bool
     requires grammar { IsGrammar rules.now }
     requires sized { length table.now ≡ width * length rules.now }
@@ -141,8 +145,8 @@ pub(crate) fn all_apart(rules: &[Rule], table: &[usize], follow: &[usize], width
     true
 }
 
-/// Whether the grammar is LL(1).
-pub fn check_ll1(alloc: Global, rules: &[Rule], width: usize) -> Result<bool, Memory>
+// Whether the grammar of these rules is LL(1), by its tables of this width.
+pub(crate) fn are_ll1(alloc: Global, rules: &[Rule], width: usize) -> Result<bool, AllocError>
     requires grammar { IsGrammar rules.now }
     requires columns { HasColumns rules.now width }
     requires wide { 0 < width }
@@ -155,4 +159,12 @@ pub fn check_ll1(alloc: Global, rules: &[Rule], width: usize) -> Result<bool, Me
     let table = begin_table(alloc, rules, width)?;
     let follow = follow_table(alloc, rules, &table, width)?;
     Ok(all_apart(rules, &table, &follow, width))
+}
+
+/// Whether the grammar is LL(1): every symbol derives some list of tokens, and at each choice, option and repetition at most
+/// one way may be empty and no kind of token begins two ways (where a way may be empty, what may follow there begins it too).
+pub fn check_ll1(alloc: Global, grammar: &Grammar) -> Result<bool, Memory>
+    ensures { IfOk result (λ b. IsTrue b ↔ IsLL1 grammar.now.rules) }
+{
+    Ok(are_ll1(alloc, grammar.rules(), grammar.width())?)
 }

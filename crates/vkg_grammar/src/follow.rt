@@ -27,6 +27,7 @@ pub(crate) fn place_follows(
     false
 }
 
+// Whether what is seen begins the symbols after a place, or they may be empty and it may come behind them.
 pub(crate) fn follows_before(
     table: &[usize],
     width: usize,
@@ -44,7 +45,7 @@ pub(crate) fn follows_before(
     behind && begins(table, width, after, None)
 }
 
-// Whether by its place in the notes of the parent what is seen may come behind the symbol.
+// Whether by its place in the ways of the parent what is seen may come behind the symbol.
 pub(crate) fn symbol_follows(
     rules: &[Rule],
     table: &[usize],
@@ -75,6 +76,7 @@ pub(crate) fn symbol_follows(
     }
 }
 
+// The same of the parent, by what was found to follow the parent itself.
 pub(crate) fn parent_follows(
     rules: &[Rule],
     table: &[usize],
@@ -118,6 +120,7 @@ pub(crate) fn has_place(
     false
 }
 
+// What the next round finds for a cell: what was found stays.
 pub(crate) fn follow_cell(
     rules: &[Rule],
     table: &[usize],
@@ -144,6 +147,7 @@ pub(crate) fn follow_cell(
     }
 }
 
+// One round over all cells, and whether it changed any.
 pub(crate) fn follow_round(
     alloc: Global,
     rules: &[Rule],

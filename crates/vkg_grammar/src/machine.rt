@@ -1,5 +1,6 @@
-ghost use Rattle.std.specs.Prelude.{◌≡◌, ◌*◌, ◌<◌, ◌⊎◌, length, reverse, IsTrue, IfOk, None, false};
-ghost use Rattle.vkg_grammar.specs.Grammar.{IsGrammar, IsLL1, AllBelow};
+ghost use Rattle.std.specs.Prelude.{◌≡◌, ◌*◌, ◌<◌, ◌⊎◌, ◌++◌, ◌∷◌, [], length, reverse, IsTrue, IfOk, None, false};
+ghost use Rattle.vkg_grammar.specs.declared.machine.Step.TheVariants.{More};
+ghost use Rattle.vkg_grammar.specs.Grammar.{noted as noted_lem, IsGrammar, IsLL1, AllBelow};
 ghost use Rattle.vkg_grammar.specs.Rank.{column, rank_in, Begins, IsTable, HasRows, AllHaveRows};
 ghost use Rattle.vkg_grammar.specs.Machine.{Fits, HasStepped, Advances};
 
@@ -15,7 +16,7 @@ pub(crate) enum Step {
     More,
 }
 
-// Whether the first of two notes is taken where this is seen.
+// Whether the first of two ways is taken where this is seen.
 pub(crate) fn takes_first(
     table: &[usize],
     width: usize,
@@ -51,6 +52,14 @@ pub(crate) fn is_stuck(table: &[usize], width: usize, symbol: usize, seen: Optio
     rank(table, width, symbol, None) == 0
 }
 
+// Notes how the symbol was made, where its parts stand on the stack.
+fn noted(notes: &mut Vec<Note>, symbol: usize, act: Act) -> Result<Step, AllocError>
+    ensures { IfOk result (λ step. (step ≡ More) × (notes.new.items ≡ notes.old.items ++ noted_lem symbol act ∷ [])) }
+{
+    notes.push(Note { symbol, act })?;
+    Ok(Step::More)
+}
+
 // Replaces the symbol, which was taken from the stack, by what it is made of.
 pub(crate) fn expand(
     rules: &[Rule],
@@ -75,77 +84,37 @@ pub(crate) fn expand(
     }
     match rules[symbol] {
         Rule::Token(_) => {
-            notes.push(Note {
-                symbol,
-                act: Act::Leaf,
-            })?;
+            let _more = noted(notes, symbol, Act::Leaf)?;
             Ok(Step::Taken)
         }
-        Rule::Empty => {
-            notes.push(Note {
-                symbol,
-                act: Act::Nothing,
-            })?;
-            Ok(Step::More)
-        }
+        Rule::Empty => noted(notes, symbol, Act::Nothing),
         Rule::Then(first, second) => {
             stack.push(second)?;
             stack.push(first)?;
-            notes.push(Note {
-                symbol,
-                act: Act::Pair,
-            })?;
-            Ok(Step::More)
+            noted(notes, symbol, Act::Pair)
         }
         Rule::Either(first, second) => {
             if takes_first(table, width, &[first], &[second], seen) {
                 stack.push(first)?;
-                notes.push(Note {
-                    symbol,
-                    act: Act::First,
-                })?;
-                Ok(Step::More)
-            } else {
-                stack.push(second)?;
-                notes.push(Note {
-                    symbol,
-                    act: Act::Second,
-                })?;
-                Ok(Step::More)
+                return noted(notes, symbol, Act::First);
             }
+            stack.push(second)?;
+            noted(notes, symbol, Act::Second)
         }
         Rule::Optional(part) => {
-            if takes_first(table, width, &[part], &[], seen) {
-                stack.push(part)?;
-                notes.push(Note {
-                    symbol,
-                    act: Act::First,
-                })?;
-                Ok(Step::More)
-            } else {
-                notes.push(Note {
-                    symbol,
-                    act: Act::Nothing,
-                })?;
-                Ok(Step::More)
+            if !takes_first(table, width, &[part], &[], seen) {
+                return noted(notes, symbol, Act::Nothing);
             }
+            stack.push(part)?;
+            noted(notes, symbol, Act::First)
         }
         Rule::Repeated(part) => {
-            if takes_first(table, width, &[part, symbol], &[], seen) {
-                stack.push(symbol)?;
-                stack.push(part)?;
-                notes.push(Note {
-                    symbol,
-                    act: Act::Pair,
-                })?;
-                Ok(Step::More)
-            } else {
-                notes.push(Note {
-                    symbol,
-                    act: Act::Nothing,
-                })?;
-                Ok(Step::More)
+            if !takes_first(table, width, &[part, symbol], &[], seen) {
+                return noted(notes, symbol, Act::Nothing);
             }
+            stack.push(symbol)?;
+            stack.push(part)?;
+            noted(notes, symbol, Act::Pair)
         }
     }
 }

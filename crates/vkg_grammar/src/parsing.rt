@@ -1,21 +1,27 @@
-ghost use Rattle.std.specs.Prelude.{◌≡◌, ℕ, ◌+◌, ◌*◌, ◌^◌, ◌<◌, length, IfOk, IfErr, slice_index};
+ghost use Rattle.std.specs.Prelude.{◌≡◌, ◌-◌, ◌*◌, ◌<◌, length, IfOk, IfErr, OnOk};
+ghost use Rattle.vkg_grammar.specs.Form.{IsShallow};
 ghost use Rattle.vkg_grammar.specs.Grammar.{IsGrammar, IsLL1};
+ghost use Rattle.vkg_grammar.specs.Kinds.{kinds_of, AreBelow};
 ghost use Rattle.vkg_grammar.specs.Rank.{rank_in, IsTable};
-ghost use Rattle.vkg_grammar.specs.Tables.{HasColumns};
 ghost use Rattle.vkg_grammar.specs.declared.parsing.ParseFault.TheVariants.{Memory};
-ghost use Rattle.vkg_grammar.specs.Parsing.{IsTheText, Fails};
+ghost use Rattle.vkg_grammar.specs.Parsing.{IsTheText, Stops, Fails};
 
+use crate::depth::first_too_deep;
+use crate::grammar::Grammar;
 use crate::machine::advance;
 use crate::note::Note;
 use crate::rule::Rule;
 use crate::table::begin_table;
 use std::alloc::{AllocError, AllocFailed, Global};
+use vkg_tokens::Token;
 
-/// Why there is no tree.
-#[derive(Debug, Drop)]
+/// Why tokens are no text of a grammar, with the number of a token, counted from 0.
+#[derive(Clone, Copy, Debug, PartialEq, Eq)]
 pub enum ParseFault {
     /// Memory ran out.
     Memory,
+    /// Behind this token more brackets are open than the grammar allows.
+    TooDeep { index: usize },
     /// No text of the grammar begins with the tokens up to and with this one.
     Dead { index: usize },
     /// The tokens begin a text of the grammar, and are none.
@@ -44,22 +50,29 @@ pub(crate) fn parse_by(
     rules: &[Rule],
     table: &[usize],
     width: usize,
-    kinds: &[usize],
+    tokens: &[Token],
 ) -> Result<Vec<Note>, ParseFault>
     requires grammar { IsGrammar rules.now }
     requires ll1 { IsLL1 rules.now }
     requires is_table { IsTable rules.now (rank_in table.now width) }
     requires sized { length table.now ≡ width * length rules.now }
     requires wide { 0 < width }
-    requires in_columns { (i : ℕ) → i < length kinds.now → slice_index kinds.now i + 1 < width }
-    ensures text { IfOk result (λ notes. IsTheText rules.now kinds.now notes.items) }
-    ensures fails { IfErr result (Fails rules.now kinds.now) }
+    requires in_columns { AreBelow (width - 1) tokens.now }
+    ensures text { IfOk result (λ notes. IsTheText rules.now (kinds_of tokens.now) notes.items) }
+    ensures stops { IfErr result (Stops rules.now (kinds_of tokens.now)) }
 {
     let mut stack = Vec::new(alloc);
     stack.push(0usize)?;
     let mut notes = Vec::new(alloc);
-    for (index, kind) in kinds.iter().enumerate() {
-        if !advance(rules, table, width, &mut stack, &mut notes, Some(*kind))? {
+    for (index, token) in tokens.iter().enumerate() {
+        if !advance(
+            rules,
+            table,
+            width,
+            &mut stack,
+            &mut notes,
+            Some(token.kind),
+        )? {
             return Err(ParseFault::Dead { index });
         }
     }
@@ -69,22 +82,24 @@ pub(crate) fn parse_by(
     Ok(notes)
 }
 
-/// The notes of the text, or the first token at which it is none.
-pub fn parse(
-    alloc: Global,
-    rules: &[Rule],
-    width: usize,
-    kinds: &[usize],
-) -> Result<Vec<Note>, ParseFault>
-    requires grammar { IsGrammar rules.now }
-    requires columns { HasColumns rules.now width }
-    requires wide { 0 < width }
-    requires small { width * length rules.now < 2 ^ 60 }
-    requires ll1 { IsLL1 rules.now }
-    requires in_columns { (i : ℕ) → i < length kinds.now → slice_index kinds.now i + 1 < width }
-    ensures text { IfOk result (λ notes. IsTheText rules.now kinds.now notes.items) }
-    ensures fails { IfErr result (Fails rules.now kinds.now) }
+/// The notes of the one leftmost derivation of the tokens, one for each of its symbols, from the left.
+///
+/// Asked of grammars that are LL(1) (`check_ll1`, or a certificate). `TooDeep` names the first token behind which more
+/// brackets are open than the grammar allows, whatever the rules say; in a text without one, `Dead` names the first token
+/// up to and with which the tokens begin no text; `Ended` says that they begin a text and are none. A bracket is open from
+/// its opener to the next closer of any kind; a closer without an opener closes none.
+pub fn parse(alloc: Global, grammar: &Grammar, tokens: &[Token]) -> Result<Vec<Note>, ParseFault>
+    requires ll1 { IsLL1 grammar.now.rules }
+    requires kinds { AreBelow grammar.now.kinds tokens.now }
+    ensures shallow { OnOk result (IsShallow grammar.now (kinds_of tokens.now)) }
+    ensures text { IfOk result (λ notes. IsTheText grammar.now.rules (kinds_of tokens.now) notes.items) }
+    ensures fails { IfErr result (Fails grammar.now (kinds_of tokens.now)) }
 {
+    if let Some(index) = first_too_deep(grammar, tokens) {
+        return Err(ParseFault::TooDeep { index });
+    }
+    let rules = grammar.rules();
+    let width = grammar.width();
     let table = begin_table(alloc, rules, width)?;
-    parse_by(alloc, rules, &table, width, kinds)
+    parse_by(alloc, rules, &table, width, tokens)
 }

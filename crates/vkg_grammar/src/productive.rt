@@ -22,6 +22,7 @@ pub(crate) fn has_text(rules: &[Rule], table: &[usize], symbol: usize) -> bool
     }
 }
 
+// Whether each of these symbols was found to derive some list of tokens.
 pub(crate) fn all_found(table: &[usize], symbols: &[usize]) -> bool
     requires { (i : ℕ) → i < length symbols.now → slice_index symbols.now i < length table.now }
     ensures { IsTrue result ↔ AllFound table.now symbols.now }
@@ -56,6 +57,7 @@ pub(crate) fn text_round(
     Ok((next, changed))
 }
 
+// What the next round finds for a symbol: what was found stays.
 pub(crate) fn text_cell(rules: &[Rule], table: &[usize], symbol: usize, old: usize) -> usize
     requires grammar { IsGrammar rules.now }
     requires sized { length table.now ≡ length rules.now }
@@ -93,6 +95,7 @@ pub(crate) fn is_productive(alloc: Global, rules: &[Rule]) -> Result<bool, Alloc
     Ok(has_no_zero(&table))
 }
 
+// Whether each symbol was found.
 pub(crate) fn has_no_zero(table: &[usize]) -> bool
     ensures { IsTrue result ↔ ((n : ℕ) → n < length table.now → 0 < slice_index table.now n) }
 {

@@ -6,6 +6,7 @@ ghost use Rattle.vkg_grammar.specs.Tables.{HasColumns, seen_at, IsNextCell, IsRo
 use crate::rule::Rule;
 use std::alloc::{AllocError, Global};
 
+// The column of what is seen: 0 for the end, one for each kind.
 pub(crate) fn column_of(seen: Option<usize>) -> usize
     requires { column seen < 2 ^ 64 }
     ensures { result ≡ column seen }
@@ -41,6 +42,7 @@ pub(crate) fn begins(table: &[usize], width: usize, symbols: &[usize], seen: Opt
     seen.is_none()
 }
 
+// Whether the table found that the symbol begins with what is seen, or for None may be empty.
 pub(crate) fn is_ranked(table: &[usize], width: usize, symbol: usize, seen: Option<usize>) -> bool
     requires { HasRows (length table.now) width symbol seen }
     ensures { IsTrue result ↔ (0 < rank_in table.now width symbol seen) }
@@ -72,6 +74,7 @@ pub(crate) fn has_reason(
     }
 }
 
+// Whether a token of this kind is seen.
 pub(crate) fn is_kind(seen: Option<usize>, kind: usize) -> bool
     ensures { IsTrue result ↔ (seen ≡ Some kind) }
 {
@@ -81,6 +84,7 @@ pub(crate) fn is_kind(seen: Option<usize>, kind: usize) -> bool
     }
 }
 
+// By the table, one of two ways begins with what is seen, or for None may be empty.
 pub(crate) fn begins_either(
     table: &[usize],
     width: usize,
@@ -95,6 +99,7 @@ pub(crate) fn begins_either(
     begins(table, width, first, seen) || begins(table, width, second, seen)
 }
 
+// What a column is for.
 pub(crate) fn seen_of(column: usize) -> Option<usize>
     ensures { result ≡ seen_at column }
 {

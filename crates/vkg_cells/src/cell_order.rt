@@ -1,0 +1,75 @@
+ghost use Rattle.std.specs.Prelude.{◌≡◌, ◌*◌, ◌^◌, IsTrue};
+ghost use Rattle.std.specs.Cmp.{IsTotalOrder};
+ghost use Rattle.std.specs.Ordering.{nat_cmp};
+ghost use Rattle.vkg_cells.specs.Laws.{IsEqualWhereSame};
+ghost use Rattle.vkg_cells.specs.Number.{is_decimal, number_cmp, scale, size};
+ghost use Rattle.vkg_cells.specs.Order.{HasNumber, order as order_of};
+
+use crate::cell::Cell;
+use crate::compare::family;
+use crate::number::{fraction, is_below_zero, trim_leading_zeros, trim_trailing_zeros, whole};
+use crate::term_order::order_terms;
+use std::cmp::Ordering;
+
+/// The order of two cells: NULL, then the families in their order, each by value.
+///
+/// It is total, and two cells of kinds are equal in it exactly where they are the same.
+pub fn order(a: &Cell, b: &Cell) -> Ordering
+    requires first { HasNumber a.now }
+    requires second { HasNumber b.now }
+    ensures value { result ≡ order_of a.now b.now }
+    ensures total { IsTotalOrder order_of }
+    ensures equal { IsEqualWhereSame a.now b.now result }
+{
+    order_cells(a, b)
+}
+
+fn order_cells(a: &Cell, b: &Cell) -> Ordering
+    requires first { HasNumber a.now }
+    requires second { HasNumber b.now }
+    ensures { result ≡ order_of a.now b.now }
+{
+    match (a, b) {
+        (Cell::Text(x), Cell::Text(y)) => x.as_str().cmp(&y.as_str()),
+        (Cell::Int(x), Cell::Int(y)) => order_numbers(x.as_str(), y.as_str()),
+        (Cell::Int(x), Cell::Dec(y)) => order_numbers(x.as_str(), y.as_str()),
+        (Cell::Dec(x), Cell::Int(y)) => order_numbers(x.as_str(), y.as_str()),
+        (Cell::Dec(x), Cell::Dec(y)) => order_numbers(x.as_str(), y.as_str()),
+        (Cell::Bool(x), Cell::Bool(y)) => x.cmp(y),
+        (Cell::Date(x), Cell::Date(y)) => x.as_str().cmp(&y.as_str()),
+        (Cell::Stamp(x), Cell::Stamp(y)) => x.as_str().cmp(&y.as_str()),
+        (Cell::Bin(x), Cell::Bin(y)) => x.as_str().cmp(&y.as_str()),
+        (Cell::Term(x), Cell::Term(y)) => order_terms(x, y),
+        _ => family(a).cmp(&family(b)),
+    }
+}
+
+/// The order of two numbers by their values.
+fn order_numbers(a: &str, b: &str) -> Ordering
+    requires first { IsTrue (is_decimal a.now) }
+    requires second { IsTrue (is_decimal b.now) }
+    ensures { result ≡ number_cmp a.now b.now }
+{
+    match (is_below_zero(a), is_below_zero(b)) {
+        (false, false) => order_sizes(a, b),
+        (true, true) => order_sizes(b, a),
+        (true, false) => Ordering::Less,
+        (false, true) => Ordering::Greater,
+    }
+}
+
+/// The order of two numbers without their signs.
+fn order_sizes(a: &str, b: &str) -> Ordering
+    requires first { IsTrue (is_decimal a.now) }
+    requires second { IsTrue (is_decimal b.now) }
+    ensures { result ≡ nat_cmp (size a.now * 10 ^ scale b.now) (size b.now * 10 ^ scale a.now) }
+{
+    let (a_whole, b_whole) = (trim_leading_zeros(whole(a)), trim_leading_zeros(whole(b)));
+    let a_fraction = trim_trailing_zeros(fraction(a));
+    let b_fraction = trim_trailing_zeros(fraction(b));
+    a_whole
+        .len()
+        .cmp(&b_whole.len())
+        .then(a_whole.cmp(&b_whole))
+        .then(a_fraction.cmp(&b_fraction))
+}

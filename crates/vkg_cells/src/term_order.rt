@@ -1,0 +1,57 @@
+ghost use Rattle.std.specs.Prelude.{◌≡◌};
+ghost use Rattle.vkg_terms.specs.Same.{annotation_name, annotation_rank, term_annotation, term_cmp, term_name, term_rank};
+
+use std::cmp::Ordering;
+use vkg_terms::{Annotation, Term};
+
+/// The order of two terms: IRIs, blank nodes, literals; then by text; then plain, tagged, typed; then by tag or datatype.
+pub fn order_terms(a: &Term, b: &Term) -> Ordering
+    ensures { result ≡ term_cmp a.now b.now }
+{
+    let by_annotation = annotation_kind(a)
+        .cmp(&annotation_kind(b))
+        .then(annotation_text(a).cmp(&annotation_text(b)));
+    kind(a)
+        .cmp(&kind(b))
+        .then(text(a).cmp(&text(b)).then(by_annotation))
+}
+
+fn kind(term: &Term) -> u8
+    ensures { result ≡ term_rank term.now }
+{
+    match term {
+        Term::Iri(_) => 0,
+        Term::Blank(_) => 1,
+        Term::Lit(_, _) => 2,
+    }
+}
+
+fn text(term: &Term) -> &str
+    ensures { result.now ≡ term_name term.now }
+{
+    match term {
+        Term::Iri(iri) => iri.as_str(),
+        Term::Blank(label) => label.as_str(),
+        Term::Lit(text, _) => text.as_str(),
+    }
+}
+
+fn annotation_kind(term: &Term) -> u8
+    ensures { result ≡ annotation_rank (term_annotation term.now) }
+{
+    match term {
+        Term::Lit(_, Annotation::Lang(_)) => 1,
+        Term::Lit(_, Annotation::Typed(_)) => 2,
+        _ => 0,
+    }
+}
+
+fn annotation_text(term: &Term) -> &str
+    ensures { result.now ≡ annotation_name (term_annotation term.now) }
+{
+    match term {
+        Term::Lit(_, Annotation::Lang(tag)) => tag.as_str(),
+        Term::Lit(_, Annotation::Typed(datatype)) => datatype.iri().as_str(),
+        _ => "",
+    }
+}

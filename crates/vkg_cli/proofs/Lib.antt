@@ -1,0 +1,4 @@
+pub mod AskedLemmas
+pub mod FilledLemmas
+pub mod Ran
+pub mod TakenLemmas

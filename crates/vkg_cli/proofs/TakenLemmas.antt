@@ -1,0 +1,84 @@
+-- Words in which the definition finds no fault give all options of `dump`.
+use Rattle.std.proofs.Common.{◌≡◌, ◌≢◌, ◌&&◌, ℕ, Bool, true, false, not, List, [], ◌∷◌, Option, Some, None, cond, refl, sym, ap, ◌∙◌, codes}
+use Rattle.std.specs.Prelude.{IfNone, IfSome, option_and_then, option_map}
+use Rattle.std.specs.Option.{is_some, option_map_or}
+use Rattle.clap.specs.Words.{App, Kinds, Row, Shape, Text, built, fault_of, first_of, subcommand_of}
+use Rattle.clap.specs.Walk.{finished, nothing_held, rows_after, stop_after, walk}
+use Rattle.clap.specs.Faults.{entered_fault, level_fault}
+use Rattle.clap.specs.Simple.{argument_words, built_leaf, entered, filled, inherited, marked_built, names_of, rows_at, with_index, with_leaf_noted}
+use Rattle.vkg_cli.specs.Words.{Options, named_options, options_unless, options_seen, taken_options}
+use Rattle.vkg_cli.specs.declared.words.DumpOptions.{DumpOptions}
+use Rattle.vkg_cli.specs.CommandLine.{dump_app, option_rule, vkg_app}
+use Rattle.vkg_cli.proofs.AskedLemmas.{asked-taken}
+use Rattle.vkg_cli.proofs.FilledLemmas.{IsOption, argument-check, given-first, level-filled, level-parts, or-false, subcommand-check}
+
+-- a subcommand as the parse sees it
+abbrev leaf : App → Shape
+leaf a = built_leaf (inherited (with_leaf_noted (marked_built vkg_app.top)) a.top)
+
+fits : (name : Text) → IsOption (with_index 1 (filled (option_rule name)))
+fits name = record { action = refl; range = refl; short = refl; short_aliases = refl; defaults = refl }
+
+not-false : (b : Bool) → not b ≡ false → b ≡ true
+not-false true e = refl
+not-false false e = cc e
+
+not-and-true : (b : Bool) → (not b && true) ≡ false → b ≡ true
+not-and-true true e = refl
+not-and-true false e = cc e
+
+abbrev Gives : Option (Text × List Row) → Type 0
+Gives o = is_some (option_and_then (λ p. named_options p.0 p.1) o) ≡ true
+
+dump-gives : (words : List Text) → level_fault (leaf dump_app) [] nothing_held words false [] ≡ [] → Gives (Some (rows_at (leaf dump_app) words))
+dump-gives words e =
+    let rows = rows_after (leaf dump_app).rules [] words in
+    let level = level-filled (leaf dump_app) (fits (codes "schema"), (fits (codes "data"), (fits (codes "base"), tt))) words e in
+    let schema = or-false _ _ (argument-check (leaf dump_app) rows false level.1) in
+    let folder = or-false _ _ schema.1 in
+    let base = or-false _ _ folder.1 in
+    let has_schema = given-first (codes "schema") rows level.0 (not-false _ schema.0) in
+    let has_folder = given-first (codes "data") rows level.0 (not-false _ folder.0) in
+    let has_base = given-first (codes "base") rows level.0 (not-false _ base.0) in
+    rw (has_schema.1, has_folder.1, has_base.1) refl
+
+one : (dumps : Bool) (words : List Text)
+    → is_some (option_map (λ s. rows_at s words) (cond dumps (Some (leaf dump_app)) None)) ≡ true
+    → option_map_or (λ s. level_fault s [] nothing_held words false []) (cond dumps (Some (leaf dump_app)) None) [] ≡ []
+    → Gives (option_map (λ s. rows_at s words) (cond dumps (Some (leaf dump_app)) None))
+one true words here e = dump-gives words e
+one false words here e = cc here
+
+stopped : (stop : Option (Text × List Text)) → is_some (entered (built vkg_app) stop) ≡ true → entered_fault (built vkg_app) stop ≡ [] → Gives (entered (built vkg_app) stop)
+stopped None here e = cc here
+stopped (Some p) here e = one _ p.1 here e
+
+pub taken-gives : (words : List Text) → fault_of vkg_app words ≡ [] → Gives (subcommand_of vkg_app words)
+taken-gives words e =
+    let texts = argument_words (built vkg_app) words in
+    let stop = stop_after (built vkg_app).top.rules (names_of (built vkg_app)) texts in
+    let parts = level-parts (built vkg_app).top (names_of (built vkg_app)) texts (is_some (entered (built vkg_app) stop)) (entered_fault (built vkg_app) stop) e in
+    let rows = finished (built vkg_app).top.rules (walk (built vkg_app).top.rules (names_of (built vkg_app)) nothing_held texts).held in
+    let named = is_some (entered (built vkg_app) stop) in
+    stopped stop (not-and-true named (subcommand-check (built vkg_app).top rows named parts.1)) parts.0
+
+nothing-given : (words : List Text) → taken_options words ≡ None → (kinds : Kinds) → fault_of vkg_app words ≡ kinds → fault_of vkg_app words ≢ []
+nothing-given words none [] e =
+    let some = taken-gives words e in
+    cc (sym some ∙ ap is_some (sym (asked-taken words e) ∙ none))
+nothing-given words none (k ∷ ks) e = λ empty. cc (sym e ∙ empty)
+
+-- words that give no options have a fault
+pub refusal : (r : Option DumpOptions) (words : List Text) → option_map options_seen r ≡ taken_options words → IfNone r (fault_of vkg_app words ≢ [])
+refusal None words e = nothing-given words (sym e) (fault_of vkg_app words) refl
+refusal (Some x) words e = tt
+
+faultless : (kinds : Kinds) (x : Options) (words : List Text) → Some x ≡ options_unless kinds words → kinds ≡ []
+faultless [] x words e = refl
+faultless (k ∷ ks) x words e = cc e
+
+-- words that give options have none
+pub taking : (r : Option DumpOptions) (words : List Text) → option_map options_seen r ≡ taken_options words → IfSome r (λ _. fault_of vkg_app words ≡ [])
+unfolding taken_options
+taking None words e = tt
+taking (Some x) words e = faultless (fault_of vkg_app words) (options_seen x) words e

@@ -1,0 +1,30 @@
+-- The command line's definition, as `clap` reads it.
+use Rattle.std.specs.Prelude.{true, Some, codes}
+use Rattle.clap.specs.Words.{App, Rule, Text, new_app, new_rule, with_rule, with_subcommand}
+use Rattle.clap.specs.Simple.{on_top}
+use Rattle.clap.specs.declared.builder.ArgAction.TheVariants.{Set}
+
+-- an option with one value, which has to be given
+abbrev pub option_rule : Text → Rule
+option_rule name = record (new_rule name) {
+  long = Some name;
+  required = true;
+  action = Some Set;
+}
+
+abbrev pub dump_app : App
+dump_app =
+    with_rule (with_rule (with_rule (new_app (codes "dump")) (option_rule (codes "schema"))) (option_rule (codes "data"))) (option_rule (codes "base"))
+
+-- no flag or command asks for help or a version, and a command has to be named
+abbrev pub vkg_alone : App
+vkg_alone = on_top (λ s. record s {
+  disable_help_flag = true;
+  disable_help_subcommand = true;
+  disable_version_flag = true;
+  subcommand_required = true;
+}) (new_app (codes "vkg"))
+
+-- the whole command line
+abbrev pub vkg_app : App
+vkg_app = with_subcommand vkg_alone dump_app.top

@@ -1,0 +1,4 @@
+pub mod CommandLine
+pub mod FaultLine
+pub mod Stages
+pub mod Words

@@ -1,0 +1,11 @@
+//! The top call of the program: the words, the order of loading and checking, the statuses and the line of the
+//! standard error.
+#![tactic(auto)]
+
+mod command_line;
+mod fault_line;
+mod stops;
+mod words;
+
+pub use stops::{Fault, Stop, Usage};
+pub use words::{DumpOptions, Request, read_request};

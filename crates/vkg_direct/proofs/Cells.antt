@@ -1,0 +1,144 @@
+-- A cell of a kind has a form, and the form is of the kind's natural datatype.
+use Rattle.std.proofs.Common.{◌≡◌, ◌≢◌, ℕ, ◌<◌, refl, sym, ◌∙◌, ap, subst, List, [], ◌∷◌, map, codes, Bool, true, false, cond, ◌&&◌, ◌||◌, arith, nat_lt, Option, Some, None, Result, Ok, Err}
+use Rattle.std.specs.Prelude.{chars, IsUtf8}
+use Rattle.std.specs.List.{list_all}
+use Rattle.std.specs.Char.{is_ascii_digit, is_ascii_hexdigit, to_ascii_uppercase}
+use Rattle.std.specs.Str.{IsAscii}
+use Rattle.std.proofs.lemmas.Str.{scalars-chars, IsUtf8-from_ascii}
+use Rattle.std.proofs.lemmas.Str.Ascii.{IsAscii-nil, IsAscii-cons}
+use lib.Utf8.{scalars}
+use Rattle.vkg_terms.specs.declared.term.Term.TheVariants.{Lit}
+use Rattle.vkg_cells.specs.declared.cell.SqlType.{SqlType}
+use Rattle.vkg_cells.specs.declared.cell.SqlType.TheVariants as kind
+use Rattle.vkg_cells.specs.declared.cell.Cell.{Cell}
+use Rattle.vkg_cells.specs.declared.cell.Cell.TheVariants as cell
+use Rattle.vkg_cells.specs.declared.cell.FieldFault.{FieldFault}
+use Rattle.vkg_cells.specs.declared.cell.FieldFault.TheVariants as field
+use Rattle.vkg_cells.specs.Field.{where_field, where_number, where_stamp, is_true_word, is_false_word, is_hex}
+use Rattle.vkg_cells.specs.Form.{lexical_form, IsOfKind, natural}
+use Rattle.vkg_cells.specs.Number.{is_integer, is_decimal, whole, fraction, width, canonical, is_negative, without_leading_zeros, without_trailing_zeros}
+use Rattle.vkg_cells.specs.Moment.{is_date, stamp_form}
+use Rattle.vkg_cells.specs.WellTyped.{is_xsd_date, is_xsd_date_time}
+use Rattle.vkg_direct.proofs.Moments.{Made, date_is, form_ascii, form_is, stamp_made}
+use Rattle.vkg_maps.specs.Terms.{literal}
+use Rattle.vkg_maps.specs.declared.data_fault.TermFault.TheVariants.{IllTyped, TooWide}
+use Rattle.vkg_direct.proofs.SafeText.{and_parts}
+use Rattle.vkg_direct.proofs.Numbers.{width_is, decimal_is, ascii_is, integer_is, decimal_parts, integer_parts, Digits, written}
+
+pub record Formed (k : SqlType) (c : Cell) : Type 0 where
+  pub form : List ℕ
+  pub is : lexical_form c ≡ Some form
+  pub spelled : scalars (chars form) ≡ true
+  pub typed : literal form (natural k) ≡ Ok (Some (Lit form (natural k)))
+
+ok_is : (a b : Cell) → ◌≡◌ {A = Result Cell FieldFault} (Ok a) (Ok b) → a ≡ b
+ok_is a b e = cc
+
+field_ok : (b : Bool) (d c : Cell) → where_field b d ≡ Ok c → (b ≡ true) × (d ≡ c)
+field_ok true d c e = (refl, ok_is d c e)
+field_ok false d c e = cc
+
+number_ok : (b : Bool) (text : List ℕ) (d c : Cell) → where_number b text d ≡ Ok c → (b ≡ true) × (nat_lt 38 (width text) ≡ false) × (d ≡ c)
+number_ok false text d c e = cc
+number_ok true text d c e = elim (nat_lt 38 (width text)) as (λ b. nat_lt 38 (width text) ≡ b → cond b (Err field.TooWide) (Ok d) ≡ Ok c → (true ≡ true) × (nat_lt 38 (width text) ≡ false) × (d ≡ c)) [
+  | true ↦ λ n f. cc
+  | false ↦ λ n f. (refl, n, ok_is d c f)
+] refl e
+
+ascii_spelled : (text : List ℕ) → IsAscii text → scalars (chars text) ≡ true
+ascii_spelled text a = scalars-chars text (IsUtf8-from_ascii text a)
+
+typed_integer : (t : List ℕ) → is_integer t ≡ true → nat_lt 38 (width t) ≡ false → literal t (natural kind.Int) ≡ Ok (Some (Lit t (natural kind.Int)))
+typed_integer t e n =
+    ap (λ b. cond b (cond (nat_lt 38 (width t)) (Err TooWide) (Ok (Some (Lit t (natural kind.Int))))) (Err IllTyped)) e
+    ∙ ap (λ b. cond b (Err TooWide) (Ok (Some (Lit t (natural kind.Int))))) n
+
+typed_decimal : (t : List ℕ) → is_decimal t ≡ true → nat_lt 38 (width t) ≡ false → literal t (natural kind.Dec) ≡ Ok (Some (Lit t (natural kind.Dec)))
+typed_decimal t e n =
+    ap (λ b. cond b (cond (nat_lt 38 (width t)) (Err TooWide) (Ok (Some (Lit t (natural kind.Dec))))) (Err IllTyped)) e
+    ∙ ap (λ b. cond b (Err TooWide) (Ok (Some (Lit t (natural kind.Dec))))) n
+
+formed_integer : (text : List ℕ) → is_integer text ≡ true → nat_lt 38 (width text) ≡ false → Formed kind.Int (cell.Int (canonical text))
+formed_integer text e n =
+    let p = integer_parts text e in
+    let s = is_negative text && nat_lt 0 (width text) in
+    let g : Digits (fraction text) = ap (λ t. list_all is_ascii_digit t) p.1 in
+    let i : is_integer (canonical text) ≡ true = ap (λ t. is_integer (written s (without_leading_zeros (whole text)) (without_trailing_zeros t))) p.1 ∙ integer_is s (whole text) p.0 in
+    record {
+      form = canonical text;
+      is = refl;
+      spelled = ascii_spelled (canonical text) (ascii_is s (whole text) (fraction text) p.0 g);
+      typed = typed_integer (canonical text) i (ap (λ k. nat_lt 38 k) (width_is s (whole text) (fraction text) p.0 g) ∙ n);
+    }
+
+formed_decimal : (text : List ℕ) → is_decimal text ≡ true → nat_lt 38 (width text) ≡ false → Formed kind.Dec (cell.Dec (canonical text))
+formed_decimal text e n =
+    let p = decimal_parts text e in
+    let s = is_negative text && nat_lt 0 (width text) in
+    record {
+      form = canonical text;
+      is = refl;
+      spelled = ascii_spelled (canonical text) (ascii_is s (whole text) (fraction text) p.0 p.1);
+      typed = typed_decimal (canonical text) (decimal_is s (whole text) (fraction text) p.0 p.1) (ap (λ k. nat_lt 38 k) (width_is s (whole text) (fraction text) p.0 p.1) ∙ n);
+    }
+
+small_digit : (b : ℕ) → is_ascii_digit b ≡ true → b < 128
+small_digit b e = grind arith
+
+small_ascii : (text : List ℕ) → list_all (λ b. nat_lt b 128) text ≡ true → IsAscii text
+small_ascii [] e = IsAscii-nil
+small_ascii (b ∷ bs) e =
+    let h = and_parts (nat_lt b 128) (list_all (λ b. nat_lt b 128) bs) e in
+    IsAscii-cons b bs (let g = h.0 in grind arith) (small_ascii bs h.1)
+
+formed_bool : (b : Bool) → Formed kind.Bool (cell.Bool b)
+formed_bool true = record { form = codes "true"; is = refl; spelled = ascii_spelled (codes "true") (small_ascii (codes "true") refl); typed = refl }
+formed_bool false = record { form = codes "false"; is = refl; spelled = ascii_spelled (codes "false") (small_ascii (codes "false") refl); typed = refl }
+
+hex_ascii : (text : List ℕ) → list_all is_ascii_hexdigit text ≡ true → IsAscii (map to_ascii_uppercase text)
+hex_ascii [] e = IsAscii-nil
+hex_ascii (b ∷ bs) e =
+    let h = and_parts (is_ascii_hexdigit b) (list_all is_ascii_hexdigit bs) e in
+    IsAscii-cons (to_ascii_uppercase b) (map to_ascii_uppercase bs) (small b h.0) (hex_ascii bs h.1)
+  where
+    small : (b : ℕ) → is_ascii_hexdigit b ≡ true → to_ascii_uppercase b < 128
+    small b e = grind arith
+
+formed_binary : (text : List ℕ) → is_hex text ≡ true → Formed kind.Bin (cell.Bin (map to_ascii_uppercase text))
+formed_binary text e = record {
+  form = map to_ascii_uppercase text;
+  is = refl;
+  spelled = ascii_spelled (map to_ascii_uppercase text) (hex_ascii text (and_parts _ (list_all is_ascii_hexdigit text) e).1);
+  typed = refl;
+}
+
+typed_date : (t : List ℕ) → is_xsd_date t ≡ true → literal t (natural kind.Date) ≡ Ok (Some (Lit t (natural kind.Date)))
+typed_date t e = ap (λ b. cond b (Ok (Some (Lit t (natural kind.Date)))) (Err IllTyped)) e
+
+typed_stamp : (t : List ℕ) → is_xsd_date_time t ≡ true → literal t (natural kind.Stamp) ≡ Ok (Some (Lit t (natural kind.Stamp)))
+typed_stamp t e = ap (λ b. cond b (Ok (Some (Lit t (natural kind.Stamp)))) (Err IllTyped)) e
+
+formed_date : (text : List ℕ) → IsUtf8 text → is_date text ≡ true → Formed kind.Date (cell.Date text)
+formed_date text u e = record { form = text; is = refl; spelled = scalars-chars text u; typed = typed_date text (date_is text e) }
+
+formed_stamp : (form : List ℕ) → Made form → Formed kind.Stamp (cell.Stamp form)
+formed_stamp form m = record {
+  form = form;
+  is = refl;
+  spelled = ascii_spelled form (subst IsAscii (sym m.is) (form_ascii m.date m.clock m.fraction m.is_date m.is_clock m.is_digits));
+  typed = typed_stamp form (ap is_xsd_date_time m.is ∙ form_is m.date m.clock m.fraction m.is_date m.is_clock m.is_digits);
+}
+
+stamp_ok : (o : Option (List ℕ)) (c : Cell) → where_stamp o ≡ Ok c → (form : List ℕ) × (o ≡ Some form) × (cell.Stamp form ≡ c)
+stamp_ok None c e = cc
+stamp_ok (Some form) c e = (form, refl, ok_is (cell.Stamp form) c e)
+
+pub formed : (k : SqlType) (c : Cell) → k ≢ kind.Term → IsOfKind k c → Formed k c
+formed kind.Text c n (text, u, e) = subst (Formed kind.Text) (ok_is (cell.Text text) c e) (record { form = text; is = refl; spelled = scalars-chars text u; typed = refl })
+formed kind.Int c n (text, u, e) = let h = number_ok (is_integer text) text (cell.Int (canonical text)) c e in subst (Formed kind.Int) h.2 (formed_integer text h.0 h.1)
+formed kind.Dec c n (text, u, e) = let h = number_ok (is_decimal text) text (cell.Dec (canonical text)) c e in subst (Formed kind.Dec) h.2 (formed_decimal text h.0 h.1)
+formed kind.Bool c n (text, u, e) = let h = field_ok (is_true_word text || is_false_word text) (cell.Bool (is_true_word text)) c e in subst (Formed kind.Bool) h.1 (formed_bool (is_true_word text))
+formed kind.Date c n (text, u, e) = let h = field_ok (is_date text) (cell.Date text) c e in subst (Formed kind.Date) h.1 (formed_date text u h.0)
+formed kind.Stamp c n (text, u, e) = let h = stamp_ok (stamp_form text) c e in subst (Formed kind.Stamp) h.2 (formed_stamp h.0 (stamp_made text h.0 h.1))
+formed kind.Bin c n (text, u, e) = let h = field_ok (is_hex text) (cell.Bin (map to_ascii_uppercase text)) c e in subst (Formed kind.Bin) h.1 (formed_binary text h.0)
+formed kind.Term c n o = absurd (n refl)

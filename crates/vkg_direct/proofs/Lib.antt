@@ -1,0 +1,13 @@
+pub mod Members
+pub mod Tables
+pub mod Whole
+pub mod Joined
+pub mod Steps
+pub mod SafeText
+pub mod Nodes
+pub mod Numbers
+pub mod Cells
+pub mod AllMade
+pub mod Law
+pub mod Moments
+pub mod RuleCount

@@ -1,0 +1,3 @@
+pub mod DirectGraph
+pub mod DirectMapping
+pub mod Laws

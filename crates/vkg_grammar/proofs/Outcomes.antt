@@ -1,0 +1,59 @@
+-- A list of tokens has one outcome.
+use Rattle.std.proofs.Common.{◌≡◌, ℕ, ◌+◌, ◌<◌, Bool, true, false, inl, inr, List, [], take, drop, refl, ap, sym, ◌∙◌, subst, arith, take-append-drop}
+use Rattle.std.proofs.lemmas.Bool.{cases_lt}
+use Rattle.vkg_grammar.specs.declared.note.Note.{Note}
+use Rattle.vkg_grammar.specs.declared.parsing.ParseFault.{ParseFault}
+use Rattle.vkg_grammar.specs.declared.parsing.ParseFault.TheVariants.{Memory, TooDeep, Dead, Ended}
+use Rattle.vkg_grammar.specs.declared.rule.Rule.{Rule}
+use Rattle.vkg_grammar.specs.Form.{Form, IsTooDeep, IsShallow}
+use Rattle.vkg_grammar.specs.Grammar.{IsAlive}
+use Rattle.vkg_grammar.specs.Laws.{HaveOneOutcome}
+use Rattle.std.proofs.lemmas.List.{append-nil}
+use Rattle.vkg_grammar.proofs.Core.{spelled}
+use Rattle.vkg_grammar.proofs.Outer.{alive_front}
+use Rattle.vkg_grammar.specs.Parsing.{IsFirstDead, IsTheText, Fails}
+
+-- the least of a kind is one
+least : (m n : ℕ) → (m < n → ⊥) → (n < m → ⊥) → m ≡ n
+least m n p q = elim (cases_lt m n) [ inl l ↦ absurd (p l) | inr g ↦ (elim (cases_lt n m) [ inl l ↦ absurd (q l) | inr h ↦ omega arith ]) ]
+
+clash : {b : Bool} → b ≡ true → b ≡ false → ⊥
+clash p q = let e : true ≡ false = sym p ∙ q in cc
+
+not_deep : (g : Form) (ks : List ℕ) (n : ℕ) → IsShallow g ks → IsTooDeep g ks n → ⊥
+not_deep g ks n s t = clash (s n t.inside) t.deep
+
+one_deep : (g : Form) (ks : List ℕ) (m n : ℕ) → IsTooDeep g ks m → IsTooDeep g ks n → m ≡ n
+one_deep g ks m n a b = least m n (λ l. clash (b.before m l) a.deep) (λ l. clash (a.before n l) b.deep)
+
+-- what begins a text is not dead
+alive_part : (g : List Rule) (ts : List ℕ) (n : ℕ) → IsAlive g ts → IsAlive g (take (n + 1) ts)
+alive_part g ts n a = alive_front (take (n + 1) ts) (drop (n + 1) ts) (subst (IsAlive g) (sym (take-append-drop (n + 1) ts)) a)
+
+one_dead : (g : List Rule) (ts : List ℕ) (m n : ℕ) → IsFirstDead g ts m → IsFirstDead g ts n → m ≡ n
+one_dead g ts m n a b = least m n (λ l. a.dead (b.alive m l)) (λ l. b.dead (a.alive n l))
+
+text_alive : (g : List Rule) (ts : List ℕ) (ws : List Note) → IsTheText g ts ws → IsAlive g ts
+text_alive g ts ws w = ([], ws, spelled (sym (append-nil ts)) w.derives)
+
+one_fault : (g : Form) (ks : List ℕ) (e f : ParseFault) → Fails g ks e → Fails g ks f → (e ≡ Memory → ⊥) → (f ≡ Memory → ⊥) → e ≡ f
+one_fault g ks Memory f a b p q = absurd (p refl)
+one_fault g ks e Memory a b p q = absurd (q refl)
+one_fault g ks (TooDeep m) (TooDeep n) a b p q = ap TooDeep (one_deep g ks m n a b)
+one_fault g ks (TooDeep m) (Dead n) a b p q = absurd (not_deep g ks m b.0 a)
+one_fault g ks (TooDeep m) Ended a b p q = absurd (not_deep g ks m b.0 a)
+one_fault g ks (Dead m) (TooDeep n) a b p q = absurd (not_deep g ks n a.0 b)
+one_fault g ks (Dead m) (Dead n) a b p q = ap Dead (one_dead g.rules ks m n a.1 b.1)
+one_fault g ks (Dead m) Ended a b p q = absurd (a.1.dead (alive_part g.rules ks m b.1.alive))
+one_fault g ks Ended (TooDeep n) a b p q = absurd (not_deep g ks n a.0 b)
+one_fault g ks Ended (Dead n) a b p q = absurd (b.1.dead (alive_part g.rules ks n a.1.alive))
+one_fault g ks Ended Ended a b p q = refl
+
+no_fault : (g : Form) (ks : List ℕ) (ws : List Note) (e : ParseFault) → IsShallow g ks → IsTheText g.rules ks ws → Fails g ks e → e ≡ Memory
+no_fault g ks ws Memory s w f = refl
+no_fault g ks ws (TooDeep n) s w f = absurd (not_deep g ks n s f)
+no_fault g ks ws (Dead n) s w f = absurd (f.1.dead (alive_part g.rules ks n (text_alive g.rules ks ws w)))
+no_fault g ks ws Ended s w f = absurd (f.1.no_text ws w.derives)
+
+pub one_outcome : HaveOneOutcome
+one_outcome = record { one_fault = one_fault; no_fault = no_fault }

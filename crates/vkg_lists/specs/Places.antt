@@ -1,0 +1,29 @@
+-- Places, and the least of them.
+use Rattle.std.specs.Prelude.{◌≡◌, ℕ, ◌≤◌, Bool, true, false, List, fold, Option, Some, None, if◌then◌else◌, min}
+use Rattle.std.specs.List.{Contains}
+
+-- the lesser of two places, where there are any
+abbrev pub lesser : Option ℕ → Option ℕ → Option ℕ
+lesser None b = b
+lesser (Some a) None = Some a
+lesser (Some a) (Some b) = Some (min a b)
+
+-- the least place of all items
+abbrev pub least_of : {A : Type 0} → (A → Option ℕ) → List A → Option ℕ
+least_of place xs = fold (λ best x. lesser best (place x)) None xs
+
+-- the place, if the test fails there
+abbrev pub place_if : Bool → ℕ → Option ℕ
+place_if fails at = if fails then Some at else None
+
+-- there is no place
+abbrev pub is_nowhere : Option ℕ → Bool
+is_nowhere None = true
+is_nowhere (Some at) = false
+
+-- some item has this place, and none a lesser one
+pub record IsLeastPlace {A : Type 0} (place : A → Option ℕ) (xs : List A) (at : ℕ) : Type 0 where
+  pub item : A
+  pub among : Contains xs item
+  pub here : place item ≡ Some at
+  pub least : (x : A) (b : ℕ) → Contains xs x → place x ≡ Some b → at ≤ b

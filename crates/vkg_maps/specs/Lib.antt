@@ -1,0 +1,5 @@
+pub mod Terms
+pub mod DataFaults
+pub mod LeastFault
+pub mod QuadRules
+pub mod Dataset

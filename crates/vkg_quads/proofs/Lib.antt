@@ -1,0 +1,6 @@
+pub mod Targets
+pub mod Firsts
+pub mod Groups
+pub mod DumpLaws
+pub mod Partners
+mod Examples

@@ -1,0 +1,9 @@
+use Rattle.std.proofs.Common.{◌≡◌, ◌++◌, map, flat_map, filter, take}
+use Rattle.std.specs.Prelude.{filter_map}
+use Rattle.vkg_terms.specs.NQuads.{line}
+use Rattle.vkg_schema.specs.Rows.{agree}
+use Rattle.vkg_maps.specs.Dataset.{quad_of}
+use Rattle.vkg_quads.proofs.dump.push_joined.Given as goal
+
+abbrev pub invariant-loop-row : goal.invariant-loop-row
+invariant-loop-row l = l.out ≡ l.fn.out ++ map line (flat_map (λ row. filter_map (quad_of l.base l.rule row) (filter (agree l.conditions row) l.parents)) (take l.row-index l.rows))

@@ -1,0 +1,90 @@
+// The line of a quad of a rule.
+ghost use Rattle.std.specs.Prelude.{◌≡◌, ◌++◌, ◌∷◌, [], IfOk, OnOk, Option, Some, None, option_map, string_bytes};
+ghost use Rattle.vkg_terms.specs.NQuads.{line};
+ghost use Rattle.vkg_terms.specs.Same.{term_eq};
+ghost use Rattle.vkg_terms.specs.Vocabulary.{rr_default_graph};
+ghost use Rattle.vkg_maps.specs.Terms.{term_of, term_if_any};
+ghost use Rattle.vkg_maps.specs.Dataset.{quad_of, quad_from, target, graph_name};
+
+use crate::made::made_term;
+use std::alloc::Global;
+use vkg_base::Memory;
+use vkg_cells::Cell;
+use vkg_maps::{QuadRule, TermMap};
+use vkg_terms::{Term, quad_line};
+
+/// The line of the quad of a row and its object's row, if there is one.
+pub fn line_of_rows(
+    alloc: Global,
+    base: &str,
+    rule: &QuadRule,
+    row: &[Cell],
+    other: &[Cell],
+) -> Result<Option<String>, Memory>
+    ensures { IfOk result (λ o. option_map string_bytes o ≡ option_map line (quad_of base.now rule.now row.now other.now)) }
+{
+    let subject = term(alloc, base, &rule.subject, row)?;
+    let predicate = term(alloc, base, &rule.predicate, row)?;
+    let object = term(alloc, base, &rule.object, other)?;
+    let graph = target_of(alloc, base, &rule.graph, row)?;
+    line_from(alloc, &subject, &predicate, &object, &graph)
+}
+
+fn term(alloc: Global, base: &str, map: &TermMap, row: &[Cell]) -> Result<Option<Term>, Memory>
+    ensures { IfOk result (λ o. o ≡ term_if_any (term_of base.now map.now row.now)) }
+{
+    match made_term(alloc, base, map, row)? {
+        Ok(t) => Ok(t),
+        Err(_) => Ok(None),
+    }
+}
+
+fn target_of(
+    alloc: Global,
+    base: &str,
+    graph: &Option<TermMap>,
+    row: &[Cell],
+) -> Result<Option<Option<Term>>, Memory>
+    ensures { IfOk result (λ o. o ≡ target base.now graph.now row.now) }
+{
+    match graph {
+        None => Ok(Some(None)),
+        Some(g) => match term(alloc, base, g, row)? {
+            None => Ok(None),
+            Some(name) => Ok(Some(named(name))),
+        },
+    }
+}
+
+const DEFAULT_GRAPH: &str = "http://www.w3.org/ns/r2rml#defaultGraph";
+
+fn named(name: Term) -> Option<Term>
+    ensures { result ≡ graph_name name }
+{
+    if is_default(&name) { None } else { Some(name) }
+}
+
+fn is_default(name: &Term) -> bool
+    ensures { result ≡ term_eq name.now (Term.Iri rr_default_graph) }
+{
+    match name {
+        Term::Iri(iri) => iri.as_str() == DEFAULT_GRAPH,
+        Term::Blank(_) => false,
+        Term::Lit(_, _) => false,
+    }
+}
+
+fn line_from(
+    alloc: Global,
+    subject: &Option<Term>,
+    predicate: &Option<Term>,
+    object: &Option<Term>,
+    graph: &Option<Option<Term>>,
+) -> Result<Option<String>, Memory>
+    ensures { IfOk result (λ found. option_map string_bytes found ≡ option_map line (quad_from subject.now predicate.now object.now graph.now)) }
+{
+    match (subject, predicate, object, graph) {
+        (Some(s), Some(p), Some(o), Some(g)) => Ok(Some(quad_line(alloc, s, p, o, g.as_ref())?)),
+        _ => Ok(None),
+    }
+}

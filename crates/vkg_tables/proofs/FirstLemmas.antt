@@ -1,0 +1,67 @@
+-- The walk to the first element that passes a test.
+use Rattle.std.proofs.Common.{◌≡◌, ◌∙◌, ◌+◌, ◌<◌, ◌++◌, ℕ, zero, suc, Bool, true, false, not, List, [], ◌∷◌, Option, Some, None, if◌then◌else◌, refl, sym, ap, ap₂, subst, arith, length, get_or, take, drop, add-one, drop-cons, map, string_bytes, String, Vec}
+use Rattle.std.proofs.lemmas.List.{take_more, length-take-le, map-append}
+use Rattle.std.specs.List.{AllByRecursion, list_any}
+use Rattle.vkg_schema.specs.Rows.{Row}
+use Rattle.vkg_tables.specs.Checks.{is_orphan, repeats}
+use Rattle.vkg_tables.specs.Firsts.{first_after}
+use Rattle.vkg_tables.specs.Parts.{HasNoTerm, all_parts, is_missing, one_or_none, parts, texts_eq, texts_of}
+use Rattle.vkg_tables.proofs.PartsLemmas.{all_parts-more, found, orphan-missing, repeats-found}
+
+pub all-at : {A : Type 0} (P : A → Type 0) (xs : List A) (i : ℕ) (d : A) → AllByRecursion P xs → i < length xs → P (get_or xs i d)
+all-at P [] i d a h = absurd (omega (arith, h))
+all-at P (x ∷ xs) zero d a h = a.0
+all-at P (x ∷ xs) (suc i) d a h = all-at P xs i d a.1 (omega (arith, h))
+
+module _ {A : Type 0} (p : List A → A → Bool) (xs : List A) (i : ℕ) (x : A) (whole : Option ℕ) (h : i < length xs) (e : x ≡ get_or xs i x) where
+  pub take-next : take (i + 1) xs ≡ take i xs ++ x ∷ []
+  take-next = take_more xs i x h ∙ ap (λ y. take i xs ++ y ∷ []) (sym e)
+
+  drop-next : drop i xs ≡ x ∷ drop (i + 1) xs
+  drop-next = drop-cons xs i x h ∙ ap₂ (λ y n. y ∷ drop n xs) (sym e) (sym (add-one i))
+
+  opened : first_after p (take i xs) (drop i xs) ≡ whole → (if p (take i xs) x then Some (length (take i xs) + 1) else first_after p (take i xs ++ x ∷ []) (drop (i + 1) xs)) ≡ whole
+  opened w = ap (first_after p (take i xs)) (sym drop-next) ∙ w
+
+  pub first-step : first_after p (take i xs) (drop i xs) ≡ whole → p (take i xs) x ≡ false → first_after p (take (i + 1) xs) (drop (i + 1) xs) ≡ whole
+  first-step w f =
+      ap (λ t. first_after p t (drop (i + 1) xs)) take-next
+      ∙ ap (λ b. if b then Some (length (take i xs) + 1) else first_after p (take i xs ++ x ∷ []) (drop (i + 1) xs)) (sym f) ∙ opened w
+
+  pub first-found : first_after p (take i xs) (drop i xs) ≡ whole → p (take i xs) x ≡ true → Some (i + 1) ≡ whole
+  first-found w t =
+      ap (λ n. Some (n + 1)) (sym (length-take-le i xs (omega (arith, h))))
+      ∙ ap (λ b. if b then Some (length (take i xs) + 1) else first_after p (take i xs ++ x ∷ []) (drop (i + 1) xs)) (sym t) ∙ opened w
+
+-- a row whose parts are there, and the parts of the rows before it
+pub repeats-known : (key : List ℕ) (rows : List Row) (i : ℕ) (row : Row) (o : Option (List (List ℕ))) (known : List (List (List ℕ)))
+    → AllByRecursion HasNoTerm rows → i < length rows → row ≡ get_or rows i row → o ≡ parts key row → known ≡ all_parts key (take i rows)
+    → repeats key (take i rows) row ≡ found o known
+repeats-known key rows i row o known a h e f s =
+    let n : HasNoTerm row = subst HasNoTerm (sym e) (all-at HasNoTerm rows i row a h) in
+    repeats-found key (take i rows) row n ∙ ap₂ found (sym f) (sym s)
+
+pub orphan-known : (pairs : List (ℕ × ℕ)) (targets rows : List Row) (i : ℕ) (row : Row)
+    → AllByRecursion HasNoTerm rows → i < length rows → row ≡ get_or rows i row
+    → is_orphan pairs targets row ≡ is_missing (parts (map (λ p. p.0) pairs) row) (all_parts (map (λ p. p.1) pairs) targets)
+orphan-known pairs targets rows i row a h e = orphan-missing pairs targets row (subst HasNoTerm (sym e) (all-at HasNoTerm rows i row a h))
+
+-- the parts of one row more
+pub parts-next : (columns : List ℕ) (rows : List Row) (i : ℕ) (row : Row) → i < length rows → row ≡ get_or rows i row
+    → all_parts columns (take (i + 1) rows) ≡ all_parts columns (take i rows) ++ one_or_none (parts columns row)
+parts-next columns rows i row h e = ap (all_parts columns) (take-next (λ b r. true) rows i row None h e) ∙ all_parts-more columns (take i rows) row
+
+-- a set with a list of strings that it lacked
+pub texts-pushed : {Y Z : Type 0} (vs : List (Vec (String Y) Z)) (v : Vec (String Y) Z) → texts_of (vs ++ v ∷ []) ≡ texts_of vs ++ map string_bytes v.items ∷ []
+texts-pushed vs v = map-append (λ w. map string_bytes w.items) vs (v ∷ [])
+
+pub missing-same : (o : Option (List (List ℕ))) (xs ys : List (List (List ℕ))) → ((f : List (List ℕ)) → list_any (texts_eq f) xs ≡ list_any (texts_eq f) ys) → is_missing o xs ≡ is_missing o ys
+missing-same None xs ys h = refl
+missing-same (Some f) xs ys h = ap not (h f)
+
+all-push : {A : Type 0} (P : A → Type 0) (xs : List A) (x : A) → AllByRecursion P xs → P x → AllByRecursion P (xs ++ x ∷ [])
+all-push P [] x h p = (p, tt)
+all-push P (y ∷ xs) x h p = (h.0, all-push P xs x h.1 p)
+
+pub all-next : {A : Type 0} (P : A → Type 0) (xs : List A) (i : ℕ) (x : A) → i < length xs → x ≡ get_or xs i x → AllByRecursion P (take i xs) → P x → AllByRecursion P (take (i + 1) xs)
+all-next P xs i x h e a p = subst (AllByRecursion P) (sym (take_more xs i x h ∙ ap (λ y. take i xs ++ y ∷ []) (sym e))) (all-push P (take i xs) x a p)

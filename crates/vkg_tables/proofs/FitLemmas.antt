@@ -1,0 +1,262 @@
+-- The cells that are read fit their columns.
+use Rattle.std.proofs.Common.{◌≡◌, ◌≢◌, ◌∙◌, ◌+◌, ◌<◌, ◌&&◌, ◌==◌, ◌⊎◌, inl, inr, ℕ, zero, suc, Bool, true, false, List, [], ◌∷◌, Option, Some, None, if◌then◌else◌, refl, sym, ap, subst, arith, length, get_or, nat_lt, map, IsUtf8}
+use Rattle.std.specs.Prelude.{Result, Ok, Err, OnErr, OnOk, ◌++◌, slice_get, slice_set, unwrap_or}
+use Rattle.std.proofs.lemmas.Str.{IsUtf8-nil, IsUtf8-from_is_utf8}
+use Rattle.std.specs.List.{AllByRecursion, AllZip}
+use Rattle.std.specs.Str.{is_utf8}
+use Rattle.csv.specs.Reading.{default_config, records, strip_bom}
+use Rattle.csv.specs.Records.{AllText, field_at}
+use Rattle.vkg_tables.specs.Texts.{AreTexts}
+use Rattle.vkg_tables.proofs.TextLemmas.{AreTexts-records, IsUtf8-strip_bom}
+use Rattle.vkg_cells.specs.declared.cell.Cell.{Cell}
+use Rattle.vkg_cells.specs.declared.cell.Cell.TheVariants as cell
+use Rattle.vkg_cells.specs.declared.cell.SqlType.{SqlType}
+use Rattle.vkg_cells.specs.declared.cell.SqlType.TheVariants as kind
+use Rattle.vkg_cells.specs.declared.cell.FieldFault.{FieldFault}
+use Rattle.vkg_cells.specs.declared.cell.FieldFault.TheVariants.{TooWide}
+use Rattle.vkg_cells.specs.Field.{cell_of_field, is_hex, where_field, where_number, where_stamp}
+use Rattle.vkg_cells.specs.Form.{IsOfKind}
+use Rattle.vkg_cells.specs.Moment.{is_date, stamp_form}
+use Rattle.vkg_cells.specs.Number.{is_decimal, is_integer, width}
+use Rattle.vkg_cells.specs.Order.{family_of}
+use Rattle.vkg_schema.specs.declared.table.Column.{Column}
+use Rattle.vkg_schema.specs.declared.table.Table.{Table}
+use Rattle.vkg_schema.specs.Meets.{FitsColumn, IsColumn, IsTable, IsWellFormed}
+use Rattle.vkg_schema.specs.Rows.{Row, is_null, rows_of}
+use Rattle.vkg_tables.specs.Field.{cell_of_csv, stands_for_null}
+use Rattle.vkg_tables.specs.Field.{field_of}
+use Rattle.vkg_tables.specs.Steps.{cells_from, checked, field_cell, file_from, header_fault, onto, place_in, row_from, rows_from, table_from, table_of_records, unless}
+use Rattle.vkg_tables.specs.TableFile.{fault}
+use Rattle.vkg_tables.specs.TableFile.{table_of_bytes}
+use Rattle.vkg_tables.specs.Parts.{HasNoTerm, IsNoTerm}
+use Rattle.vkg_tables.proofs.FileFaults.{file_from-settled}
+use Rattle.vkg_tables.specs.Seen.{HoldsCells, HoldsRows, columns_of}
+use Rattle.vkg_tables.specs.declared.fault.FileFault.{FileFault}
+
+-- ---- a field is read as no term
+fam : Result Cell FieldFault → ℕ
+fam (Ok c) = family_of c
+fam (Err e) = 0
+
+fam-number : (b : Bool) (text : List ℕ) (x : Cell) → family_of x ≢ 7 → fam (where_number b text x) ≢ 7
+unfolding fam
+fam-number false text x h = λ e. cc e
+fam-number true text x h = by (nat_lt 38 (width text))
+  where
+    by : (w : Bool) → fam (if w then Err TooWide else Ok x) ≢ 7
+    by true = λ e. cc e
+    by false = h
+
+fam-field : (b : Bool) (x : Cell) → family_of x ≢ 7 → fam (where_field b x) ≢ 7
+unfolding fam
+fam-field false x h = λ e. cc e
+fam-field true x h = h
+
+fam-stamp : (o : Option (List ℕ)) → fam (where_stamp o) ≢ 7
+unfolding fam
+fam-stamp None = λ e. cc e
+fam-stamp (Some t) = λ e. cc e
+
+fam-read : (k : SqlType) (text : List ℕ) → fam (cell_of_field k text) ≢ 7
+unfolding fam
+fam-read kind.Text text = λ e. cc e
+fam-read kind.Int text = fam-number (is_integer text) text _ (λ e. cc e)
+fam-read kind.Dec text = fam-number (is_decimal text) text _ (λ e. cc e)
+fam-read kind.Bool text = fam-field _ _ (λ e. cc e)
+fam-read kind.Date text = fam-field (is_date text) _ (λ e. cc e)
+fam-read kind.Stamp text = fam-stamp (stamp_form text)
+fam-read kind.Bin text = fam-field (is_hex text) _ (λ e. cc e)
+fam-read kind.Term text = λ e. cc e
+
+read-NoTerm : (k : SqlType) (text : List ℕ) (c : Cell) → cell_of_field k text ≡ Ok c → IsNoTerm c
+unfolding fam
+read-NoTerm k text c e = λ h. fam-read k text (ap fam e ∙ h)
+
+kind-NoTerm : (k : SqlType) (c : Cell) → k ≢ kind.Term → IsOfKind k c → IsNoTerm c
+kind-NoTerm kind.Text c h (text, u, e) = read-NoTerm kind.Text text c e
+kind-NoTerm kind.Int c h (text, u, e) = read-NoTerm kind.Int text c e
+kind-NoTerm kind.Dec c h (text, u, e) = read-NoTerm kind.Dec text c e
+kind-NoTerm kind.Bool c h (text, u, e) = read-NoTerm kind.Bool text c e
+kind-NoTerm kind.Date c h (text, u, e) = read-NoTerm kind.Date text c e
+kind-NoTerm kind.Stamp c h (text, u, e) = read-NoTerm kind.Stamp text c e
+kind-NoTerm kind.Bin c h (text, u, e) = read-NoTerm kind.Bin text c e
+kind-NoTerm kind.Term c h i = absurd (h refl)
+
+fits-NoTerm : (column : Column) (c : Cell) → IsColumn column → FitsColumn column c → IsNoTerm c
+fits-NoTerm column c h f = by f.kind
+  where
+    by : (c ≡ cell.Null) ⊎ IsOfKind column.kind c → IsNoTerm c
+    by (inl e) = λ s. cc (ap family_of (sym e) ∙ s)
+    by (inr i) = kind-NoTerm column.kind c h.kind i
+
+row-NoTerm : (columns : List Column) (row : Row) → AllByRecursion IsColumn columns → AllZip FitsColumn columns row → HasNoTerm row
+row-NoTerm [] [] h f = tt
+row-NoTerm [] (c ∷ cs) h f = absurd f
+row-NoTerm (k ∷ ks) [] h f = tt
+row-NoTerm (k ∷ ks) (c ∷ cs) h f = (fits-NoTerm k c h.0 f.0, row-NoTerm ks cs h.1 f.1)
+
+rows-NoTerm : (columns : List Column) (rows : List Row) → AllByRecursion IsColumn columns → AllByRecursion (AllZip FitsColumn columns) rows → AllByRecursion HasNoTerm rows
+rows-NoTerm columns [] h f = tt
+rows-NoTerm columns (r ∷ rs) h f = (row-NoTerm columns r h f.0, rows-NoTerm columns rs h f.1)
+
+tables-NoTerm : (all tables : List Table) (db : List (List Row)) → AllByRecursion (IsTable all) tables → HoldsCells tables db → AllByRecursion (AllByRecursion HasNoTerm) db
+tables-NoTerm all tables [] h f = tt
+tables-NoTerm all [] (rows ∷ db) h f = absurd f
+tables-NoTerm all (t ∷ ts) (rows ∷ db) h f = (rows-NoTerm t.columns rows h.0.columns f.0, tables-NoTerm all ts db h.1 f.1)
+
+pub database-NoTerm : (tables : List Table) (db : List (List Row)) → IsWellFormed tables → HoldsCells tables db → AllByRecursion (AllByRecursion HasNoTerm) db
+database-NoTerm tables db h f = tables-NoTerm tables tables db h f
+
+pub same-length : (tables : List Table) (db : List (List Row)) → HoldsCells tables db → length db ≡ length tables
+same-length [] [] h = refl
+same-length [] (r ∷ db) h = absurd h
+same-length (t ∷ ts) [] h = absurd h
+same-length (t ∷ ts) (r ∷ db) h = ap suc (same-length ts db h.1)
+
+-- ---- what is read fits
+of-kind : (k : SqlType) (text : List ℕ) (c : Cell) → IsUtf8 text → cell_of_field k text ≡ Ok c → IsOfKind k c
+of-kind kind.Text text c u e = (text, u, e)
+of-kind kind.Int text c u e = (text, u, e)
+of-kind kind.Dec text c u e = (text, u, e)
+of-kind kind.Bool text c u e = (text, u, e)
+of-kind kind.Date text c u e = (text, u, e)
+of-kind kind.Stamp text c u e = (text, u, e)
+of-kind kind.Bin text c u e = (text, u, e)
+of-kind kind.Term text c u e = cc e
+
+csv-fits : (k : SqlType) (text : List ℕ) (c : Cell) → IsUtf8 text → cell_of_csv k text ≡ Ok c → (c ≡ cell.Null) ⊎ IsOfKind k c
+csv-fits k text c u e = by (stands_for_null k text) e
+  where
+    by : (b : Bool) → (if b then Ok cell.Null else cell_of_field k text) ≡ Ok c → (c ≡ cell.Null) ⊎ IsOfKind k c
+    by true h = inl (cc h)
+    by false h = inr (of-kind k text c u h)
+
+checked-ok : (nn : Bool) (row place : ℕ) (r : Result Cell FieldFault) (c : Cell) → checked nn row place r ≡ Ok c → (r ≡ Ok c) × (is_null c && nn ≡ false)
+checked-ok nn row place (Err x) c e = cc e
+checked-ok nn row place (Ok d) c e = by (is_null d && nn) refl e
+  where
+    by : (b : Bool) → is_null d && nn ≡ b → ◌≡◌ {A = Result Cell FileFault} (if b then Err (fault 7 row place) else Ok d) (Ok c) → (◌≡◌ {A = Result Cell FieldFault} (Ok d) (Ok c)) × (is_null c && nn ≡ false)
+    by true h f = cc f
+    by false h f = let same : d ≡ c = cc f in (ap Ok same, ap (λ x. is_null x && nn) (sym same) ∙ h)
+
+field-fits : (column : Column) (row place : ℕ) (text : List ℕ) (c : Cell) → IsUtf8 text → field_cell column row place text ≡ Ok c → FitsColumn column c
+field-fits column row place text c u e =
+    let k = checked-ok column.not_null row place (cell_of_csv column.kind text) c e in
+    record { kind = csv-fits column.kind text c u k.0; not_null = λ t n. cc (sym k.1 ∙ ap (λ x. is_null x && column.not_null) n ∙ t) }
+
+field-text : (fields : List (List ℕ)) (i : ℕ) → AllText fields → IsUtf8 (field_of fields i)
+unfolding AllText field_at
+field-text [] zero h = IsUtf8-nil
+field-text [] (suc i) h = IsUtf8-nil
+field-text (f ∷ fs) zero h = h.0
+field-text (f ∷ fs) (suc i) h = field-text fs i h.1
+
+ok-onto : {A : Type 0} (x : Result A FileFault) (r : Result (List A) FileFault) (ys : List A) → onto x r ≡ Ok ys → (y : A) × (zs : List A) × (x ≡ Ok y) × (r ≡ Ok zs) × (ys ≡ y ∷ zs)
+ok-onto (Err f) r ys e = cc e
+ok-onto (Ok x) (Err f) ys e = cc e
+ok-onto (Ok x) (Ok xs) ys e = (x, xs, refl, refl, cc e)
+
+cells-fit : (header : List (List ℕ)) (columns : List Column) (row place : ℕ) (fields : List (List ℕ)) (cells : Row) → AllText fields → cells_from header columns row place fields ≡ Ok cells → AllZip FitsColumn columns cells
+cells-fit header [] row place fields cells t e = let none : [] ≡ cells = cc e in subst (AllZip FitsColumn []) none tt
+cells-fit header (c ∷ cs) row place fields cells t e =
+    let o = ok-onto (field_cell c row place (field_of fields (place_in header c))) (cells_from header cs row (place + 1) fields) cells e in
+    subst (AllZip FitsColumn (c ∷ cs)) (sym o.4)
+    (field-fits c row place (field_of fields (place_in header c)) o.0 (field-text fields (place_in header c) t) o.2, cells-fit header cs row (place + 1) fields o.1 t o.3)
+
+row-fits : (header : List (List ℕ)) (columns : List Column) (row : ℕ) (fields : List (List ℕ)) (cells : Row) → AllText fields → row_from header columns row fields ≡ Ok cells → AllZip FitsColumn columns cells
+row-fits header columns row fields cells t e = by (length fields == length header) e
+  where
+    by : (b : Bool) → (if b then cells_from header columns row 1 fields else Err (fault 4 row 0)) ≡ Ok cells → AllZip FitsColumn columns cells
+    by true h = cells-fit header columns row 1 fields cells t h
+    by false h = cc h
+
+rows-fit : (header : List (List ℕ)) (columns : List Column) (row : ℕ) (recs : List (List (List ℕ))) (rows : List Row) → AreTexts recs → rows_from header columns row recs ≡ Ok rows → AllByRecursion (AllZip FitsColumn columns) rows
+rows-fit header columns row [] rows t e = let none : [] ≡ rows = cc e in subst (AllByRecursion (AllZip FitsColumn columns)) none tt
+rows-fit header columns row (r ∷ rs) rows t e =
+    let o = ok-onto (row_from header columns row r) (rows_from header columns (row + 1) rs) rows e in
+    subst (AllByRecursion (AllZip FitsColumn columns)) (sym o.4) (row-fits header columns row r o.0 t.0 o.2, rows-fit header columns (row + 1) rs o.1 t.1 o.3)
+
+table-fits : (columns : List Column) (recs : List (List (List ℕ))) (rows : List Row) → AreTexts recs → table_from columns recs ≡ Ok rows → AllByRecursion (AllZip FitsColumn columns) rows
+table-fits columns [] rows t e = cc e
+table-fits columns (header ∷ rs) rows t e = by (header_fault columns header) e
+  where
+    by : (o : Option FileFault) → unless o (rows_from header columns 1 rs) ≡ Ok rows → AllByRecursion (AllZip FitsColumn columns) rows
+    by (Some f) h = cc h
+    by None h = rows-fit header columns 1 rs rows t.1 h
+
+from-fits : (columns : List Column) (bytes : List ℕ) (rows : List Row) → file_from columns bytes ≡ Ok rows → AllByRecursion (AllZip FitsColumn columns) rows
+from-fits columns bytes rows e = long (nat_lt 2147483647 (length bytes)) e
+  where
+    text : (b : Bool) → is_utf8 bytes ≡ b → table_of_records columns (if b then Ok (records default_config (strip_bom bytes)) else Err (fault 5 0 0)) ≡ Ok rows → AllByRecursion (AllZip FitsColumn columns) rows
+    text true u h = table-fits columns (records default_config (strip_bom bytes)) rows (AreTexts-records (strip_bom bytes) (IsUtf8-strip_bom bytes (IsUtf8-from_is_utf8 bytes u))) h
+    text false u h = cc h
+
+    long : (b : Bool) → table_of_records columns (if b then Err (fault 11 0 0) else if is_utf8 bytes then Ok (records default_config (strip_bom bytes)) else Err (fault 5 0 0)) ≡ Ok rows → AllByRecursion (AllZip FitsColumn columns) rows
+    long true h = cc h
+    long false h = text (is_utf8 bytes) refl h
+
+pub file-fits : (columns : List Column) (bytes : List ℕ) (rows : List Row) → table_of_bytes columns bytes ≡ Ok rows → AllByRecursion (AllZip FitsColumn columns) rows
+file-fits columns bytes rows e = from-fits columns bytes rows (file_from-settled columns bytes ∙ e)
+
+-- ---- a table among the others
+pub set-holds : (tables : List Table) (db : List (List Row)) (i : ℕ) (rows : List Row) (d : Table) → i < length tables → HoldsCells tables db → HoldsRows (get_or tables i d) rows → HoldsCells tables (slice_set db i rows)
+set-holds [] db i rows d l h r = absurd (omega (arith, l))
+set-holds (t ∷ ts) [] i rows d l h r = absurd h
+set-holds (t ∷ ts) (x ∷ db) zero rows d l h r = (r, h.1)
+set-holds (t ∷ ts) (x ∷ db) (suc i) rows d l h r = (h.0, set-holds ts db i rows d (omega (arith, l)) h.1 r)
+
+pub empty-holds : (tables : List Table) → HoldsCells tables (map (λ t. []) tables)
+empty-holds [] = tt
+empty-holds (t ∷ ts) = (tt, empty-holds ts)
+
+pub columns-there : (tables : List Table) (i : ℕ) (d : Table) → i < length tables → columns_of tables i ≡ (get_or tables i d).columns
+columns-there [] i d l = absurd (omega (arith, l))
+columns-there (t ∷ ts) zero d l = refl
+columns-there (t ∷ ts) (suc i) d l = columns-there ts i d (omega (arith, l))
+
+-- ---- a row of a table
+zip-length : (columns : List Column) (row : Row) → AllZip FitsColumn columns row → length row ≡ length columns
+zip-length [] [] h = refl
+zip-length [] (c ∷ cs) h = absurd h
+zip-length (k ∷ ks) [] h = absurd h
+zip-length (k ∷ ks) (c ∷ cs) h = ap suc (zip-length ks cs h.1)
+
+row-width : (columns : List Column) (rows : List Row) (row : ℕ) (d : Row) → AllByRecursion (AllZip FitsColumn columns) rows → row < length rows → length (get_or rows row d) ≡ length columns
+row-width columns [] row d h l = absurd (omega (arith, l))
+row-width columns (r ∷ rs) zero d h l = zip-length columns r h.0
+row-width columns (r ∷ rs) (suc row) d h l = row-width columns rs row d h.1 (omega (arith, l))
+
+-- a row has a cell for each column of its table
+pub table-width : (tables : List Table) (db : List (List Row)) (i row : ℕ) (d : Row) → HoldsCells tables db → row < length (rows_of db i) → length (get_or (rows_of db i) row d) ≡ length (columns_of tables i)
+table-width [] [] i row d h l = absurd (omega (arith, l))
+table-width [] (rows ∷ db) i row d h l = absurd h
+table-width (t ∷ ts) [] i row d h l = absurd h
+table-width (t ∷ ts) (rows ∷ db) zero row d h l = row-width t.columns rows row d h.0 l
+table-width (t ∷ ts) (rows ∷ db) (suc i) row d h l = table-width ts db i row d h.1 l
+
+-- the list at a place of a list of lists
+pub list-there : {A : Type 0} (xs : List (List A)) (i : ℕ) (d : List A) → i < length xs → get_or xs i d ≡ unwrap_or (slice_get xs i) []
+list-there [] i d l = absurd (omega (arith, l))
+list-there (x ∷ xs) zero d l = refl
+list-there (x ∷ xs) (suc i) d l = list-there xs i d (omega (arith, l))
+
+-- ---- one row more
+rows-pushed : (columns : List Column) (rows : List Row) (row : Row) → AllByRecursion (AllZip FitsColumn columns) rows → AllZip FitsColumn columns row → AllByRecursion (AllZip FitsColumn columns) (rows ++ row ∷ [])
+rows-pushed columns [] row h f = (f, tt)
+rows-pushed columns (r ∷ rs) row h f = (h.0, rows-pushed columns rs row h.1 f)
+
+pub pushed-holds : (tables : List Table) (db : List (List Row)) (i : ℕ) (row : Row) → i < length tables → HoldsCells tables db → AllZip FitsColumn (columns_of tables i) row → HoldsCells tables (slice_set db i (rows_of db i ++ row ∷ []))
+pushed-holds [] db i row l h f = absurd (omega (arith, l))
+pushed-holds (t ∷ ts) [] i row l h f = absurd h
+pushed-holds (t ∷ ts) (rows ∷ db) zero row l h f = (rows-pushed t.columns rows row h.0 f, h.1)
+pushed-holds (t ∷ ts) (rows ∷ db) (suc i) row l h f = (h.0, pushed-holds ts db i row (omega (arith, l)) h.1 f)
+
+pub set-same : (db : List (List Row)) (i : ℕ) → slice_set db i (rows_of db i) ≡ db
+set-same [] i = refl
+set-same (rows ∷ db) zero = refl
+set-same (rows ∷ db) (suc i) = ap (λ l. rows ∷ l) (set-same db i)
+
+-- a push gives the row behind the others, or changes nothing
+pub pushed-or-not : {A E : Type 0} (r : Result A E) (old new : List Row) (row : Row) → OnOk r (new ≡ old ++ row ∷ []) → OnErr r (new ≡ old) → (new ≡ old ++ row ∷ []) ⊎ (new ≡ old)
+pushed-or-not (Ok x) old new row a b = inl a
+pushed-or-not (Err x) old new row a b = inr b

@@ -1,0 +1,9 @@
+pub mod FileFaults
+pub mod FirstLemmas
+pub mod FitLemmas
+pub mod LoadLemmas
+pub mod MeetsLemmas
+pub mod PartsLemmas
+pub mod Places
+pub mod RecordsLemmas
+pub mod TextLemmas

@@ -1,0 +1,93 @@
+-- Walks over columns and over records.
+use Rattle.std.proofs.Common.{◌≡◌, ◌∙◌, ◌+◌, ◌<◌, ◌≤◌, ◌++◌, ℕ, zero, suc, Bool, true, false, List, [], ◌∷◌, Option, Some, None, if◌then◌else◌, refl, sym, ap, arith, length, get_or, drop, add-one, drop-cons, nat_lt, map, position, append_assoc, IsUtf8, le-ltb}
+use Rattle.std.proofs.lemmas.List.{append-nil, get_or-map}
+use Rattle.std.specs.Prelude.{Result, Ok, Err}
+use Rattle.std.specs.List.{position_or_len}
+use Rattle.vkg_tables.specs.declared.fault.FileFault.{FileFault}
+use Rattle.vkg_tables.specs.declared.fault.FileError.{FileError}
+use Rattle.vkg_tables.specs.declared.fault.FileError.TheVariants as file_error
+use Rattle.csv.specs.Reading.{default_config, records, strip_bom}
+use Rattle.csv.specs.Records.{field_at}
+use Rattle.std.specs.Str.{is_utf8}
+use Rattle.std.proofs.lemmas.Str.{IsUtf8-from_is_utf8, is_utf8-from_IsUtf8}
+use Rattle.vkg_schema.specs.declared.table.Column.{Column}
+use Rattle.vkg_tables.specs.Field.{field_of}
+use Rattle.vkg_tables.specs.Steps.{FailsAs, cells_from, field_cell, file_records, onto, place_in, row_from, rows_from}
+use Rattle.vkg_tables.specs.TableFile.{fault}
+
+module _ {A : Type 0} (p : A → Bool) where
+  place-le : (xs : List A) → position_or_len p xs ≤ length xs
+  place-le [] = omega arith
+  place-le (x ∷ xs) = grind (arith, place-le xs)
+
+  pub place-some : (xs : List A) (n : ℕ) → ◌≡◌ {A = Option ℕ} (Some n) (position p xs) → n ≡ position_or_len p xs
+  place-some xs n e = by (nat_lt (position_or_len p xs) (length xs)) e
+    where
+      by : (b : Bool) → ◌≡◌ {A = Option ℕ} (Some n) (if b then Some (position_or_len p xs) else None) → n ≡ position_or_len p xs
+      by true e = cc e
+      by false e = cc e
+
+  pub place-none : (xs : List A) → ◌≡◌ {A = Option ℕ} None (position p xs) → length xs ≡ position_or_len p xs
+  place-none xs e = by (nat_lt (position_or_len p xs) (length xs)) refl e
+    where
+      by : (b : Bool) → nat_lt (position_or_len p xs) (length xs) ≡ b → ◌≡◌ {A = Option ℕ} None (if b then Some (position_or_len p xs) else None) → length xs ≡ position_or_len p xs
+      by true h e = cc e
+      by false h e = grind (arith, h, place-le xs)
+
+-- what is done already, in front of the rest
+abbrev pub after : {A : Type 0} → List A → Result (List A) FileFault → Result (List A) FileFault
+after xs (Ok ys) = Ok (xs ++ ys)
+after xs (Err f) = Err f
+
+module _ {A : Type 0} where
+  onto-after : (xs : List A) (x : A) (r : Result (List A) FileFault) → after (xs ++ x ∷ []) r ≡ after xs (onto (Ok x) r)
+  onto-after xs x (Ok ys) = ap Ok (append_assoc xs (x ∷ []) ys)
+  onto-after xs x (Err f) = refl
+
+  -- one more is done
+  pub walk-step : (xs : List A) (x : A) (one : Result A FileFault) (rest whole : Result (List A) FileFault) → one ≡ Ok x → after xs (onto one rest) ≡ whole → after (xs ++ x ∷ []) rest ≡ whole
+  walk-step xs x one rest whole e w = onto-after xs x rest ∙ ap (λ r. after xs (onto r rest)) (sym e) ∙ w
+
+  -- the next one fails
+  pub walk-fails : (xs : List A) (one : Result A FileFault) (rest whole : Result (List A) FileFault) (e : FileError) → FailsAs one e → after xs (onto one rest) ≡ whole → FailsAs whole e
+  walk-fails xs one rest whole file_error.Memory h w = tt
+  walk-fails xs one rest whole (file_error.Fault f) h w = sym w ∙ ap (λ r. after xs (onto r rest)) h
+
+  pub walk-end : (xs : List A) (whole : Result (List A) FileFault) → after xs (Ok []) ≡ whole → whole ≡ Ok xs
+  walk-end xs whole w = sym w ∙ ap Ok (append-nil xs)
+
+  pub walk-start : (r : Result (List A) FileFault) → after [] r ≡ r
+  walk-start (Ok xs) = refl
+  walk-start (Err f) = refl
+
+pub field-get : (fields : List (List ℕ)) (i : ℕ) → field_of fields i ≡ get_or fields i []
+unfolding field_at
+field-get [] zero = refl
+field-get [] (suc i) = refl
+field-get (f ∷ fs) zero = refl
+field-get (f ∷ fs) (suc i) = field-get fs i
+
+-- the cells of one column more
+pub cells-next : (header : List (List ℕ)) (columns : List Column) (row i : ℕ) (fields : List (List ℕ)) (d : Column) → i < length columns
+    → cells_from header (drop i columns) row (i + 1) fields ≡ onto (field_cell (get_or columns i d) row (i + 1) (field_of fields (place_in header (get_or columns i d)))) (cells_from header (drop (i + 1) columns) row (i + 1 + 1) fields)
+cells-next header columns row i fields d h = ap (λ cs. cells_from header cs row (i + 1) fields) (drop-cons columns i d h ∙ ap (λ n. get_or columns i d ∷ drop n columns) (sym (add-one i)))
+
+pub rows-next : (header : List (List ℕ)) (columns : List Column) (i : ℕ) (records : List (List (List ℕ))) (d : List (List ℕ)) → i < length records
+    → rows_from header columns (i + 1) (drop i records) ≡ onto (row_from header columns (i + 1) (get_or records i d)) (rows_from header columns (i + 1 + 1) (drop (i + 1) records))
+rows-next header columns i records d h = ap (rows_from header columns (i + 1)) (drop-cons records i d h ∙ ap (λ n. get_or records i d ∷ drop n records) (sym (add-one i)))
+
+pub place-at : (header : List (List ℕ)) (columns : List Column) (i : ℕ) (d : Column) → i < length columns → get_or (map (place_in header) columns) i 0 ≡ place_in header (get_or columns i d)
+place-at header columns i d h = get_or-map (place_in header) columns i d 0 h
+
+not-long : (bytes : List ℕ) → length bytes ≤ 2147483647 → nat_lt 2147483647 (length bytes) ≡ false
+not-long bytes h = le-ltb _ _ h
+
+pub file-text : (bytes : List ℕ) → length bytes ≤ 2147483647 → IsUtf8 bytes → file_records bytes ≡ Ok (records default_config (strip_bom bytes))
+file-text bytes h u = rw (not-long bytes h, is_utf8-from_IsUtf8 bytes u) refl
+
+pub file-no-text : (bytes : List ℕ) → length bytes ≤ 2147483647 → ¬ (IsUtf8 bytes) → file_records bytes ≡ Err (fault 5 0 0)
+file-no-text bytes h u = by (is_utf8 bytes) refl
+  where
+    by : (b : Bool) → is_utf8 bytes ≡ b → file_records bytes ≡ Err (fault 5 0 0)
+    by true e = absurd (u (IsUtf8-from_is_utf8 bytes e))
+    by false e = rw (not-long bytes h, e) refl

@@ -1,0 +1,272 @@
+-- Rows agree where their parts are equal.
+use Rattle.std.proofs.Common.{◌≡◌, ◌∙◌, ◌&&◌, ◌||◌, ◌++◌, ℕ, zero, suc, Bool, true, false, not, List, [], ◌∷◌, Option, Some, None, map, option_map, if◌then◌else◌, refl, sym, ap, ap₂, arith, string_bytes, append_assoc, append-nil, length, get_or, ◌<◌, ◌≤◌}
+use Rattle.std.specs.List.{list_any}
+use Rattle.std.specs.Cmp.Lexicographic.{bytes_decides, pointwise, pointwise_decides}
+use Rattle.std.proofs.lemmas.List.{map-append}
+use Rattle.std.specs.Str.{bytes_eq}
+use Rattle.std.specs.Prelude.{String}
+use Rattle.std.specs.String.{string_eq}
+use Rattle.std.specs.Prelude.{Vec}
+use Rattle.vkg_cells.specs.declared.cell.Cell.{Cell}
+use Rattle.vkg_cells.specs.declared.cell.Cell.TheVariants as cell
+use Rattle.vkg_cells.specs.Order.{same}
+use Rattle.vkg_schema.specs.Rows.{Row, agree, equal_at, has_no_null, is_known, is_known_true, is_null, cell_at}
+use Rattle.vkg_tables.specs.Checks.{is_orphan, repeats, with_itself}
+use Rattle.vkg_tables.specs.Parts.{IsNoTerm, HasNoTerm, all_parts, is_missing, one_or_none, onto_parts, part, parts, texts_eq, texts_of}
+
+abbrev same_part : Option (List ℕ) → Option (List ℕ) → Bool
+same_part (Some a) (Some b) = bytes_eq a b
+same_part a b = false
+
+abbrev is_there : {A : Type 0} → Option A → Bool
+is_there None = false
+is_there (Some x) = true
+
+-- the parts are there and equal
+abbrev pub both : Option (List (List ℕ)) → Option (List (List ℕ)) → Bool
+both (Some a) (Some b) = texts_eq a b
+both a b = false
+
+cells-same : (c d : Cell) → IsNoTerm c → is_known_true (same c d) ≡ same_part (part c) (part d)
+unfolding part
+cells-same cell.Null d h = refl
+cells-same (cell.Text a) cell.Null h = refl
+cells-same (cell.Text a) (cell.Text b) h = refl
+cells-same (cell.Text a) (cell.Int b) h = refl
+cells-same (cell.Text a) (cell.Dec b) h = refl
+cells-same (cell.Text a) (cell.Bool b) h = refl
+cells-same (cell.Text a) (cell.Date b) h = refl
+cells-same (cell.Text a) (cell.Stamp b) h = refl
+cells-same (cell.Text a) (cell.Bin b) h = refl
+cells-same (cell.Text a) (cell.Term b) h = refl
+cells-same (cell.Int a) cell.Null h = refl
+cells-same (cell.Int a) (cell.Text b) h = refl
+cells-same (cell.Int a) (cell.Int b) h = refl
+cells-same (cell.Int a) (cell.Dec b) h = refl
+cells-same (cell.Int a) (cell.Bool b) h = refl
+cells-same (cell.Int a) (cell.Date b) h = refl
+cells-same (cell.Int a) (cell.Stamp b) h = refl
+cells-same (cell.Int a) (cell.Bin b) h = refl
+cells-same (cell.Int a) (cell.Term b) h = refl
+cells-same (cell.Dec a) cell.Null h = refl
+cells-same (cell.Dec a) (cell.Text b) h = refl
+cells-same (cell.Dec a) (cell.Int b) h = refl
+cells-same (cell.Dec a) (cell.Dec b) h = refl
+cells-same (cell.Dec a) (cell.Bool b) h = refl
+cells-same (cell.Dec a) (cell.Date b) h = refl
+cells-same (cell.Dec a) (cell.Stamp b) h = refl
+cells-same (cell.Dec a) (cell.Bin b) h = refl
+cells-same (cell.Dec a) (cell.Term b) h = refl
+cells-same (cell.Bool a) cell.Null h = refl
+cells-same (cell.Bool a) (cell.Text b) h = refl
+cells-same (cell.Bool a) (cell.Int b) h = refl
+cells-same (cell.Bool a) (cell.Dec b) h = refl
+cells-same (cell.Bool a) (cell.Bool b) h = refl
+cells-same (cell.Bool a) (cell.Date b) h = refl
+cells-same (cell.Bool a) (cell.Stamp b) h = refl
+cells-same (cell.Bool a) (cell.Bin b) h = refl
+cells-same (cell.Bool a) (cell.Term b) h = refl
+cells-same (cell.Date a) cell.Null h = refl
+cells-same (cell.Date a) (cell.Text b) h = refl
+cells-same (cell.Date a) (cell.Int b) h = refl
+cells-same (cell.Date a) (cell.Dec b) h = refl
+cells-same (cell.Date a) (cell.Bool b) h = refl
+cells-same (cell.Date a) (cell.Date b) h = refl
+cells-same (cell.Date a) (cell.Stamp b) h = refl
+cells-same (cell.Date a) (cell.Bin b) h = refl
+cells-same (cell.Date a) (cell.Term b) h = refl
+cells-same (cell.Stamp a) cell.Null h = refl
+cells-same (cell.Stamp a) (cell.Text b) h = refl
+cells-same (cell.Stamp a) (cell.Int b) h = refl
+cells-same (cell.Stamp a) (cell.Dec b) h = refl
+cells-same (cell.Stamp a) (cell.Bool b) h = refl
+cells-same (cell.Stamp a) (cell.Date b) h = refl
+cells-same (cell.Stamp a) (cell.Stamp b) h = refl
+cells-same (cell.Stamp a) (cell.Bin b) h = refl
+cells-same (cell.Stamp a) (cell.Term b) h = refl
+cells-same (cell.Bin a) cell.Null h = refl
+cells-same (cell.Bin a) (cell.Text b) h = refl
+cells-same (cell.Bin a) (cell.Int b) h = refl
+cells-same (cell.Bin a) (cell.Dec b) h = refl
+cells-same (cell.Bin a) (cell.Bool b) h = refl
+cells-same (cell.Bin a) (cell.Date b) h = refl
+cells-same (cell.Bin a) (cell.Stamp b) h = refl
+cells-same (cell.Bin a) (cell.Bin b) h = refl
+cells-same (cell.Bin a) (cell.Term b) h = refl
+cells-same (cell.Term s) d h = absurd (h refl)
+
+cell-NoTerm : (r : Row) (k : ℕ) → HasNoTerm r → IsNoTerm (cell_at r k)
+cell-NoTerm [] k h = λ e. cc e
+cell-NoTerm (c ∷ r) zero h = h.0
+cell-NoTerm (c ∷ r) (suc k) h = cell-NoTerm r k h.1
+
+and-false : (b : Bool) → b && false ≡ false
+and-false true = refl
+and-false false = refl
+
+both-onto : (x y : Option (List ℕ)) (xs ys : Option (List (List ℕ))) → both (onto_parts x xs) (onto_parts y ys) ≡ same_part x y && both xs ys
+both-onto None y xs ys = refl
+both-onto (Some a) y None ys = sym (and-false (same_part (Some a) y))
+both-onto (Some a) None (Some us) ys = refl
+both-onto (Some a) (Some b) (Some us) None = sym (and-false (bytes_eq a b))
+both-onto (Some a) (Some b) (Some us) (Some vs) = refl
+
+-- the rows agree where the parts of the two sides are there and equal
+pub agree-parts : (pairs : List (ℕ × ℕ)) (r s : Row) → HasNoTerm r → agree pairs r s ≡ both (parts (map (λ p. p.0) pairs) r) (parts (map (λ p. p.1) pairs) s)
+unfolding equal_at
+agree-parts [] r s h = refl
+agree-parts (p ∷ ps) r s h =
+    ap₂ (λ a b. a && b) (cells-same (cell_at r p.0) (cell_at s p.1) (cell-NoTerm r p.0 h)) (agree-parts ps r s h)
+    ∙ sym (both-onto (part (cell_at r p.0)) (part (cell_at s p.1)) (parts (map (λ p. p.0) ps) r) (parts (map (λ p. p.1) ps) s))
+
+first-itself : (key : List ℕ) → map (λ (p : ℕ × ℕ). p.0) (with_itself key) ≡ key
+first-itself [] = refl
+first-itself (k ∷ ks) = ap (λ (l : List ℕ). k ∷ l) (first-itself ks)
+
+second-itself : (key : List ℕ) → map (λ (p : ℕ × ℕ). p.1) (with_itself key) ≡ key
+second-itself [] = refl
+second-itself (k ∷ ks) = ap (λ (l : List ℕ). k ∷ l) (second-itself ks)
+
+-- the parts are there, and are some of these
+abbrev pub found : Option (List (List ℕ)) → List (List (List ℕ)) → Bool
+found None known = false
+found (Some ps) known = list_any (texts_eq ps) known
+
+any-both : (o : Option (List (List ℕ))) (columns : List ℕ) (rows : List Row) → list_any (λ r. both o (parts columns r)) rows ≡ found o (all_parts columns rows)
+any-both None columns [] = refl
+any-both None columns (r ∷ rs) = any-both None columns rs
+any-both (Some ps) columns [] = refl
+any-both (Some ps) columns (r ∷ rs) = step (parts columns r) (all_parts columns rs) (any-both (Some ps) columns rs)
+  where
+    step : (x : Option (List (List ℕ))) {rest : Bool} (more : List (List (List ℕ))) → rest ≡ list_any (texts_eq ps) more → both (Some ps) x || rest ≡ list_any (texts_eq ps) (one_or_none x ++ more)
+    step None more e = e
+    step (Some qs) more e = ap (λ b. texts_eq ps qs || b) e
+
+any-agree : (pairs : List (ℕ × ℕ)) (r : Row) (rows : List Row) → HasNoTerm r
+    → list_any (agree pairs r) rows ≡ list_any (λ s. both (parts (map (λ p. p.0) pairs) r) (parts (map (λ p. p.1) pairs) s)) rows
+any-agree pairs r [] h = refl
+any-agree pairs r (s ∷ rows) h = ap₂ (λ a b. a || b) (agree-parts pairs r s h) (any-agree pairs r rows h)
+
+pub any-found : (pairs : List (ℕ × ℕ)) (r : Row) (rows : List Row) → HasNoTerm r
+    → list_any (agree pairs r) rows ≡ found (parts (map (λ p. p.0) pairs) r) (all_parts (map (λ p. p.1) pairs) rows)
+any-found pairs r rows h = any-agree pairs r rows h ∙ any-both (parts (map (λ p. p.0) pairs) r) (map (λ p. p.1) pairs) rows
+
+pub repeats-found : (key : List ℕ) (before : List Row) (row : Row) → HasNoTerm row → repeats key before row ≡ found (parts key row) (all_parts key before)
+repeats-found key before row h =
+    any-found (with_itself key) row before h ∙ ap₂ (λ a b. found (parts a row) (all_parts b before)) (first-itself key) (second-itself key)
+
+-- no column is NULL where the parts are there
+known-part : (c : Cell) → IsNoTerm c → not (is_null c) ≡ is_there (part c)
+unfolding part
+known-part cell.Null h = refl
+known-part (cell.Text a) h = refl
+known-part (cell.Int a) h = refl
+known-part (cell.Dec a) h = refl
+known-part (cell.Bool a) h = refl
+known-part (cell.Date a) h = refl
+known-part (cell.Stamp a) h = refl
+known-part (cell.Bin a) h = refl
+known-part (cell.Term s) h = absurd (h refl)
+
+there-onto : (x : Option (List ℕ)) (xs : Option (List (List ℕ))) → is_there (onto_parts x xs) ≡ is_there x && is_there xs
+there-onto None xs = refl
+there-onto (Some a) None = refl
+there-onto (Some a) (Some us) = refl
+
+known-parts : (columns : List ℕ) (r : Row) → HasNoTerm r → has_no_null columns r ≡ is_there (parts columns r)
+unfolding is_known
+known-parts [] r h = refl
+known-parts (c ∷ cs) r h = ap₂ (λ a b. a && b) (known-part (cell_at r c) (cell-NoTerm r c h)) (known-parts cs r h) ∙ sym (there-onto (part (cell_at r c)) (parts cs r))
+
+missing : (o : Option (List (List ℕ))) (known : List (List (List ℕ))) → is_there o && not (found o known) ≡ is_missing o known
+missing None known = refl
+missing (Some ps) known = refl
+
+pub orphan-missing : (pairs : List (ℕ × ℕ)) (targets : List Row) (row : Row) → HasNoTerm row
+    → is_orphan pairs targets row ≡ is_missing (parts (map (λ p. p.0) pairs) row) (all_parts (map (λ p. p.1) pairs) targets)
+orphan-missing pairs targets row h =
+    ap₂ (λ a b. a && not b) (known-parts (map (λ p. p.0) pairs) row h) (any-found pairs row targets h)
+    ∙ missing (parts (map (λ p. p.0) pairs) row) (all_parts (map (λ p. p.1) pairs) targets)
+
+-- a set of lists of strings, as the texts in it
+strings-eq : {Y : Type 0} (xs ys : List (String Y)) → pointwise string_eq xs ys ≡ texts_eq (map string_bytes xs) (map string_bytes ys)
+strings-eq [] [] = refl
+strings-eq [] (y ∷ ys) = refl
+strings-eq (x ∷ xs) [] = refl
+strings-eq (x ∷ xs) (y ∷ ys) = ap (λ b. bytes_eq (string_bytes x) (string_bytes y) && b) (strings-eq xs ys)
+
+pub any-texts : {Y Z : Type 0} (xs : List (String Y)) (vs : List (Vec (String Y) Z))
+    → list_any (λ v. pointwise string_eq xs v.items) vs ≡ list_any (texts_eq (map string_bytes xs)) (texts_of vs)
+any-texts xs [] = refl
+any-texts xs (v ∷ vs) = ap₂ (λ a b. a || b) (strings-eq xs v.items) (any-texts xs vs)
+
+all_parts-append : (columns : List ℕ) (xs ys : List Row) → all_parts columns (xs ++ ys) ≡ all_parts columns xs ++ all_parts columns ys
+all_parts-append columns [] ys = refl
+all_parts-append columns (x ∷ xs) ys = ap (λ l. one_or_none (parts columns x) ++ l) (all_parts-append columns xs ys) ∙ sym (append_assoc (one_or_none (parts columns x)) (all_parts columns xs) (all_parts columns ys))
+
+-- the parts of one more row
+pub all_parts-more : (columns : List ℕ) (rows : List Row) (row : Row) → all_parts columns (rows ++ row ∷ []) ≡ all_parts columns rows ++ one_or_none (parts columns row)
+all_parts-more columns rows row = all_parts-append columns rows (row ∷ []) ∙ ap (λ l. all_parts columns rows ++ l) (append-nil (one_or_none (parts columns row)))
+
+-- the walk over the columns
+pub parts-stop : (done : List (List ℕ)) (cs : List ℕ) (c : ℕ) (rest : List ℕ) (row : Row) (whole : Option (List (List ℕ))) → cs ≡ c ∷ rest → part (cell_at row c) ≡ None
+    → option_map (λ ps. done ++ ps) (parts cs row) ≡ whole → None ≡ whole
+parts-stop done cs c rest row whole e n w = ap (λ x. option_map (λ ps. done ++ ps) (onto_parts x (parts rest row))) (sym n) ∙ ap (λ l. option_map (λ ps. done ++ ps) (parts l row)) (sym e) ∙ w
+
+onto-done : (done : List (List ℕ)) (t : List ℕ) (o : Option (List (List ℕ))) → option_map (λ ps. (done ++ t ∷ []) ++ ps) o ≡ option_map (λ ps. done ++ ps) (onto_parts (Some t) o)
+onto-done done t None = refl
+onto-done done t (Some ps) = ap Some (append_assoc done (t ∷ []) ps)
+
+pub parts-step : (done : List (List ℕ)) (cs : List ℕ) (c : ℕ) (rest : List ℕ) (row : Row) (whole : Option (List (List ℕ))) (t : List ℕ) → cs ≡ c ∷ rest → part (cell_at row c) ≡ Some t
+    → option_map (λ ps. done ++ ps) (parts cs row) ≡ whole → option_map (λ ps. (done ++ t ∷ []) ++ ps) (parts rest row) ≡ whole
+parts-step done cs c rest row whole t e n w =
+    onto-done done t (parts rest row) ∙ ap (λ x. option_map (λ ps. done ++ ps) (onto_parts x (parts rest row))) (sym n) ∙ ap (λ l. option_map (λ ps. done ++ ps) (parts l row)) (sym e) ∙ w
+
+-- the cell at a place past the end, and at one within
+pub cell_at-past : (row : Row) (k : ℕ) → length row ≤ k → cell_at row k ≡ cell.Null
+cell_at-past [] k h = refl
+cell_at-past (c ∷ row) zero h = absurd (omega (arith, h))
+cell_at-past (c ∷ row) (suc k) h = cell_at-past row k (omega (arith, h))
+
+pub cell_at-in : (row : Row) (k : ℕ) (d : Cell) → k < length row → cell_at row k ≡ get_or row k d
+cell_at-in [] k d h = absurd (omega (arith, h))
+cell_at-in (c ∷ row) zero d h = refl
+cell_at-in (c ∷ row) (suc k) d h = cell_at-in row k d (omega (arith, h))
+
+texts-same : (f t : List (List ℕ)) → texts_eq f t ≡ true → f ≡ t
+texts-same f t e = (pointwise_decides bytes_decides f t).0 e
+
+or-false : (b : Bool) → b || false ≡ b
+or-false true = refl
+or-false false = refl
+
+pub any-push : {A : Type 0} (p : A → Bool) (xs : List A) (x : A) → list_any p (xs ++ x ∷ []) ≡ list_any p xs || p x
+any-push p [] x = or-false (p x)
+any-push p (y ∷ xs) x = ap (λ b. p y || b) (any-push p xs x) ∙ or-assoc (p y) (list_any p xs) (p x)
+  where
+    or-assoc : (a b c : Bool) → a || (b || c) ≡ (a || b) || c
+    or-assoc true b c = refl
+    or-assoc false b c = refl
+
+-- what is among them adds nothing
+settled : (f t : List (List ℕ)) (ks : List (List (List ℕ))) → list_any (texts_eq t) ks ≡ true → list_any (texts_eq f) ks ≡ list_any (texts_eq f) (ks ++ t ∷ [])
+settled f t ks e = by (texts_eq f t) refl ∙ sym (any-push (texts_eq f) ks t)
+  where
+    by : (b : Bool) → texts_eq f t ≡ b → list_any (texts_eq f) ks ≡ list_any (texts_eq f) ks || texts_eq f t
+    by true h =
+        let here : list_any (texts_eq f) ks ≡ true = ap (λ g. list_any (texts_eq g) ks) (texts-same f t h) ∙ e in
+        here ∙ sym (ap (λ b. b || texts_eq f t) here)
+    by false h = sym (ap (λ b. list_any (texts_eq f) ks || b) h ∙ or-false (list_any (texts_eq f) ks))
+
+inserted : {Y Z : Type 0} (f : List (List ℕ)) (b : Bool) (vs : List (Vec (String Y) Z)) (v : Vec (String Y) Z) → list_any (texts_eq (map string_bytes v.items)) (texts_of vs) ≡ b
+    → list_any (texts_eq f) (texts_of (if b then vs else vs ++ v ∷ [])) ≡ list_any (texts_eq f) (texts_of vs ++ map string_bytes v.items ∷ [])
+inserted f true vs v e = settled f (map string_bytes v.items) (texts_of vs) e
+inserted f false vs v e = ap (list_any (texts_eq f)) (map-append (λ w. map string_bytes w.items) vs (v ∷ []))
+
+-- a set with one list of strings more
+pub any-inserted : {Y Z : Type 0} (f : List (List ℕ)) (vs : List (Vec (String Y) Z)) (v : Vec (String Y) Z)
+    → list_any (texts_eq f) (texts_of (if list_any (λ y. pointwise string_eq v.items y.items) vs then vs else vs ++ v ∷ [])) ≡ list_any (texts_eq f) (texts_of vs) || texts_eq f (map string_bytes v.items)
+any-inserted f vs v = inserted f (list_any (λ y. pointwise string_eq v.items y.items) vs) vs v (sym (any-texts v.items vs)) ∙ any-push (texts_eq f) (texts_of vs) (map string_bytes v.items)
+
+pub any-parts-more : (f : List (List ℕ)) (ks : List (List (List ℕ))) (t : List (List ℕ)) → list_any (texts_eq f) (ks ++ t ∷ []) ≡ list_any (texts_eq f) ks || texts_eq f t
+any-parts-more f ks t = any-push (texts_eq f) ks t

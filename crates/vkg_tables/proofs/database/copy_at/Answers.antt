@@ -1,0 +1,7 @@
+use Rattle.std.proofs.Common.{◌∙◌, sym}
+use Rattle.std.proofs.lemmas.Result.{IfOk-weaker}
+use Rattle.vkg_tables.proofs.PartsLemmas.{cell_at-in}
+use Rattle.vkg_tables.proofs.database.copy_at.Goals as goal
+
+pub returns : goal.returns
+returns c = IfOk-weaker c.copy.result _ _ (λ v e. e ∙ c.index-row-column.is ∙ sym (cell_at-in c.args.row.now c.args.column c.index-row-column.result c.requires)) c.copy.ensures

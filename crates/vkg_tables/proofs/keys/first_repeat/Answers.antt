@@ -1,0 +1,49 @@
+use Rattle.std.proofs.Common.{◌≡◌, ◌∙◌, ◌++◌, Bool, true, false, not, None, Some, ap, ap₂, map, option_map, string_bytes, sym, take, refl}
+use Rattle.std.proofs.lemmas.List.{append-nil}
+use Rattle.vkg_tables.specs.Checks.{repeats}
+use Rattle.vkg_tables.specs.Parts.{all_parts, one_or_none, parts}
+use Rattle.vkg_tables.proofs.PartsLemmas.{any-texts}
+use Rattle.vkg_tables.proofs.FirstLemmas.{first-found, first-step, parts-next, repeats-known, texts-pushed}
+use Rattle.vkg_tables.proofs.keys.first_repeat.Goals as goal
+
+flipped : (b : Bool) → false ≡ not b → b ≡ true
+flipped true e = refl
+flipped false e = cc e
+
+flipped-other : (b : Bool) → true ≡ not b → b ≡ false
+flipped-other false e = refl
+flipped-other true e = cc e
+
+pub loop-i-preserved-in_default : goal.loop-i-preserved-in_default
+loop-i-preserved-in_default c =
+    let row = c.index-rows-i.result in
+    let none : None ≡ parts c.args.key.now row = ap (option_map (λ v. map string_bytes v.items)) (sym c.in_default.is) ∙ c.in_ok-found.ensures ∙ ap (parts c.args.key.now) c.as_slice.ensures in
+    record {
+      first = first-step (repeats c.args.key.now) c.args.rows.now c.loop-i.i row _ c.loop-i-test.true c.index-rows-i.is c.loop-i.invariant.first
+          (repeats-known c.args.key.now c.args.rows.now c.loop-i.i row None _ c.requires c.loop-i-test.true c.index-rows-i.is none c.loop-i.invariant.seen);
+      seen = c.loop-i.invariant.seen ∙ sym (parts-next c.args.key.now c.args.rows.now c.loop-i.i row c.loop-i-test.true c.index-rows-i.is
+          ∙ ap (λ o. all_parts c.args.key.now (take c.loop-i.i c.args.rows.now) ++ one_or_none o) (sym none) ∙ append-nil _);
+    }
+
+pub returns-then-not-is_new : goal.returns-then-not-is_new
+returns-then-not-is_new c =
+    let row = c.index-rows-i.result in
+    let some : Some (map string_bytes c.in-Some.found.items) ≡ parts c.args.key.now row = ap (option_map (λ v. map string_bytes v.items)) (sym c.in-Some.is) ∙ c.in_ok-found.ensures ∙ ap (parts c.args.key.now) c.as_slice.ensures in
+    let here = flipped _ (sym c.if-not-is_new.true ∙ c.in_ok-is_new.ensures.added) in
+    first-found (repeats c.args.key.now) c.args.rows.now c.loop-i.i row _ c.loop-i-test.true c.index-rows-i.is c.loop-i.invariant.first
+    (repeats-known c.args.key.now c.args.rows.now c.loop-i.i row _ _ c.requires c.loop-i-test.true c.index-rows-i.is some c.loop-i.invariant.seen
+    ∙ sym (any-texts c.in-Some.found.items c.loop-i.seen.keys) ∙ here)
+
+pub loop-i-preserved : goal.loop-i-preserved
+loop-i-preserved c =
+    let row = c.index-rows-i.result in
+    let some : Some (map string_bytes c.in-Some.found.items) ≡ parts c.args.key.now row = ap (option_map (λ v. map string_bytes v.items)) (sym c.in-Some.is) ∙ c.in_ok-found.ensures ∙ ap (parts c.args.key.now) c.as_slice.ensures in
+    let absent = flipped-other _ (sym c.if-not-is_new.false ∙ c.in_ok-is_new.ensures.added) in
+    record {
+      first = first-step (repeats c.args.key.now) c.args.rows.now c.loop-i.i row _ c.loop-i-test.true c.index-rows-i.is c.loop-i.invariant.first
+          (repeats-known c.args.key.now c.args.rows.now c.loop-i.i row _ _ c.requires c.loop-i-test.true c.index-rows-i.is some c.loop-i.invariant.seen
+          ∙ sym (any-texts c.in-Some.found.items c.loop-i.seen.keys) ∙ absent);
+      seen = rw (c.in_ok-is_new.ensures.keys, absent) (texts-pushed c.loop-i.seen.keys c.in-Some.found)
+          ∙ ap₂ (λ ks o. ks ++ one_or_none o) c.loop-i.invariant.seen some
+          ∙ sym (parts-next c.args.key.now c.args.rows.now c.loop-i.i row c.loop-i-test.true c.index-rows-i.is);
+    }

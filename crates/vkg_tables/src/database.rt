@@ -1,0 +1,162 @@
+ghost use Rattle.std.specs.Prelude.{◌≡◌, ◌<◌, [], Ok, None, IfOk, IfErr, OnOk, OnErr, length, map};
+ghost use Rattle.std.specs.List.{AllZip};
+ghost use Rattle.vkg_schema.specs.Meets.{FitsColumn, MeetsSchema};
+ghost use Rattle.vkg_schema.specs.Rows.{cell_at, rows_of};
+ghost use Rattle.vkg_tables.specs.Checks.{key_fault, reference_fault};
+ghost use Rattle.vkg_tables.specs.Seen.{FailsWith, HoldsCells, Tells, cell_of, columns_of, loaded, with_row, without_rows};
+
+use crate::checks::{find_key_fault, find_reference_fault, rows_at};
+use crate::fault::{FileError, TableError, TableFault};
+use crate::load::read_file;
+use std::alloc::Global;
+use std::marker::Model;
+use std::mem;
+use vkg_base::{Items, Memory};
+use vkg_cells::Cell;
+use vkg_schema::Schema;
+
+/// A schema, and of each of its tables the rows. Tables, rows and columns count from 0 in calls.
+#[derive(Drop)]
+pub struct Database {
+    schema: Schema,
+    tables: Items<Items<Items<Cell>>>,
+}
+
+impl Model for Database {
+    ghost use Rattle.std.specs.Prelude.{List};
+    ghost use Rattle.vkg_schema.specs.declared.table.Table.{Table};
+    ghost use Rattle.vkg_cells.specs.declared.cell.Cell.{Cell};
+    ghost use Rattle.vkg_tables.specs.Seen.{Seen, HoldsCells};
+
+    ghost Value = { Seen };
+
+    ghost view = { λ d. record { schema = d.schema; tables = d.tables } };
+
+    ghost invariant = { λ d. HoldsCells d.schema d.tables };
+}
+
+impl Database {
+    /// A database of a schema, whose tables have no rows.
+    pub fn new(alloc: Global, schema: &Schema) -> Result<Database, Memory>
+        ensures { IfOk result (λ d. d ≡ without_rows schema.now) }
+    {
+        let tables = empty_tables(alloc, schema)?;
+        let schema = schema.copy()?;
+        Ok(Database { schema, tables })
+    }
+
+    pub fn schema(&self) -> &Schema
+        ensures { result.now ≡ self.now.schema }
+    {
+        &self.schema
+    }
+
+    /// The rows of a table, and none past the last table.
+    pub fn rows_of(&self, table: usize) -> &[Items<Cell>]
+        ensures rows { result.now ≡ rows_of self.now.tables table }
+        ensures holds { HoldsCells self.now.schema self.now.tables }
+    {
+        rows_at(self.tables.as_slice(), table)
+    }
+
+    /// How many rows a table has.
+    pub fn rows(&self, table: usize) -> usize
+        ensures { result ≡ length (rows_of self.now.tables table) }
+    {
+        rows_at(self.tables.as_slice(), table).len()
+    }
+
+    /// A copy of a cell.
+    pub fn cell(&self, table: usize, row: usize, column: usize) -> Result<Cell, Memory>
+        requires row { row < length (rows_of self.now.tables table) }
+        requires column { column < length (columns_of self.now.schema table) }
+        ensures { IfOk result (λ c. c ≡ cell_of self.now table row column) }
+    {
+        let rows = rows_at(self.tables.as_slice(), table);
+        copy_at(rows[row].as_slice(), column)
+    }
+
+    /// Reads a file in CSV (RFC 4180), and puts its rows in place of those of a table. An error changes nothing.
+    pub fn load_table(
+        &mut self,
+        alloc: Global,
+        table: usize,
+        bytes: &[u8],
+    ) -> Result<(), TableError>
+        requires { table < length self.old.schema }
+        ensures ok { OnOk result (loaded self.old table bytes.now ≡ Ok self.new) }
+        ensures fault { IfErr result (FailsWith (loaded self.old table bytes.now)) }
+        ensures err { OnErr result (self.new ≡ self.old) }
+    {
+        match read_file(alloc, self.schema.tables()[table].columns.as_slice(), bytes) {
+            Ok(rows) => {
+                self.tables.set(table, rows);
+                Ok(())
+            }
+            Err(FileError::Fault(fault)) => Err(TableError::Fault(TableFault {
+                check: fault.check,
+                table: table + 1,
+                row: fault.row,
+                column: fault.column,
+            })),
+            Err(FileError::Memory) => Err(TableError::Memory),
+        }
+    }
+
+    /// Puts a row behind those of a table. Want of memory changes nothing.
+    pub fn push_row(&mut self, table: usize, row: Vec<Cell>) -> Result<(), Memory>
+        requires table { table < length self.old.schema }
+        requires row { AllZip FitsColumn (columns_of self.old.schema table) row.items }
+        ensures ok { OnOk result (self.new ≡ with_row self.old table row.items) }
+        ensures err { OnErr result (self.new ≡ self.old) }
+    {
+        let none = Items::new(self.tables.alloc());
+        let mut tables = mem::replace(&mut self.tables, none).into_vec();
+        let pushed = tables[table].push(Items::from_vec(row));
+        self.tables = Items::from_vec(tables);
+        pushed
+    }
+
+    /// That no two rows of a table agree on a whole key (SQL 92, 4.10.2).
+    pub fn check_keys(&self, alloc: Global) -> Result<(), TableError>
+        ensures ok { OnOk result (key_fault self.now.schema self.now.tables ≡ None) }
+        ensures fault { IfErr result (Tells (key_fault self.now.schema self.now.tables)) }
+    {
+        match find_key_fault(alloc, self.schema.tables(), self.tables.as_slice()) {
+            Ok(None) => Ok(()),
+            Ok(Some(fault)) => Err(TableError::Fault(fault)),
+            Err(Memory) => Err(TableError::Memory),
+        }
+    }
+
+    /// That each row without NULL in a foreign key has a row that it refers to (SQL 92, 4.10.2). Where no key is repeated
+    /// either, the database meets its schema.
+    pub fn check_references(&self, alloc: Global) -> Result<(), TableError>
+        ensures ok { OnOk result (reference_fault self.now.schema self.now.tables ≡ None) }
+        ensures meets { OnOk result (key_fault self.now.schema self.now.tables ≡ None → MeetsSchema self.now.schema self.now.tables) }
+        ensures fault { IfErr result (Tells (reference_fault self.now.schema self.now.tables)) }
+    {
+        match find_reference_fault(alloc, self.schema.tables(), self.tables.as_slice()) {
+            Ok(None) => Ok(()),
+            Ok(Some(fault)) => Err(TableError::Fault(fault)),
+            Err(Memory) => Err(TableError::Memory),
+        }
+    }
+}
+
+fn copy_at(row: &[Cell], column: usize) -> Result<Cell, Memory>
+    requires { column < length row.now }
+    ensures { IfOk result (λ c. c ≡ cell_at row.now column) }
+{
+    row[column].copy()
+}
+
+fn empty_tables(alloc: Global, schema: &Schema) -> Result<Items<Items<Items<Cell>>>, Memory>
+    ensures { IfOk result (λ ts. ts ≡ map (λ t. []) schema.now) }
+{
+    let mut tables = Items::new(alloc);
+    for _ in schema.tables() {
+        tables.push(Items::new(alloc))?;
+    }
+    Ok(tables)
+}

@@ -1,0 +1,144 @@
+ghost use Rattle.std.specs.Prelude.{◌≡◌, ◌<◌, ◌++◌, ◌∷◌, [], IfOk, OnOk, Some, None, List, ℕ, map, option_map, string_bytes, is_some};
+ghost use Rattle.std.specs.List.{AllByRecursion, list_any};
+ghost use Rattle.vkg_tables.specs.Firsts.{first_repeat as first_repeat_of, first_orphan as first_orphan_of};
+ghost use Rattle.vkg_tables.specs.Parts.{HasNoTerm, all_parts, is_missing, part as part_of_cell, parts as parts_of_row, texts_eq, texts_of};
+
+use indexmap::IndexSet;
+use std::alloc::Global;
+use vkg_base::{Items, Memory};
+use vkg_cells::Cell;
+
+// A family's digit, and a text.
+fn tagged(alloc: Global, tag: char, text: &str) -> Result<Option<String>, Memory>
+    requires { tag < 128 }
+    ensures { IfOk result (λ o. option_map string_bytes o ≡ Some (tag ∷ text.now)) }
+{
+    let mut out = String::new(alloc);
+    out.push(tag)?;
+    out.push_str(text)?;
+    Ok(Some(out))
+}
+
+// The text by which a cell is found. NULL has none.
+#[tactic(auto, unfolding(crate::specs::Parts::part))]
+fn part(alloc: Global, cell: &Cell) -> Result<Option<String>, Memory>
+    ensures { IfOk result (λ o. option_map string_bytes o ≡ part_of_cell cell.now) }
+{
+    match cell {
+        Cell::Null => Ok(None),
+        Cell::Text(text) => tagged(alloc, '1', text.as_str()),
+        Cell::Int(text) => tagged(alloc, '2', text.as_str()),
+        Cell::Dec(text) => tagged(alloc, '2', text.as_str()),
+        Cell::Bool(true) => tagged(alloc, '3', "true"),
+        Cell::Bool(false) => tagged(alloc, '3', "false"),
+        Cell::Date(text) => tagged(alloc, '4', text.as_str()),
+        Cell::Stamp(text) => tagged(alloc, '5', text.as_str()),
+        Cell::Bin(text) => tagged(alloc, '6', text.as_str()),
+        Cell::Term(_) => Ok(None),
+    }
+}
+
+// The texts by which a row's columns are found, none where one is NULL.
+fn parts(alloc: Global, row: &[Cell], columns: &[usize]) -> Result<Option<Vec<String>>, Memory>
+    ensures { IfOk result (λ o. option_map (λ v. map string_bytes v.items) o ≡ parts_of_row columns.now row.now) }
+{
+    let mut out = Vec::new(alloc);
+    for column in columns {
+        let Some(cell) = row.get(*column) else {
+            return Ok(None);
+        };
+        let Some(text) = part(alloc, cell)? else {
+            return Ok(None);
+        };
+        out.push(text)?;
+    }
+    Ok(Some(out))
+}
+
+/// The first row that agrees with an earlier one on a whole key.
+pub fn first_repeat(
+    alloc: Global,
+    rows: &[Items<Cell>],
+    key: &[usize],
+) -> Result<Option<usize>, Memory>
+    requires { AllByRecursion HasNoTerm rows.now }
+    ensures { IfOk result (λ o. o ≡ first_repeat_of key.now rows.now) }
+{
+    let mut seen: IndexSet<Vec<String>> = IndexSet::new(alloc);
+    for (i, row) in rows.iter().enumerate() {
+        let Some(found) = parts(alloc, row.as_slice(), key)? else {
+            continue;
+        };
+        let (_, is_new) = seen.insert_full(found)?;
+        if !is_new {
+            return Ok(Some(i + 1));
+        }
+    }
+    Ok(None)
+}
+
+// The texts by which the rows are found.
+fn known_parts(
+    alloc: Global,
+    rows: &[Items<Cell>],
+    columns: &[usize],
+) -> Result<IndexSet<Vec<String>>, Memory>
+    ensures { IfOk result (λ s. (found : List (List ℕ)) → list_any (texts_eq found) (texts_of s.keys) ≡ list_any (texts_eq found) (all_parts columns.now rows.now)) }
+{
+    let mut known: IndexSet<Vec<String>> = IndexSet::new(alloc);
+    for row in rows {
+        let Some(found) = parts(alloc, row.as_slice(), columns)? else {
+            continue;
+        };
+        known.insert_full(found)?;
+    }
+    Ok(known)
+}
+
+// Whether the row refers to no row of those that are known.
+fn is_orphan(
+    alloc: Global,
+    row: &[Cell],
+    children: &[usize],
+    known: &IndexSet<Vec<String>>,
+) -> Result<bool, Memory>
+    ensures { IfOk result (λ b. b ≡ is_missing (parts_of_row children.now row.now) (texts_of known.now.keys)) }
+{
+    let Some(found) = parts(alloc, row, children)? else {
+        return Ok(false);
+    };
+    Ok(!known.contains(found.as_slice()))
+}
+
+fn children_of(alloc: Global, pairs: &[(usize, usize)]) -> Result<Vec<usize>, Memory>
+    ensures { IfOk result (λ v. v.items ≡ map (λ p. p.0) pairs.now) }
+{
+    Ok(pairs.iter().map(|p| p.0).collect(alloc)?)
+}
+
+fn parents_of(alloc: Global, pairs: &[(usize, usize)]) -> Result<Vec<usize>, Memory>
+    ensures { IfOk result (λ v. v.items ≡ map (λ p. p.1) pairs.now) }
+{
+    Ok(pairs.iter().map(|p| p.1).collect(alloc)?)
+}
+
+/// The first row that refers to no row.
+pub fn first_orphan(
+    alloc: Global,
+    rows: &[Items<Cell>],
+    targets: &[Items<Cell>],
+    pairs: &[(usize, usize)],
+) -> Result<Option<usize>, Memory>
+    requires { AllByRecursion HasNoTerm rows.now }
+    ensures { IfOk result (λ o. o ≡ first_orphan_of pairs.now targets.now rows.now) }
+{
+    let children = children_of(alloc, pairs)?;
+    let parents = parents_of(alloc, pairs)?;
+    let known = known_parts(alloc, targets, parents.as_slice())?;
+    for (i, row) in rows.iter().enumerate() {
+        if is_orphan(alloc, row.as_slice(), children.as_slice(), &known)? {
+            return Ok(Some(i + 1));
+        }
+    }
+    Ok(None)
+}
