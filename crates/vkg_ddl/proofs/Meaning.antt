@@ -10,7 +10,7 @@ use Rattle.vkg_ddl.specs.declared.role.Role.{Role}
 use Rattle.vkg_ddl.specs.declared.written.WrittenTable.{WrittenTable}
 use Rattle.vkg_ddl.specs.Written.{act}
 use Rattle.vkg_ddl.specs.declared.name.Name.{Name}
-use Rattle.vkg_ddl.specs.Reading.{role_of, is_choice, written_of, with_token, with_note, kinds_of}
+use Rattle.vkg_ddl.specs.Reading.{role_of, is_choice, written_of, with_token, with_note}
 
 note_first : (n : Note) (ns : List Note) (ts : List Name) (tables : List WrittenTable) (is_so : Bool) → is_choice (role_of n.symbol) ≡ is_so → written_of (n ∷ ns) ts tables ≡ cond is_so (written_of ns ts tables) (with_token (role_of n.symbol) ts tables (λ us next. written_of ns us next))
 unfolding written_of
@@ -39,11 +39,3 @@ module _ (notes : List Note) (i : ℕ) (d : Note) (r : Role) (h : i < length not
 pub all_noted : (notes : List Note) (i : ℕ) (ts : List Name) (tables all : List WrittenTable) → length notes ≤ i → written_of (drop i notes) ts tables ≡ all → tables ≡ all
 unfolding written_of
 all_noted notes i ts tables all h inv = sym (at_drop_all (λ ns. written_of ns ts tables) notes i h) ∙ inv
-
-kind_fits : (ts : List Token) (i : ℕ) → i < length (kinds_of ts) → AllByRecursion HasKind ts → slice_index (kinds_of ts) i + 1 < 18
-kind_fits [] i h k = absurd (omega arith)
-kind_fits (t ∷ ts) zero h k = omega (arith, k.0)
-kind_fits (t ∷ ts) (suc i) h k = kind_fits ts i (omega arith) k.1
-
-pub kinds_fit : {ks : List ℕ} (ts : List Token) → ks ≡ kinds_of ts → AllByRecursion HasKind ts → (i : ℕ) → i < length ks → slice_index ks i + 1 < 18
-kinds_fit {ks = ks} ts e k = subst (λ ys. (i : ℕ) → i < length ys → slice_index ys i + 1 < 18) (sym e) (λ i h. kind_fits ts i h k)

@@ -1,6 +1,7 @@
 -- What a text says, by its one derivation.
 use Rattle.vkg_grammar.specs.declared.note.Note.{Note}
 use Rattle.std.specs.Prelude.{◌≡◌, ℕ, ◌⊎◌, Bool, true, false, List, [], ◌∷◌, length, map, slice_index_or, slice_get, unwrap_or, Ok, Err, if◌then◌else◌}
+use Rattle.vkg_grammar.specs.Kinds.{kinds_of}
 use Rattle.vkg_grammar.specs.Parsing.{IsFirstDead, IsCutOff, IsTheText}
 use Rattle.vkg_tokens.specs.declared.cutting.Token.{Token}
 use Rattle.vkg_tokens.specs.declared.lang.Lang.TheVariants.{Ddl}
@@ -35,9 +36,6 @@ with_note r ts tables more = if is_choice r then more ts tables else with_token 
 unfoldable pub written_of : List Note → List Name → List WrittenTable → List WrittenTable
 written_of [] ts tables = tables
 written_of (n ∷ ns) ts tables = with_note (role_of n.symbol) ts tables (λ us next. written_of ns us next)
-
-abbrev pub kinds_of : List Token → List ℕ
-kinds_of ts = map (λ t. t.kind) ts
 
 abbrev pub start_at : List Token → ℕ → ℕ
 start_at ts i = slice_index_or (map (λ t. t.start) ts) i 0

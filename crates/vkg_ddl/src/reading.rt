@@ -1,9 +1,10 @@
-ghost use Rattle.vkg_grammar.specs.Parsing.{IsTheText, Fails};
+ghost use Rattle.vkg_grammar.specs.Parsing.{IsTheText, Stops};
 ghost use Rattle.std.specs.Prelude.{◌≡◌, ◌<◌, ◌+◌, ℕ, slice_index, slice_get, unwrap_or, [], length, map, IfOk, IfErr, slice_index_or, true, false};
 ghost use Rattle.std.specs.List.{AllByRecursion};
 ghost use Rattle.vkg_tokens.specs.Cut.{HasKind};
+ghost use Rattle.vkg_grammar.specs.Kinds.{kinds_of, AreBelow};
 ghost use Rattle.vkg_ddl.specs.Formed.{IsFormed};
-ghost use Rattle.vkg_ddl.specs.Reading.{role_of, is_choice, written_of, kinds_of, Says, TextFails};
+ghost use Rattle.vkg_ddl.specs.Reading.{role_of, is_choice, written_of, Says, TextFails};
 ghost use Rattle.vkg_ddl.specs.declared.reading.TextFault.TheVariants.{Memory as OutOfMemory};
 ghost use Rattle.vkg_ddl.specs.declared.role.Role.TheVariants.{Choice};
 
@@ -13,7 +14,7 @@ use crate::role::Role;
 use crate::written::{WrittenTable, act};
 use std::alloc::{AllocError, AllocFailed, Global};
 use vkg_base::{Items, Memory};
-use vkg_grammar::{Note, ParseFault, Rule, parse};
+use vkg_grammar::{Grammar, Note, ParseFault, Rule, parse};
 use vkg_tokens::{Lang, Token, TokensError, tokens};
 
 /// Why a text is none of the grammar.
@@ -98,12 +99,6 @@ fn written_of(alloc: Global, notes: &[Note], tokens: &[Name]) -> Result<Items<Wr
     Ok(tables)
 }
 
-fn kinds_of(alloc: Global, tokens: &[Token]) -> Result<Vec<usize>, Memory>
-    ensures { IfOk result (λ kinds. kinds.items ≡ kinds_of tokens.now) }
-{
-    Ok(tokens.iter().map(|t| t.kind).collect(alloc)?)
-}
-
 fn start_of(tokens: &[Token], index: usize) -> usize
     requires { index < length tokens.now }
     ensures { result ≡ slice_index_or (map (λ t. t.start) tokens.now) index 0 }
@@ -117,13 +112,14 @@ fn rules() -> &'static [Rule]
     &DDL
 }
 
-// The notes of the derivation of tokens of these kinds.
-fn notes_of(alloc: Global, kinds: &[usize]) -> Result<Vec<Note>, ParseFault>
-    requires { (i : ℕ) → i < length kinds.now → slice_index kinds.now i + 1 < 18 }
-    ensures text { IfOk result (λ notes. IsTheText DDL kinds.now notes.items) }
-    ensures fails { IfErr result (Fails DDL kinds.now) }
+// The notes of the derivation of these tokens.
+fn notes_of(alloc: Global, tokens: &[Token]) -> Result<Vec<Note>, ParseFault>
+    requires { AreBelow 17 tokens.now }
+    ensures text { IfOk result (λ notes. IsTheText DDL (kinds_of tokens.now) notes.items) }
+    ensures stops { IfErr result (Stops DDL (kinds_of tokens.now)) }
 {
-    parse(alloc, rules(), 18, kinds)
+    let grammar = Grammar::new(rules(), 17);
+    parse(alloc, &grammar, tokens)
 }
 
 /// What stands in a text of the grammar, or its first fault.
@@ -137,13 +133,13 @@ pub fn read_written(alloc: Global, text: &str) -> Result<Items<WrittenTable>, Te
         Err(TokensError::Memory) => return Err(TextFault::Memory),
         Err(TokensError::LexFault { at }) => return Err(TextFault::Lexical { at }),
     };
-    let kinds = kinds_of(alloc, &tokens)?;
-    match notes_of(alloc, &kinds) {
+    match notes_of(alloc, &tokens) {
         Ok(notes) => {
             let names = names_of(alloc, text, &tokens)?;
             Ok(written_of(alloc, &notes, &names)?)
         }
         Err(ParseFault::Memory) => Err(TextFault::Memory),
+        Err(ParseFault::TooDeep { .. }) => unreachable!(),
         Err(ParseFault::Dead { index }) => {
             let at = start_of(&tokens, index);
             Err(TextFault::Grammar { at })

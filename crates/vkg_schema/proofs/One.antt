@@ -13,7 +13,8 @@ use Rattle.vkg_ddl.specs.declared.grammar_table.TheConstants.{DDL}
 use Rattle.vkg_ddl.specs.declared.written.WrittenTable.{WrittenTable}
 use Rattle.vkg_ddl.specs.FirstFault.{first_fault}
 use Rattle.vkg_ddl.specs.Names.{names_of}
-use Rattle.vkg_ddl.specs.Reading.{Says, IsNoText, written_of, kinds_of, start_at}
+use Rattle.vkg_grammar.specs.Kinds.{kinds_of}
+use Rattle.vkg_ddl.specs.Reading.{Says, IsNoText, written_of, start_at}
 use Rattle.vkg_schema.specs.declared.reading.SchemaFault.{SchemaFault}
 use Rattle.vkg_schema.specs.declared.table.Table.{Table}
 use Rattle.vkg_schema.specs.Reading.{without_mark, IsSchemaText, IsFaultOf, fault, no_utf8, no_token, no_text, no_schema, IsDetermined}

@@ -1,13 +1,12 @@
 use Rattle.std.proofs.Common.{[], ap, sym, subst, ◌∙◌}
 use Rattle.std.specs.List.{AllByRecursion}
+use Rattle.vkg_grammar.specs.Kinds.{AreBelow}
 use Rattle.vkg_ddl.specs.Formed.{IsWord, IsFormed}
-use Rattle.vkg_ddl.specs.Reading.{kinds_of}
 use Rattle.vkg_ddl.proofs.Forming.{written_formed}
-use Rattle.vkg_ddl.proofs.Meaning.{kinds_fit}
 use Rattle.vkg_ddl.proofs.reading.read_written.Goals as goal
 
 pub notes_of-requires : goal.notes_of-requires
-notes_of-requires c = kinds_fit c.in-Ok.tokens.items (c.deref-2.ensures.value ∙ c.in_ok-kinds.ensures ∙ ap kinds_of c.deref.ensures.value) c.in-Ok.ensures.kinds
+notes_of-requires c = subst (AreBelow 17) (sym c.deref.ensures.value) c.in-Ok.ensures.kinds
 
 pub returns-in-Ok-notes_of-clause-form : goal.returns-in-Ok-notes_of-clause-form
 returns-in-Ok-notes_of-clause-form c = subst (AllByRecursion IsFormed) (sym c.in_ok-written_of-in-Ok-notes_of.ensures) (written_formed _ _ [] (subst (AllByRecursion IsWord) (sym c.deref-in-Ok-notes_of-3.ensures.value) c.in_ok-names-in-Ok-notes_of.ensures.utf8) tt)
