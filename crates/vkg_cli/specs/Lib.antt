@@ -1,4 +1,6 @@
 pub mod CommandLine
 pub mod FaultLine
+pub mod Parts
 pub mod Stages
 pub mod Words
+pub mod Work

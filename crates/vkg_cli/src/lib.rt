@@ -3,7 +3,10 @@
 #![tactic(auto)]
 
 mod command_line;
+mod dump;
 mod fault_line;
+mod load;
+mod parts;
 mod stops;
 mod words;
 
