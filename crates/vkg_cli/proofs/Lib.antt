@@ -1,4 +1,6 @@
+pub mod Answers
 pub mod AskedLemmas
+pub mod Clauses
 pub mod DirectLemmas
 pub mod FilledLemmas
 pub mod Ran

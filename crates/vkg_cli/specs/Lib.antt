@@ -1,3 +1,5 @@
+pub mod Answer
+pub mod Clauses
 pub mod CommandLine
 pub mod FaultLine
 pub mod Parts

@@ -8,7 +8,9 @@ mod fault_line;
 mod load;
 mod parts;
 mod stops;
+mod top;
 mod words;
 
 pub use stops::{Fault, Stop, Usage};
+pub use top::vkg;
 pub use words::{DumpOptions, Request, read_request};
