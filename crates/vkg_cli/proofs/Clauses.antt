@@ -13,7 +13,8 @@ use Rattle.vkg_cli.specs.FaultLine.{status_of}
 use Rattle.vkg_cli.specs.Words.{Asked, Options, dump, help, refused}
 use Rattle.vkg_cli.specs.Work.{Works}
 use Rattle.vkg_cli.specs.Answer.{Ends, HasFault, HasText, IsAnswer, IsDone, IsRefused, World}
-use Rattle.vkg_cli.specs.Clauses.{AsksInOrder, HelpIsGiven, IsComplete, IsDoneOnly, IsMemoryTold, IsReadFaultOnly, IsRefusedExactly, IsUntouched, IsUsageExactly, IsWriteFaultOnly}
+use Rattle.vkg_cli.specs.Clauses.{AsksInOrder, HelpIsGiven, IsComplete, IsDoneOnly, IsMemoryTold, IsReadFaultOnly, IsRefusedExactly, IsUntouched, IsUsageExactly, IsWriteFaultOnly, WritesDump}
+use Rattle.vkg_cli.proofs.Headline.{headline}
 use Rattle.vkg_cli.proofs.Whole.{determined_work}
 
 abbrev Lines : Type 0
@@ -101,12 +102,21 @@ done_written : Done ≡ WriteFault → ⊥
 done_written e = cc
 
 module _ (old new : World) (status : Status) where
+  writes : (options : Options) → IsDone options old new → WritesDump options old new
+  writes options is = record {
+    lines = is.lines;
+    dump_of = λ files told. headline options files is.lines (is.defined files told);
+    taken = is.taken;
+    store = is.store;
+    err = is.err;
+  }
+
   pub done_only : (asked : Asked) → IsAnswer asked old new status → IsDoneOnly asked old new status
   done_only help (same, inl (is, took, quiet)) done = inl (refl, took, same, quiet)
   done_only help (same, inr (is, broke, told)) done = absurd (not_twice status Done WriteFault done is done_written)
   done_only (refused usage) (same, inl (is, why)) done = absurd (not_twice status Done BadWords done is (λ e. cc e))
   done_only (refused usage) (same, inr (is, why)) done = absurd (not_twice status Done Memory done is (λ e. cc e))
-  done_only (dump options) is done = inr (options, refl, subst (Ends options old new) done is.ends)
+  done_only (dump options) is done = inr (options, refl, writes options (subst (Ends options old new) done is.ends))
 
   pub usage_exactly : (asked : Asked) → IsAnswer asked old new status → IsUsageExactly asked old new status
   usage_exactly help (same, inl (is, took, quiet)) = (λ bad. absurd (not_twice status BadWords Done bad is (λ e. cc e)), λ usage e. absurd (no_refused_help usage (sym e)))

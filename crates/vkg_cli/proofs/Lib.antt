@@ -3,6 +3,7 @@ pub mod AskedLemmas
 pub mod Clauses
 pub mod DirectLemmas
 pub mod FilledLemmas
+pub mod Headline
 pub mod Ran
 pub mod Tables
 pub mod TakenLemmas

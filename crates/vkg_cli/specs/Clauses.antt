@@ -7,16 +7,25 @@ use Rattle.vkg_base.specs.declared.answers.Status.TheVariants.{Done, Usage as Ba
 use Rattle.vkg_cli.specs.declared.stops.Fault.{Fault}
 use Rattle.vkg_cli.specs.declared.stops.Usage.{Usage}
 use Rattle.vkg_cli.specs.FaultLine.{status_of, usage_line}
+use Rattle.vkg_cli.specs.Headline.{IsDump}
 use Rattle.vkg_cli.specs.Stages.{AsksSome}
 use Rattle.vkg_cli.specs.Words.{Asked, Options, dump, help, refused}
 use Rattle.vkg_cli.specs.Work.{Works}
-use Rattle.vkg_cli.specs.Answer.{HasFault, HasText, IsDone, IsRefused, IsUnwritten, Tells, WhereTold, World, help_text}
+use Rattle.vkg_cli.specs.Answer.{HasFault, HasText, IsRefused, IsUnwritten, Tells, WhereTold, World, help_text}
+
+-- `dump` is done: the output took the lines, each with its line feed; no fault was counted, and nothing was told.
+pub record WritesDump (options : Options) (old new : World) : Type 0 where
+  pub lines : List (List ℕ)
+  pub dump_of : WhereTold old (λ files. IsDump options files lines)
+  pub taken : Took old.out new.out (written lines)
+  pub store : new.store.faults ≡ old.store.faults
+  pub err : new.err ≡ old.err
 
 -- Done: the output took the whole text of what was asked for, nothing was told, and no count of faults rose.
 abbrev pub IsDoneOnly : Asked → World → World → Status → Type 0
 IsDoneOnly asked old new status = status ≡ Done →
     ((asked ≡ help) × Took old.out new.out help_text × (new.store ≡ old.store) × (new.err ≡ old.err))
-    ⊎ ((options : Options) × (asked ≡ dump options) × IsDone options old new)
+    ⊎ ((options : Options) × (asked ≡ dump options) × WritesDump options old new)
 
 -- Usage: exactly where the words are not taken, but for want of memory; they are told so.
 abbrev pub IsUsageExactly : Asked → World → World → Status → Type 0

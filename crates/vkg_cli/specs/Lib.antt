@@ -2,6 +2,7 @@ pub mod Answer
 pub mod Clauses
 pub mod CommandLine
 pub mod FaultLine
+pub mod Headline
 pub mod Parts
 pub mod Stages
 pub mod Words

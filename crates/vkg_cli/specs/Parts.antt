@@ -1,5 +1,5 @@
 -- Stand-ins for the layers below.
-use Rattle.std.specs.Prelude.{◌≡◌, ℕ, ◌+◌, Bool, true, List, [], ◌∷◌, ◌++◌, map, slice_set, slice_get, Option, Some, None, Result, Ok, Err, ⊤, Contains, ◌↔◌}
+use Rattle.std.specs.Prelude.{◌≡◌, nat_lt, length, if◌then◌else◌, ℕ, ◌+◌, Bool, true, List, [], ◌∷◌, ◌++◌, map, slice_set, slice_get, Option, Some, None, Result, Ok, Err, ⊤, Contains, ◌↔◌}
 use Rattle.vkg_cells.specs.declared.cell.Cell.{Cell}
 use Rattle.vkg_schema.specs.declared.table.Table.{Table}
 use Rattle.vkg_schema.specs.declared.table.Column.{Column}
@@ -29,8 +29,8 @@ columns_at (Some t) = t.columns
 abbrev pub columns_of : List Table → ℕ → List Column
 columns_of tables i = columns_at (slice_get tables i)
 
-pub table_of_bytes : List Column → List ℕ → Result (List Row) TableFault
-table_of_bytes columns bytes = Ok []
+abbrev pub table_of_bytes : List Column → List ℕ → Result (List Row) TableFault
+table_of_bytes columns bytes = if nat_lt 2147483647 (length bytes) then Err (record { check = 11; table = 1; row = 0; column = 0 }) else Ok []
 
 abbrev pub with_rows : Seen → ℕ → List Row → Seen
 with_rows db table rows = record { schema = db.schema; tables = slice_set db.tables table rows }

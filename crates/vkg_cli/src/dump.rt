@@ -21,7 +21,7 @@ fn check_keys(alloc: Global, db: &Database) -> Result<(), Stop>
 {
     match db.check_keys(alloc) {
         Ok(()) => Ok(()),
-        Err(TableError::Fault(fault)) => Err(table_stop(fault)),
+        Err(TableError::Fault(repeated)) => Err(table_stop(repeated)),
         Err(TableError::Memory) => Err(Stop::Memory),
     }
 }
@@ -82,7 +82,11 @@ fn database_lines(alloc: Global, db: &Database, base: &str) -> Result<Lines, Sto
 }
 
 /// The text of `dump`: the schema, the tables in its order, and the lines.
-pub fn dump<S: Store>(alloc: Global, store: &mut S, options: &DumpOptions<'_>) -> Result<Lines, Stop>
+pub fn dump<S: Store>(
+    alloc: Global,
+    store: &mut S,
+    options: &DumpOptions<'_>,
+) -> Result<Lines, Stop>
     requires { is_absolute options.now.base.now ≡ true }
     ensures { Ran (Works (options_seen options.now)) (S.state store.old) (S.state store.new) result }
 {

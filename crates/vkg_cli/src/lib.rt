@@ -14,3 +14,6 @@ mod words;
 pub use stops::{Fault, Stop, Usage};
 pub use top::vkg;
 pub use words::{DumpOptions, Request, read_request};
+
+#[cfg(test)]
+mod tests;

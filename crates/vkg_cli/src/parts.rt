@@ -76,7 +76,12 @@ impl Database {
         &self.schema
     }
 
-    pub fn load_table(&mut self, _alloc: Global, table: usize, bytes: &[u8]) -> Result<(), TableError>
+    pub fn load_table(
+        &mut self,
+        _alloc: Global,
+        table: usize,
+        bytes: &[u8],
+    ) -> Result<(), TableError>
         requires { table < length self.old.schema }
         ensures ok { OnOk result (loaded self.old table bytes.now ≡ Ok self.new) }
         ensures fault { IfErr result (FailsWith (loaded self.old table bytes.now)) }

@@ -65,7 +65,10 @@ fn read_command<'w>(matches: &ArgMatches<'w>) -> Option<DumpOptions<'w>>
 }
 
 /// The options of `dump`, where the command line's definition takes the words.
-fn read_options<'w>(alloc: Global, words: &'w Vec<String>) -> Result<Option<DumpOptions<'w>>, Memory>
+fn read_options<'w>(
+    alloc: Global,
+    words: &'w Vec<String>,
+) -> Result<Option<DumpOptions<'w>>, Memory>
     ensures value { IfOk result (λ r. option_map options_seen r ≡ taken_options (map string_bytes words.entry.now.items)) }
     ensures taken { IfOk result (λ r. IfSome r (λ _. fault_of vkg_app (map string_bytes words.entry.now.items) ≡ [])) }
     ensures refused { IfOk result (λ r. IfNone r (fault_of vkg_app (map string_bytes words.entry.now.items) ≢ [])) }

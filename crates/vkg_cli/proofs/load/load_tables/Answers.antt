@@ -11,7 +11,7 @@ use Rattle.vkg_cli.proofs.load.load_tables.Goals as goal
 pub loop-k-init : goal.loop-k-init
 loop-k-init g c = record {
   schema = ap (λ d. d.schema) c.in-Ok.ensures;
-  rest = λ new result ran. rw (c.in-Ok.ensures, c.tables-table-items.ensures.value) at ran
+  rest = λ new result ran. rw (c.in-Ok.ensures, c.tables-table-items.ensures.value) at ran;
 }
 
 pub load_table-requires : goal.load_table-requires
@@ -27,7 +27,7 @@ returns-in-Err-load_table g c =
 pub loop-k-preserved : goal.loop-k-preserved
 loop-k-preserved g c = record {
   schema = c.in-Ok-load_table.ensures.schema ∙ c.loop-k.invariant.schema;
-  rest = λ new result ran. c.loop-k.invariant.rest new result (tables_next _ _ _ _ _ c.loop-k-test.true c.table-item.is _ _ _ _ _ c.in-Ok-load_table.ensures.ran ran)
+  rest = λ new result ran. c.loop-k.invariant.rest new result (tables_next _ _ _ _ _ c.loop-k-test.true c.table-item.is _ _ _ _ _ c.in-Ok-load_table.ensures.ran ran);
 }
 
 pub returns : goal.returns

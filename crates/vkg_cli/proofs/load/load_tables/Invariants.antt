@@ -13,5 +13,5 @@ invariant-loop-k g l = record {
   schema : l.db.schema ≡ l.schema;
   rest : (new : StoreState) (result : Result Seen Stop)
       → Ran (λ files. LoadsTables files l.folder l.db l.k (drop l.k l.table-items)) (g.S.Store.state l.store) new result
-      → Ran (λ files. LoadsTables files l.folder (without_rows l.schema) 0 l.schema) (g.S.Store.state l.initial.store) new result
+      → Ran (λ files. LoadsTables files l.folder (without_rows l.schema) 0 l.schema) (g.S.Store.state l.initial.store) new result;
 }
