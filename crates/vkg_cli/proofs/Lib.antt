@@ -1,4 +1,10 @@
+pub mod Answers
 pub mod AskedLemmas
+pub mod Clauses
+pub mod DirectLemmas
 pub mod FilledLemmas
+pub mod Headline
 pub mod Ran
+pub mod Tables
 pub mod TakenLemmas
+pub mod Whole

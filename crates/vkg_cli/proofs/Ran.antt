@@ -94,13 +94,12 @@ module _ {A B : Type 0} (stage : Stage A) (rest : A → Stage B) (v : A) (before
   some_of one some names outcome (goes_on w head tail done went is) =
       let heads = one.one_list first.0 head (Ok v) (Ok w) first.1 done in
       let same = same_value v w (one.one_outcome first.0 head (Ok v) (Ok w) first.1 done) in
-      let asked = some tail outcome (subst (λ x. rest x tail outcome) (sym same) went) in
-      (
+      let asked = some tail outcome (subst (λ x. rest x tail outcome) (sym same) went) in (
         length head + asked.0,
         asked.1
-        ∙ ap (λ (l : List (List ℕ)). l ++ take asked.0 tail) (first.2 ∙ ap (λ (l : List (List ℕ)). before ++ l) heads)
-        ∙ append_assoc before head (take asked.0 tail)
-        ∙ ap (λ (l : List (List ℕ)). before ++ l) (sym (take-append-add head tail asked.0) ∙ ap (take (length head + asked.0)) (sym is)),
+            ∙ ap (λ (l : List (List ℕ)). l ++ take asked.0 tail) (first.2 ∙ ap (λ (l : List (List ℕ)). before ++ l) heads)
+            ∙ append_assoc before head (take asked.0 tail)
+            ∙ ap (λ (l : List (List ℕ)). before ++ l) (sym (take-append-add head tail asked.0) ∙ ap (take (length head + asked.0)) (sym is)),
       )
   some_of one some names outcome (stops stop done is) = absurd (no_stop v stop (one.one_outcome first.0 names (Ok v) (Err stop) first.1 done))
 

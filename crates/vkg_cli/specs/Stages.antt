@@ -75,3 +75,13 @@ IsOneOutcome {A} comes = (o p : Result A Stop) → comes o → comes p → o ≡
 abbrev pub seen : {A B : Type 0} → (B → A) → Result B Stop → Result A Stop
 seen view (Ok v) = Ok (view v)
 seen view (Err stop) = Err stop
+
+-- a result at whose success a place holds the value
+abbrev pub carried : {A B : Type 0} → A → Result B Stop → Result A Stop
+carried value (Ok v) = Ok value
+carried value (Err stop) = Err stop
+
+-- a result without a value
+abbrev pub done_or : {B : Type 0} → Result B Stop → Result (Unit {0}) Stop
+done_or (Ok v) = Ok tt
+done_or (Err stop) = Err stop

@@ -61,3 +61,9 @@ abbrev pub request_seen : Request → Asked
 request_seen request.Help = help
 request_seen (request.Refused usage) = refused usage
 request_seen (request.Dump options) = dump (options_seen options)
+
+-- the base of a command is an absolute IRI
+abbrev pub HasBase : Request → Type 0
+HasBase (request.Dump options) = is_absolute options.base.now ≡ true
+HasBase request.Help = Unit {0}
+HasBase (request.Refused usage) = Unit {0}

@@ -3,9 +3,17 @@
 #![tactic(auto)]
 
 mod command_line;
+mod dump;
 mod fault_line;
+mod load;
+mod parts;
 mod stops;
+mod top;
 mod words;
 
 pub use stops::{Fault, Stop, Usage};
+pub use top::vkg;
 pub use words::{DumpOptions, Request, read_request};
+
+#[cfg(test)]
+mod tests;

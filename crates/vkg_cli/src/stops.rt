@@ -17,7 +17,10 @@ pub enum Usage {
 #[derive(Clone, Copy, Debug, PartialEq, Eq)]
 pub enum Fault {
     /// A check of the schema's file fails at a byte.
-    Schema { check: u8, at: usize },
+    Schema {
+        check: u8,
+        at: usize,
+    },
     /// A check of a table's file, or of its rows, fails. Table, row and column count from 1; the header is row 0. For
     /// keys the column is the number of the key or foreign key.
     Table {
@@ -27,7 +30,9 @@ pub enum Fault {
         column: usize,
     },
     /// The direct mapping has no node for the rows of a table without a primary key. Tables count from 1.
-    Keyless { table: usize },
+    Keyless {
+        table: usize,
+    },
     /// The direct mapping has more quad rules than a mapping may have.
     TooManyRules,
 }

@@ -2,7 +2,7 @@
 ghost use Rattle.std.specs.Prelude.{◌≡◌, ◌≢◌, ◌↔◌, [], IfNone, IfOk, IfSome, IsTrue, IsOk, map, option_and_then, option_map, string_bytes};
 ghost use Rattle.clap.specs.Words.{fault_of, first_of, found_of, rows_of, subcommand_of, subcommand_rows_of};
 ghost use Rattle.vkg_cli.specs.CommandLine.{vkg_app};
-ghost use Rattle.vkg_cli.specs.Words.{asked_of, dump_options, is_help, named_options, options_seen, request_seen, taken_options, with_base as asked_for};
+ghost use Rattle.vkg_cli.specs.Words.{HasBase, asked_of, dump_options, is_help, named_options, options_seen, request_seen, taken_options, with_base as asked_for};
 
 use crate::Usage;
 use crate::command_line::program;
@@ -65,7 +65,10 @@ fn read_command<'w>(matches: &ArgMatches<'w>) -> Option<DumpOptions<'w>>
 }
 
 /// The options of `dump`, where the command line's definition takes the words.
-fn read_options<'w>(alloc: Global, words: &'w Vec<String>) -> Result<Option<DumpOptions<'w>>, Memory>
+fn read_options<'w>(
+    alloc: Global,
+    words: &'w Vec<String>,
+) -> Result<Option<DumpOptions<'w>>, Memory>
     ensures value { IfOk result (λ r. option_map options_seen r ≡ taken_options (map string_bytes words.entry.now.items)) }
     ensures taken { IfOk result (λ r. IfSome r (λ _. fault_of vkg_app (map string_bytes words.entry.now.items) ≡ [])) }
     ensures refused { IfOk result (λ r. IfNone r (fault_of vkg_app (map string_bytes words.entry.now.items) ≢ [])) }
@@ -91,7 +94,8 @@ fn is_help_request(words: &[String]) -> bool
 }
 
 fn with_base<'w>(options: Option<DumpOptions<'w>>) -> Request<'w>
-    ensures { request_seen result ≡ asked_for (option_map options_seen options.entry) }
+    ensures value { request_seen result ≡ asked_for (option_map options_seen options.entry) }
+    ensures base { HasBase result }
 {
     match options {
         None => Request::Refused(Usage::Words),
@@ -109,6 +113,7 @@ fn with_base<'w>(options: Option<DumpOptions<'w>>) -> Request<'w>
 pub fn read_request<'w>(alloc: Global, words: &'w Vec<String>) -> Result<Request<'w>, Memory>
     ensures value { IfOk result (λ r. request_seen r ≡ asked_of (map string_bytes words.entry.now.items)) }
     ensures help { IsTrue (is_help (map string_bytes words.entry.now.items)) → IsOk result }
+    ensures base { IfOk result HasBase }
 {
     if is_help_request(words) {
         return Ok(Request::Help);

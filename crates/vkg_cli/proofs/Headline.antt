@@ -1,0 +1,145 @@
+-- The lines of `dump` are those of the direct graph of the database that the files hold.
+use Rattle.std.proofs.Common.{◌≡◌, ◌∙◌, ℕ, ◌+◌, ◌≤◌, Bool, true, false, List, [], ◌∷◌, ◌++◌, length, nat_lt, take, map, min, refl, sym, ap, ap₂, subst, arith, append_assoc, length-append, Ok, Err, Some, if◌then◌else◌}
+use Rattle.std.proofs.lemmas.List.{append-nil, length-map, length-take, take_all}
+use Rattle.std.proofs.lemmas.Bool.{ltb-false}
+use Rattle.std.proofs.lemmas.Option.{slice_get-get_or}
+use Rattle.std.proofs.Math.Seq.{get_or-append_seam, set-append_seam}
+use Rattle.std.specs.List.{AllZip, slice_get, slice_set}
+use Rattle.std.specs.Prelude.{Option, None, Result}
+use Rattle.vkg_base.specs.Outside.{Files, held}
+use Rattle.vkg_schema.specs.declared.table.Table.{Table}
+use Rattle.vkg_schema.specs.declared.table.Column.{Column}
+use Rattle.vkg_schema.specs.Rows.{Row}
+use Rattle.vkg_cli.specs.declared.load.TheConstants.{LIMIT}
+use Rattle.vkg_cli.specs.declared.parts.TableFault.{TableFault}
+use Rattle.vkg_cli.specs.declared.stops.Fault.TheVariants.{Schema}
+use Rattle.vkg_cli.specs.declared.stops.Stop.{Stop}
+use Rattle.vkg_cli.specs.declared.stops.Stop.TheVariants.{Refused}
+use Rattle.vkg_cli.specs.Parts.{IsSchemaOf, Seen, columns_at, columns_of, loaded, table_of_bytes, with_read, with_rows, without_rows}
+use Rattle.vkg_cli.specs.Stages.{Loads, Settles, Then, found, goes_on, stops}
+use Rattle.vkg_cli.specs.Words.{Options}
+use Rattle.vkg_cli.specs.Work.{Dumps, IsDirectDump, LoadsTable, LoadsTables, ReadsSchema, UnlessLong, Works, loaded_or, table_file, table_stop}
+use Rattle.vkg_cli.specs.Answer.{HasText}
+use Rattle.vkg_cli.specs.Headline.{HoldDatabase, HoldsTable, IsDump}
+
+-- a file within a limit is not cut
+uncut : (limit m : ℕ) (file : List ℕ) → limit ≡ m + 1 → nat_lt m (length (take limit file)) ≡ false → take limit file ≡ file
+uncut limit m file is short =
+    let fits : length (take limit file) ≤ m = ltb-false m (length (take limit file)) short in
+    take_all limit file (omega (arith, length-take limit file))
+
+no_value : {A : Type 0} (v : A) (stop : Stop) → (let one : Result A Stop = Ok v in one ≡ Err stop) → ⊥
+no_value v stop e = cc
+
+-- a load gives the file, cut at the limit
+given : (limit : ℕ) (file : Option (List ℕ)) (bytes : List ℕ) → (let one : Result (List ℕ) Stop = Ok bytes in one ≡ found limit file) → (whole : List ℕ) × (file ≡ Some whole) × (bytes ≡ take limit whole)
+given limit None bytes e = cc e
+given limit (Some whole) bytes e = (whole, refl, cc e)
+
+schema_of : (long : Bool) (bytes : List ℕ) (tables : List Table) → UnlessLong long bytes (Ok tables) → (long ≡ false) × IsSchemaOf bytes tables
+schema_of true bytes tables is = absurd (no_value tables _ is)
+schema_of false bytes tables is = (refl, is)
+
+-- the table's file of a loaded table
+rows_read : (db next : Seen) (k : ℕ) (read : Result (List Row) TableFault) → (let one : Result Seen Stop = Ok next in one ≡ loaded_or (with_read db k read))
+    → (rows : List Row) × (read ≡ Ok rows) × (next ≡ with_rows db k rows)
+rows_read db next k (Ok rows) e = (rows, refl, cc e)
+rows_read db next k (Err f) e = cc e
+
+not_long : (long : Bool) (f : TableFault) (rows others : List Row) → (let one : Result (List Row) TableFault = Ok others in one ≡ (if long then Err f else Ok rows)) → long ≡ false
+not_long true f rows others e = cc e
+not_long false f rows others e = refl
+
+short_file : (columns : List Column) (bytes : List ℕ) (rows : List Row) → table_of_bytes columns bytes ≡ Ok rows → nat_lt 2147483647 (length bytes) ≡ false
+short_file columns bytes rows e = not_long (nat_lt 2147483647 (length bytes)) _ [] rows (sym e)
+
+-- the element behind a list
+at_seam : {A : Type 0} (xs : List A) (y : A) (ys : List A) → slice_get (xs ++ y ∷ ys) (length xs) ≡ Some y
+at_seam xs y ys =
+    slice_get-get_or (xs ++ y ∷ ys) (length xs) y (omega (arith, length-append xs (y ∷ ys))) ∙ ap (λ v. Some v) (get_or-append_seam xs y ys y)
+
+same_db : (db other : Seen) → (let one : Result Seen Stop = Ok db in one ≡ Ok other) → db ≡ other
+same_db db other e = cc
+
+abbrev with_tables : List Table → List (List Row) → Seen
+with_tables schema tables = record { schema = schema; tables = tables }
+
+module _ (files : Files) (folder : List ℕ) where
+  -- the rows of one table
+  one_table : (db next : Seen) (k : ℕ) (table : Table) (names : List (List ℕ)) → LoadsTable files folder db k table names (Ok next) → columns_of db.schema k ≡ table.columns
+      → (rows : List Row) × HoldsTable files folder table rows × (next ≡ with_rows db k rows)
+  unfolding Loads Settles
+  one_table db next k table names (goes_on bytes before after load settled is) columns =
+      let file = given LIMIT (held files (table_file folder table)) bytes (load.1) in
+      let read = rows_read db next k (table_of_bytes (columns_of db.schema k) bytes) (settled.1) in
+      let rows : table_of_bytes table.columns bytes ≡ Ok read.0 = ap (λ c. table_of_bytes c bytes) (sym columns) ∙ read.1 in
+      let short = short_file table.columns bytes read.0 rows in
+      let whole = uncut LIMIT 2147483647 file.0 refl (ap (λ b. nat_lt 2147483647 (length b)) (sym file.2) ∙ short) in (
+        read.0,
+        record { bytes = file.0; file = file.1; reads = ap (table_of_bytes table.columns) (sym whole ∙ sym file.2) ∙ rows },
+        read.2,
+      )
+  one_table db next k table names (stops stop load is) columns = absurd (no_value next stop is)
+
+  -- the rows of the tables from one on
+  all_tables : (tables : List Table) (db final : Seen) (k : ℕ) (names : List (List ℕ)) (before : List Table) (done rest : List (List Row))
+      → LoadsTables files folder db k tables names (Ok final)
+      → db.schema ≡ before ++ tables → k ≡ length before → db.tables ≡ done ++ rest → k ≡ length done → length rest ≡ length tables
+      → (loaded_rows : List (List Row)) × (final ≡ with_tables db.schema (done ++ loaded_rows)) × AllZip (HoldsTable files folder) tables loaded_rows
+  unfolding Settles
+  all_tables [] db final k names before done [] is schema place tables behind same =
+      ([], same_db final db (is.1) ∙ ap (λ (l : List (List Row)). with_tables db.schema l) tables, tt)
+  all_tables [] db final k names before done (r ∷ rest) is schema place tables behind same = absurd (omega arith)
+  all_tables (t ∷ ts) db final k names before done [] is schema place tables behind same = absurd (omega arith)
+  all_tables (t ∷ ts) db final k names before done (r ∷ rest) (goes_on next head tail first later is) schema place tables behind same =
+      let columns = ap columns_at (ap₂ slice_get schema place ∙ at_seam before t ts) in
+      let one = one_table db next k t head first columns in
+      let next_schema : next.schema ≡ (before ++ t ∷ []) ++ ts = ap (λ (d : Seen). d.schema) one.2 ∙ schema ∙ sym (append_assoc before (t ∷ []) ts) in
+      let next_tables : next.tables ≡ (done ++ one.0 ∷ []) ++ rest =
+      ap (λ (d : Seen). d.tables) one.2 ∙ ap₂ (λ l n. slice_set l n one.0) tables behind ∙ set-append_seam done r rest one.0 ∙ sym (append_assoc done (one.0 ∷ []) rest) in
+      let longer : k + 1 ≡ length (before ++ t ∷ []) = omega (arith, place, length-append before (t ∷ [])) in
+      let later_rows : k + 1 ≡ length (done ++ one.0 ∷ []) = omega (arith, behind, length-append done (one.0 ∷ [])) in
+      let others = all_tables ts next final (k + 1) tail (before ++ t ∷ []) (done ++ one.0 ∷ []) rest later next_schema longer next_tables later_rows (omega (arith, same)) in (
+        one.0 ∷ others.0,
+        others.1 ∙ ap₂ with_tables (ap (λ (d : Seen). d.schema) one.2) (append_assoc done (one.0 ∷ []) others.0),
+        (one.1, others.2),
+      )
+  all_tables (t ∷ ts) db final k names before done rest (stops stop first is) schema place tables behind same = absurd (no_value final stop is)
+
+module _ (options : Options) (files : Files) (lines : List (List ℕ)) where
+  -- the lines of a database that is loaded for a schema
+  loaded_dump : (schema : List Table) (names : List (List ℕ)) → Then (LoadsTables files options.folder (without_rows schema) 0 schema) (λ db. Settles (Dumps db options.base)) names (Ok lines)
+      → (db : List (List Row)) × AllZip (HoldsTable files options.folder) schema db × IsDirectDump schema db options.base lines
+  unfolding Dumps Settles
+  loaded_dump schema names (goes_on db head tail tables dumps is) =
+      let all = all_tables files options.folder schema (without_rows schema) db 0 head [] [] (map (λ t. []) schema) tables refl refl refl refl (length-map schema _) in
+      (all.0, all.2, subst (λ (d : Seen). IsDirectDump d.schema d.tables options.base lines) (all.1) (dumps.1.1))
+  loaded_dump schema names (stops stop tables is) = absurd (no_value lines stop is)
+
+  -- the schema that the bytes of a file say, and the lines of its database
+  read_dump : (bytes : List ℕ) (names : List (List ℕ))
+      → Then (Settles (ReadsSchema bytes)) (λ schema. Then (LoadsTables files options.folder (without_rows schema) 0 schema) (λ db. Settles (Dumps db options.base))) names (Ok lines)
+      → (schema : List Table) × (nat_lt 2147483647 (length bytes) ≡ false) × IsSchemaOf bytes schema
+      × ((db : List (List Row)) × AllZip (HoldsTable files options.folder) schema db × IsDirectDump schema db options.base lines)
+  unfolding ReadsSchema Settles
+  read_dump bytes names (goes_on schema head tail settled later is) =
+      let says = schema_of (nat_lt 2147483647 (length bytes)) bytes schema (settled.1) in
+      (schema, says.0, says.1, loaded_dump schema tail later)
+  read_dump bytes names (stops stop settled is) = absurd (no_value lines stop is)
+
+  headline_of : (names : List (List ℕ)) → Works options files names (Ok lines) → IsDump options files lines
+  unfolding Loads
+  headline_of names (goes_on bytes head tail load later is) =
+      let file = given LIMIT (held files options.schema) bytes (load.1) in
+      let read = read_dump bytes tail later in
+      let whole = uncut LIMIT 2147483647 file.0 refl (ap (λ b. nat_lt 2147483647 (length b)) (sym file.2) ∙ read.1) in
+      record {
+        schema = read.0;
+        db = read.3.0;
+        hold = record { text = file.0; file = file.1; says = subst (λ b. IsSchemaOf b read.0) (file.2 ∙ whole) read.2; tables = read.3.1 };
+        dump = read.3.2;
+      }
+  headline_of names (stops stop load is) = absurd (no_value lines stop is)
+
+  pub headline : HasText options files lines → IsDump options files lines
+  headline (names, works) = headline_of names works

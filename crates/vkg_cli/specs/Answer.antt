@@ -1,0 +1,125 @@
+-- How a call ends: the status with its cause, the bytes of the output and the line of the standard error.
+use Rattle.std.specs.Prelude.{◌≡◌, ◌⊎◌, ◌↔◌, ℕ, List, ◌++◌, take, codes, Option, Some, Result, Ok, Err}
+use Rattle.vkg_base.specs.Outside.{Files, StoreState, SinkState, Rose, Took, Broke}
+use Rattle.vkg_base.specs.Written.{written}
+use Rattle.vkg_base.specs.declared.answers.Status.{Status}
+use Rattle.vkg_base.specs.declared.answers.Status.TheVariants.{Done, Usage as BadWords, BadSchema, BadTable, BadMapping, BadData, BadQuery, ReadFault, WriteFault, Memory}
+use Rattle.vkg_cli.specs.declared.stops.Fault.{Fault}
+use Rattle.vkg_cli.specs.declared.stops.Usage.{Usage}
+use Rattle.vkg_cli.specs.declared.stops.Stop.{Stop}
+use Rattle.vkg_cli.specs.declared.stops.Stop.TheVariants as stop
+use Rattle.vkg_cli.specs.FaultLine.{fault_line, status_of, usage_line}
+use Rattle.vkg_cli.specs.Stages.{AsksSome}
+use Rattle.vkg_cli.specs.Words.{Asked, Options, dump, help, refused}
+use Rattle.vkg_cli.specs.Work.{Works}
+
+-- the store of files, the output and the standard error
+pub record World : Type 0 where
+  pub store : StoreState
+  pub out : SinkState
+  pub err : SinkState
+
+-- a fact on the store's files, where it tells them
+abbrev pub WhereTold : World → (Files → Type 0) → Type 0
+WhereTold world fact = (files : Files) → world.store.files ≡ Some files → fact files
+
+-- one line for the standard error: it took all of it, or its count rose and it took a prefix
+abbrev pub Tells : SinkState → SinkState → List ℕ → Type 0
+Tells old new line = Took old new line ⊎ Broke old new line
+
+-- the options ask for these lines, over these files
+abbrev pub HasText : Options → Files → List (List ℕ) → Type 0
+HasText options files lines = (names : List (List ℕ)) × Works options files names (Ok lines)
+
+-- this is the first fault, over these files
+abbrev pub HasFault : Options → Files → Fault → Type 0
+HasFault options files fault = (names : List (List ℕ)) × Works options files names (Err (stop.Refused fault))
+
+-- all of the text was taken, no fault was counted, and nothing was told
+pub record IsDone (options : Options) (old new : World) : Type 0 where
+  pub lines : List (List ℕ)
+  pub defined : WhereTold old (λ files. HasText options files lines)
+  pub taken : Took old.out new.out (written lines)
+  pub store : new.store.faults ≡ old.store.faults
+  pub err : new.err ≡ old.err
+
+-- the first fault stands, and is told
+pub record IsRefused (options : Options) (old new : World) (status : Status) : Type 0 where
+  pub fault : Fault
+  pub status_is : status ≡ status_of fault
+  pub defined : WhereTold old (λ files. HasFault options files fault)
+  pub out : new.out ≡ old.out
+  pub store : new.store.faults ≡ old.store.faults
+  pub told : Tells old.err new.err (fault_line fault)
+
+-- a load failed
+pub record IsUnread (old new : World) : Type 0 where
+  pub rose : Rose old.store.faults new.store.faults
+  pub out : new.out ≡ old.out
+  pub told : Tells old.err new.err (codes "vkg: read fault\n")
+
+-- a write failed, after a prefix of the text
+pub record IsUnwritten (options : Options) (old new : World) : Type 0 where
+  pub lines : List (List ℕ)
+  pub defined : WhereTold old (λ files. HasText options files lines)
+  pub taken : Broke old.out new.out (written lines)
+  pub store : new.store.faults ≡ old.store.faults
+  pub told : Tells old.err new.err (codes "vkg: write fault\n")
+
+-- an allocation was refused
+pub record IsShort (old new : World) : Type 0 where
+  pub out : new.out ≡ old.out
+  pub told : Tells old.err new.err (codes "vkg: want of memory\n")
+
+-- why `dump` may end with a status, and what it leaves
+abbrev pub Ends : Options → World → World → Status → Type 0
+Ends options old new Done = IsDone options old new
+Ends options old new BadWords = ⊥
+Ends options old new BadSchema = IsRefused options old new BadSchema
+Ends options old new BadTable = IsRefused options old new BadTable
+Ends options old new BadMapping = IsRefused options old new BadMapping
+Ends options old new BadData = ⊥
+Ends options old new BadQuery = ⊥
+Ends options old new ReadFault = IsUnread old new
+Ends options old new WriteFault = IsUnwritten options old new
+Ends options old new Memory = IsShort old new
+
+-- the words ask for `dump`
+pub record IsDumpAnswer (options : Options) (old new : World) (status : Status) : Type 0 where
+  pub asked : WhereTold old (λ files. AsksSome (Works options files) old.store.asked new.store.asked)
+  pub ends : Ends options old new status
+
+-- a line for each command, with its options
+abbrev pub help_text : List ℕ
+help_text = codes "vkg dump --schema F --data DIR --base IRI\n"
+
+-- help is written, or a write failed
+abbrev pub WritesHelp : SinkState → SinkState → SinkState → SinkState → Status → Type 0
+WritesHelp out out' err err' status =
+    ((status ≡ Done) × Took out out' help_text × (err' ≡ err)) ⊎ ((status ≡ WriteFault) × Broke out out' help_text × Tells err err' (codes "vkg: write fault\n"))
+
+-- the words ask for help
+abbrev pub Helps : World → World → Status → Type 0
+Helps old new status = (new.store ≡ old.store) × WritesHelp old.out new.out old.err new.err status
+
+-- the words are not taken
+pub record IsUsage (usage : Usage) (old new : World) : Type 0 where
+  pub out : new.out ≡ old.out
+  pub told : Tells old.err new.err (usage_line usage)
+
+abbrev pub Rejects : Usage → World → World → Status → Type 0
+Rejects usage old new status = (new.store ≡ old.store) × (((status ≡ BadWords) × IsUsage usage old new) ⊎ ((status ≡ Memory) × IsShort old new))
+
+-- the whole answer
+abbrev pub IsAnswer : Asked → World → World → Status → Type 0
+IsAnswer help old new status = Helps old new status
+IsAnswer (refused usage) old new status = Rejects usage old new status
+IsAnswer (dump options) old new status = IsDumpAnswer options old new status
+
+-- what becomes of made lines, or of the reason why there are none
+abbrev pub Delivers : Result (List (List ℕ)) Stop → SinkState → SinkState → SinkState → SinkState → Status → Type 0
+Delivers (Ok lines) out out' err err' status =
+    ((status ≡ Done) × Took out out' (written lines) × (err' ≡ err)) ⊎ ((status ≡ WriteFault) × Broke out out' (written lines) × Tells err err' (codes "vkg: write fault\n"))
+Delivers (Err (stop.Refused fault)) out out' err err' status = (status ≡ status_of fault) × (out' ≡ out) × Tells err err' (fault_line fault)
+Delivers (Err stop.Read) out out' err err' status = (status ≡ ReadFault) × (out' ≡ out) × Tells err err' (codes "vkg: read fault\n")
+Delivers (Err stop.Memory) out out' err err' status = (status ≡ Memory) × (out' ≡ out) × Tells err err' (codes "vkg: want of memory\n")

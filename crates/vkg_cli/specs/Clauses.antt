@@ -1,0 +1,77 @@
+-- The clauses of the top call, one for each answer, over the worlds before and after it.
+use Rattle.std.specs.Prelude.{◌≡◌, ◌⊎◌, ◌↔◌, ℕ, List, ◌++◌, take, codes, Some}
+use Rattle.vkg_base.specs.Outside.{Files, Rose, Took, Broke}
+use Rattle.vkg_base.specs.Written.{written}
+use Rattle.vkg_base.specs.declared.answers.Status.{Status}
+use Rattle.vkg_base.specs.declared.answers.Status.TheVariants.{Done, Usage as BadWords, ReadFault, WriteFault, Memory}
+use Rattle.vkg_cli.specs.declared.stops.Fault.{Fault}
+use Rattle.vkg_cli.specs.declared.stops.Usage.{Usage}
+use Rattle.vkg_cli.specs.FaultLine.{status_of, usage_line}
+use Rattle.vkg_cli.specs.Headline.{IsDump}
+use Rattle.vkg_cli.specs.Stages.{AsksSome}
+use Rattle.vkg_cli.specs.Words.{Asked, Options, dump, help, refused}
+use Rattle.vkg_cli.specs.Work.{Works}
+use Rattle.vkg_cli.specs.Answer.{HasFault, HasText, IsRefused, IsUnwritten, Tells, WhereTold, World, help_text}
+
+-- `dump` is done: the output took the lines, each with its line feed; no fault was counted, and nothing was told.
+pub record WritesDump (options : Options) (old new : World) : Type 0 where
+  pub lines : List (List ℕ)
+  pub dump_of : WhereTold old (λ files. IsDump options files lines)
+  pub taken : Took old.out new.out (written lines)
+  pub store : new.store.faults ≡ old.store.faults
+  pub err : new.err ≡ old.err
+
+-- Done: the output took the whole text of what was asked for, nothing was told, and no count of faults rose.
+abbrev pub IsDoneOnly : Asked → World → World → Status → Type 0
+IsDoneOnly asked old new status = status ≡ Done →
+    ((asked ≡ help) × Took old.out new.out help_text × (new.store ≡ old.store) × (new.err ≡ old.err))
+    ⊎ ((options : Options) × (asked ≡ dump options) × WritesDump options old new)
+
+-- Usage: exactly where the words are not taken, but for want of memory; they are told so.
+abbrev pub IsUsageExactly : Asked → World → World → Status → Type 0
+IsUsageExactly asked old new status =
+    (status ≡ BadWords → (usage : Usage) × (asked ≡ refused usage) × Tells old.err new.err (usage_line usage))
+    × ((usage : Usage) → asked ≡ refused usage → (status ≡ BadWords) ⊎ (status ≡ Memory))
+
+-- A status of faults: exactly where the first fault has this status, but for a load that failed and want of memory; the
+-- fault is told.
+abbrev pub IsRefusedExactly : Status → Asked → World → World → Status → Type 0
+IsRefusedExactly bad asked old new status =
+    (status ≡ bad → (options : Options) × (asked ≡ dump options) × IsRefused options old new bad)
+    × ((options : Options) → asked ≡ dump options → (files : Files) → old.store.files ≡ Some files → (fault : Fault) → HasFault options files fault → status_of fault ≡ bad
+    → (status ≡ bad) ⊎ ((status ≡ ReadFault) × Rose old.store.faults new.store.faults) ⊎ (status ≡ Memory))
+
+-- ReadFault: only where a load failed, which the store counted; it is told.
+abbrev pub IsReadFaultOnly : World → World → Status → Type 0
+IsReadFaultOnly old new status = status ≡ ReadFault → Rose old.store.faults new.store.faults × Tells old.err new.err (codes "vkg: read fault\n")
+
+-- WriteFault: only where a write failed, which the output counted; it took a prefix of the text, and that is told.
+abbrev pub IsWriteFaultOnly : Asked → World → World → Status → Type 0
+IsWriteFaultOnly asked old new status = status ≡ WriteFault →
+    ((asked ≡ help) × Broke old.out new.out help_text × Tells old.err new.err (codes "vkg: write fault\n"))
+    ⊎ ((options : Options) × (asked ≡ dump options) × IsUnwritten options old new)
+
+-- Memory: it is told.
+abbrev pub IsMemoryTold : World → World → Status → Type 0
+IsMemoryTold old new status = status ≡ Memory → Tells old.err new.err (codes "vkg: want of memory\n")
+
+-- Where there is a text, it is written, but for counted faults and want of memory.
+abbrev pub IsComplete : Asked → World → World → Status → Type 0
+IsComplete asked old new status = (options : Options) → asked ≡ dump options → (files : Files) → old.store.files ≡ Some files
+    → (lines : List (List ℕ)) → HasText options files lines
+    → ¬ (Rose old.store.faults new.store.faults) → ¬ (Rose old.out.faults new.out.faults)
+    → ((status ≡ Done) × Took old.out new.out (written lines)) ⊎ (status ≡ Memory)
+
+-- A help request takes no memory.
+abbrev pub HelpIsGiven : Asked → Status → Type 0
+HelpIsGiven asked status = asked ≡ help → (status ≡ Done) ⊎ (status ≡ WriteFault)
+
+-- But for Done and WriteFault the output is as it was.
+abbrev pub IsUntouched : World → World → Status → Type 0
+IsUntouched old new status = ¬ (status ≡ Done) → ¬ (status ≡ WriteFault) → new.out ≡ old.out
+
+-- The names asked for are the first of those that the command loads, in its order; without a command there are none.
+abbrev pub AsksInOrder : Asked → World → World → Type 0
+AsksInOrder help old new = new.store ≡ old.store
+AsksInOrder (refused usage) old new = new.store ≡ old.store
+AsksInOrder (dump options) old new = WhereTold old (λ files. AsksSome (Works options files) old.store.asked new.store.asked)

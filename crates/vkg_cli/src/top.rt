@@ -1,0 +1,143 @@
+// The top call.
+ghost use Rattle.std.specs.Prelude.{◌≡◌, map, string_bytes};
+ghost use Rattle.vkg_cli.specs.Answer.{Delivers, IsAnswer, Tells, World, WritesHelp};
+ghost use Rattle.vkg_cli.specs.Clauses.{AsksInOrder, HelpIsGiven, IsComplete, IsDoneOnly, IsMemoryTold, IsReadFaultOnly, IsRefusedExactly, IsUntouched, IsUsageExactly, IsWriteFaultOnly};
+ghost use Rattle.vkg_cli.specs.Words.{asked_of};
+
+use crate::Stop;
+use crate::dump::dump;
+use crate::fault_line::{fault_line, fault_status, usage_line};
+use crate::words::{Request, read_request};
+use std::alloc::Global;
+use vkg_base::{Lines, Memory, Sink, Status, Store};
+
+const HELP: &str = "vkg dump --schema F --data DIR --base IRI\n";
+
+/// Tells one line. A sink that fails changes nothing else.
+fn tell<E: Sink>(err: &mut E, line: &str)
+    ensures { Tells (E.state err.old) (E.state err.new) line.now }
+{
+    let _ = err.write(line.as_bytes());
+}
+
+/// Tells the line of a fault.
+fn tell_bytes<E: Sink>(err: &mut E, line: &[u8])
+    ensures { Tells (E.state err.old) (E.state err.new) line.now }
+{
+    let _ = err.write(line);
+}
+
+/// Writes the text, or tells why there is none.
+fn deliver<O: Sink, E: Sink>(made: Result<Lines, Stop>, out: &mut O, err: &mut E) -> Status
+    ensures { Delivers made (O.state out.old) (O.state out.new) (E.state err.old) (E.state err.new) result }
+{
+    match made {
+        Ok(lines) => match lines.write_all(out) {
+            Ok(()) => Status::Done,
+            Err(_) => {
+                tell(err, "vkg: write fault\n");
+                Status::WriteFault
+            }
+        },
+        Err(Stop::Refused(fault)) => {
+            tell_bytes(err, fault_line(fault).as_bytes());
+            fault_status(fault)
+        }
+        Err(Stop::Read) => {
+            tell(err, "vkg: read fault\n");
+            Status::ReadFault
+        }
+        Err(Stop::Memory) => {
+            tell(err, "vkg: want of memory\n");
+            Status::Memory
+        }
+    }
+}
+
+fn write_help<O: Sink, E: Sink>(out: &mut O, err: &mut E) -> Status
+    ensures { WritesHelp (O.state out.old) (O.state out.new) (E.state err.old) (E.state err.new) result }
+{
+    match out.write(HELP.as_bytes()) {
+        Ok(()) => Status::Done,
+        Err(_) => {
+            tell(err, "vkg: write fault\n");
+            Status::WriteFault
+        }
+    }
+}
+
+fn run<S: Store, O: Sink, E: Sink>(
+    alloc: Global,
+    words: &Vec<String>,
+    store: &mut S,
+    out: &mut O,
+    err: &mut E,
+) -> Status
+    ensures { IsAnswer (asked_of (map string_bytes words.now.items))
+        (record { store = S.state store.old; out = O.state out.old; err = E.state err.old })
+        (record { store = S.state store.new; out = O.state out.new; err = E.state err.new }) result }
+{
+    match read_request(alloc, words) {
+        Ok(Request::Help) => write_help(out, err),
+        Ok(Request::Refused(usage)) => {
+            tell(err, usage_line(usage));
+            Status::Usage
+        }
+        Ok(Request::Dump(options)) => {
+            let made = dump(alloc, store, &options);
+            deliver(made, out, err)
+        }
+        Err(Memory) => {
+            tell(err, "vkg: want of memory\n");
+            Status::Memory
+        }
+    }
+}
+
+/// Does what the words ask for, of which the first is the program's name: loads files from the store, writes to `out`, and
+/// tells one line of `err` where it stops.
+#[tactic(auto, using(crate::proofs::Clauses::done_only, crate::proofs::Clauses::usage_exactly, crate::proofs::Clauses::bad_schema, crate::proofs::Clauses::bad_table, crate::proofs::Clauses::bad_mapping, crate::proofs::Clauses::read_only, crate::proofs::Clauses::write_only, crate::proofs::Clauses::memory_told, crate::proofs::Clauses::complete, crate::proofs::Clauses::help_given, crate::proofs::Clauses::untouched, crate::proofs::Clauses::in_order))]
+pub fn vkg<S: Store, O: Sink, E: Sink>(
+    alloc: Global,
+    words: &Vec<String>,
+    store: &mut S,
+    out: &mut O,
+    err: &mut E,
+) -> Status
+    ensures done { IsDoneOnly (asked_of (map string_bytes words.now.items))
+        (record { store = S.state store.old; out = O.state out.old; err = E.state err.old })
+        (record { store = S.state store.new; out = O.state out.new; err = E.state err.new }) result }
+    ensures usage { IsUsageExactly (asked_of (map string_bytes words.now.items))
+        (record { store = S.state store.old; out = O.state out.old; err = E.state err.old })
+        (record { store = S.state store.new; out = O.state out.new; err = E.state err.new }) result }
+    ensures bad_schema { IsRefusedExactly Status.BadSchema (asked_of (map string_bytes words.now.items))
+        (record { store = S.state store.old; out = O.state out.old; err = E.state err.old })
+        (record { store = S.state store.new; out = O.state out.new; err = E.state err.new }) result }
+    ensures bad_table { IsRefusedExactly Status.BadTable (asked_of (map string_bytes words.now.items))
+        (record { store = S.state store.old; out = O.state out.old; err = E.state err.old })
+        (record { store = S.state store.new; out = O.state out.new; err = E.state err.new }) result }
+    ensures bad_mapping { IsRefusedExactly Status.BadMapping (asked_of (map string_bytes words.now.items))
+        (record { store = S.state store.old; out = O.state out.old; err = E.state err.old })
+        (record { store = S.state store.new; out = O.state out.new; err = E.state err.new }) result }
+    ensures read_fault { IsReadFaultOnly
+        (record { store = S.state store.old; out = O.state out.old; err = E.state err.old })
+        (record { store = S.state store.new; out = O.state out.new; err = E.state err.new }) result }
+    ensures write_fault { IsWriteFaultOnly (asked_of (map string_bytes words.now.items))
+        (record { store = S.state store.old; out = O.state out.old; err = E.state err.old })
+        (record { store = S.state store.new; out = O.state out.new; err = E.state err.new }) result }
+    ensures memory { IsMemoryTold
+        (record { store = S.state store.old; out = O.state out.old; err = E.state err.old })
+        (record { store = S.state store.new; out = O.state out.new; err = E.state err.new }) result }
+    ensures complete { IsComplete (asked_of (map string_bytes words.now.items))
+        (record { store = S.state store.old; out = O.state out.old; err = E.state err.old })
+        (record { store = S.state store.new; out = O.state out.new; err = E.state err.new }) result }
+    ensures help { HelpIsGiven (asked_of (map string_bytes words.now.items)) result }
+    ensures untouched { IsUntouched
+        (record { store = S.state store.old; out = O.state out.old; err = E.state err.old })
+        (record { store = S.state store.new; out = O.state out.new; err = E.state err.new }) result }
+    ensures in_order { AsksInOrder (asked_of (map string_bytes words.now.items))
+        (record { store = S.state store.old; out = O.state out.old; err = E.state err.old })
+        (record { store = S.state store.new; out = O.state out.new; err = E.state err.new }) }
+{
+    run(alloc, words, store, out, err)
+}
