@@ -66,6 +66,16 @@ impl Database {
         rows_at(self.tables.as_slice(), table).len()
     }
 
+    /// How many columns a table has.
+    pub fn columns(&self, table: usize) -> usize
+        ensures { result ≡ length (columns_of self.now.schema table) }
+    {
+        match self.schema.tables().get(table) {
+            Some(table) => table.columns.len(),
+            None => 0,
+        }
+    }
+
     /// A copy of a cell.
     pub fn cell(&self, table: usize, row: usize, column: usize) -> Result<Cell, Memory>
         requires row { row < length (rows_of self.now.tables table) }
