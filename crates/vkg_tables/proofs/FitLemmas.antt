@@ -14,7 +14,9 @@ use Rattle.vkg_cells.specs.declared.cell.SqlType.{SqlType}
 use Rattle.vkg_cells.specs.declared.cell.SqlType.TheVariants as kind
 use Rattle.vkg_cells.specs.declared.cell.FieldFault.{FieldFault}
 use Rattle.vkg_cells.specs.declared.cell.FieldFault.TheVariants.{TooWide}
-use Rattle.vkg_cells.specs.Field.{cell_of_field, is_hex, where_field, where_number, where_stamp}
+use Rattle.hex.specs.Hex.{decode_of}
+use Rattle.hex.specs.declared.error.FromHexError.{FromHexError}
+use Rattle.vkg_cells.specs.Field.{cell_of_field, where_field, where_number, where_octets, where_stamp}
 use Rattle.vkg_cells.specs.Form.{IsOfKind}
 use Rattle.vkg_cells.specs.Moment.{is_date, stamp_form}
 use Rattle.vkg_cells.specs.Number.{is_decimal, is_integer, width}
@@ -57,6 +59,11 @@ unfolding fam
 fam-stamp None = λ e. cc e
 fam-stamp (Some t) = λ e. cc e
 
+fam-octets : (r : Result (List ℕ) FromHexError) → fam (where_octets r) ≢ 7
+unfolding fam
+fam-octets (Ok octets) = λ e. cc e
+fam-octets (Err e) = λ h. cc h
+
 fam-read : (k : SqlType) (text : List ℕ) → fam (cell_of_field k text) ≢ 7
 unfolding fam
 fam-read kind.Text text = λ e. cc e
@@ -65,7 +72,7 @@ fam-read kind.Dec text = fam-number (is_decimal text) text _ (λ e. cc e)
 fam-read kind.Bool text = fam-field _ _ (λ e. cc e)
 fam-read kind.Date text = fam-field (is_date text) _ (λ e. cc e)
 fam-read kind.Stamp text = fam-stamp (stamp_form text)
-fam-read kind.Bin text = fam-field (is_hex text) _ (λ e. cc e)
+fam-read kind.Bin text = fam-octets (decode_of text)
 fam-read kind.Term text = λ e. cc e
 
 read-NoTerm : (k : SqlType) (text : List ℕ) (c : Cell) → cell_of_field k text ≡ Ok c → IsNoTerm c
