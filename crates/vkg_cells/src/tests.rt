@@ -1,14 +1,45 @@
-use crate::{FieldFault, SqlType, form, is_too_wide, is_well_typed, order, read_cell, same};
+use crate::{
+    Cell, FieldFault, SqlType, form, is_too_wide, is_well_typed, lex, natural, order, read_cell,
+    same,
+};
 use std::cmp::Ordering;
+use vkg_terms::Annotation;
 
-/// Whether the field is read as a cell of this form.
+/// Whether the cell has this form, lent and owned.
+fn has_form(rt: &HostRuntime, cell: &Cell, expected: &str) -> bool {
+    match lex(rt.alloc(), cell) {
+        Ok(Some(owned)) => owned.as_str() == expected && form(cell) == Some(expected),
+        _ => false,
+    }
+}
+
+/// Whether a copy of the cell has this form.
+fn copy_has_form(rt: &HostRuntime, cell: &Cell, expected: &str) -> bool {
+    match cell.copy() {
+        Ok(copy) => has_form(rt, &copy, expected),
+        Err(_) => false,
+    }
+}
+
+/// Whether the field is read as a cell of this form, which a copy has too.
 fn reads_as(rt: &HostRuntime, kind: SqlType, field: &str, expected: &str) -> bool {
     match read_cell(rt.alloc(), kind, field) {
-        Ok(cell) => match form(&cell) {
-            Some(found) => found == expected,
-            None => false,
-        },
+        Ok(cell) => has_form(rt, &cell, expected) && copy_has_form(rt, &cell, expected),
         Err(_) => false,
+    }
+}
+
+/// Whether the natural datatype of the kind is this one of XML Schema.
+fn is_natural(rt: &HostRuntime, kind: SqlType, expected: &str) -> bool {
+    match natural(rt.alloc(), kind) {
+        Ok(Annotation::Typed(datatype)) => {
+            datatype
+                .iri()
+                .as_str()
+                .strip_prefix("http://www.w3.org/2001/XMLSchema#")
+                == Some(expected)
+        }
+        _ => false,
     }
 }
 
@@ -42,6 +73,27 @@ fn accepted_fields(rt: HostRuntime) {
     ] {
         assert!(rt; reads_as(&rt, kind, field, expected), "{field}");
     }
+}
+
+#[test]
+fn null_has_no_form(rt: HostRuntime) {
+    assert!(rt; matches!(lex(rt.alloc(), &Cell::Null), Ok(None)));
+    assert!(rt; matches!(Cell::Null.copy(), Ok(Cell::Null)));
+}
+
+#[test]
+fn natural_datatypes(rt: HostRuntime) {
+    for (kind, expected) in [
+        (SqlType::Int, "integer"),
+        (SqlType::Dec, "decimal"),
+        (SqlType::Bool, "boolean"),
+        (SqlType::Date, "date"),
+        (SqlType::Stamp, "dateTime"),
+        (SqlType::Bin, "hexBinary"),
+    ] {
+        assert!(rt; is_natural(&rt, kind, expected), "{expected}");
+    }
+    assert!(rt; matches!(natural(rt.alloc(), SqlType::Text), Ok(Annotation::Plain)));
 }
 
 #[test]
