@@ -137,6 +137,30 @@ fn terms(rt: HostRuntime) {
     assert!(rt; is_written(&rt, plain, "\"a\\\"b\\\\c\\nd\\re\\tf\u{8}é\""));
 }
 
+#[test]
+fn typed_terms(rt: HostRuntime) {
+    let iri = Text::new(rt.alloc(), "http://www.w3.org/2001/XMLSchema#integer").expect(
+        &rt, "memory",
+    );
+    let integer = Annotation::typed(iri);
+    let form = Text::new(rt.alloc(), "7").expect(&rt, "memory");
+    let seven = Term::Lit(form, integer);
+    assert!(rt;
+        is_written(
+            &rt,
+            seven,
+            "\"7\"^^<http://www.w3.org/2001/XMLSchema#integer>"
+        )
+    );
+}
+
+#[test]
+fn tagged_terms(rt: HostRuntime) {
+    let tag = Annotation::Lang(Text::new(rt.alloc(), "de-at").expect(&rt, "memory"));
+    let form = Text::new(rt.alloc(), "x").expect(&rt, "memory");
+    assert!(rt; is_written(&rt, Term::Lit(form, tag), "\"x\"@de-at"));
+}
+
 /// Whether this is the line of the subject, the predicate and the subject once more, in the predicate's graph.
 fn is_line(rt: &HostRuntime, subject: Term, predicate: Term, expected: &str) -> bool {
     match quad_line(rt.alloc(), &subject, &predicate, &subject, Some(&predicate)) {
@@ -207,5 +231,15 @@ fn bad_templates(rt: HostRuntime) {
         "{\"a\"\"}",
     ] {
         assert!(rt; is_bad(&rt, text), "{text}");
+    }
+}
+
+#[test]
+fn names(rt: HostRuntime) {
+    for name in ["a b", "\"a\"\"b\"", "a\"b"] {
+        assert!(rt; is_name(name), "{name}");
+    }
+    for text in ["", "\"", "\"\"", "\"a", "\"a\"b"] {
+        assert!(rt; !is_name(text), "{text}");
     }
 }
