@@ -161,6 +161,33 @@ fn tagged_terms(rt: HostRuntime) {
     assert!(rt; is_written(&rt, Term::Lit(form, tag), "\"x\"@de-at"));
 }
 
+/// Whether a literal of this annotation is the plain one of this form, and its copy is the literal.
+fn is_plain(form: Text, plain: Text, annotation: Annotation) -> Option<bool> {
+    let literal = Term::Lit(form, annotation);
+    match literal.copy() {
+        Ok(copy) if copy.same(&literal) => Some(literal.same(&Term::Lit(plain, Annotation::Plain))),
+        _ => None,
+    }
+}
+
+#[test]
+fn string_is_plain(rt: HostRuntime) {
+    let iri = Text::new(rt.alloc(), "http://www.w3.org/2001/XMLSchema#string").expect(
+        &rt, "memory",
+    );
+    let form = Text::new(rt.alloc(), "x").expect(&rt, "memory");
+    let plain = Text::new(rt.alloc(), "x").expect(&rt, "memory");
+    assert!(rt; is_plain(form, plain, Annotation::typed(iri)) == Some(true));
+}
+
+#[test]
+fn tagged_is_not_plain(rt: HostRuntime) {
+    let tag = Text::new(rt.alloc(), "de-at").expect(&rt, "memory");
+    let form = Text::new(rt.alloc(), "x").expect(&rt, "memory");
+    let plain = Text::new(rt.alloc(), "x").expect(&rt, "memory");
+    assert!(rt; is_plain(form, plain, Annotation::Lang(tag)) == Some(false));
+}
+
 /// Whether this is the line of the subject, the predicate and the subject once more, in the predicate's graph.
 fn is_line(rt: &HostRuntime, subject: Term, predicate: Term, expected: &str) -> bool {
     match quad_line(rt.alloc(), &subject, &predicate, &subject, Some(&predicate)) {
