@@ -1,5 +1,5 @@
 -- What each token keeps of the form of the tables.
-use Rattle.std.proofs.Common.{◌≡◌, ◌≢◌, Bool, true, false, cond, List, [], ◌∷◌, ◌++◌, refl, sym, ap, ◌∙◌, subst}
+use Rattle.std.proofs.Common.{◌≡◌, ◌≢◌, Bool, true, false, cond, List, [], ◌∷◌, ◌++◌, refl, sym, subst}
 use Rattle.std.specs.Prelude.{IsUtf8}
 use Rattle.std.specs.List.{AllByRecursion}
 use Rattle.vkg_grammar.specs.declared.note.Note.{Note}
@@ -10,7 +10,7 @@ use Rattle.vkg_ddl.specs.declared.written.WrittenColumn.{WrittenColumn}
 use Rattle.vkg_ddl.specs.declared.written.WrittenKey.{WrittenKey}
 use Rattle.vkg_ddl.specs.declared.written.WrittenTable.{WrittenTable}
 use Rattle.vkg_ddl.specs.Formed.{IsWord, IsNamed, HasColumns, IsFormed}
-use Rattle.vkg_ddl.specs.Reading.{role_of, is_choice, with_token, with_note, written_of}
+use Rattle.vkg_ddl.specs.Reading.{role_of, is_choice, with_token, written_of}
 use Rattle.vkg_ddl.specs.Written.{on_last, act, edit, edit_column, edit_key, new_column, new_key, new_table, last_name}
 
 pub on_last_keeps : {A : Type 0} (P : A → Type 0) (f : A → A) (xs : List A) → ((x : A) → P x → P (f x)) → AllByRecursion P xs → AllByRecursion P (on_last f xs)

@@ -1,5 +1,5 @@
 -- The last item of a list.
-use Rattle.std.proofs.Common.{◌≡◌, ℕ, List, [], ◌∷◌, ◌++◌, Result, Ok, Err, refl, ap, sym, ◌∙◌}
+use Rattle.std.proofs.Common.{◌≡◌, List, [], ◌∷◌, ◌++◌, Result, Ok, Err, refl, ap, sym, ◌∙◌}
 use Rattle.std.specs.Prelude.{OnOk}
 use Rattle.vkg_ddl.specs.declared.name.Name.{Name}
 use Rattle.vkg_ddl.specs.declared.role.Role.{Role}

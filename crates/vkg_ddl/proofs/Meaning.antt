@@ -1,16 +1,12 @@
 -- One note of a derivation more.
 use Rattle.vkg_grammar.specs.declared.note.Note.{Note}
-use Rattle.std.proofs.Common.{◌≡◌, ℕ, zero, suc, ◌+◌, ◌<◌, ◌≤◌, Bool, true, false, cond, List, [], ◌∷◌, length, get_or, drop, refl, ap, sym, ◌∙◌, subst, arith}
-use Rattle.std.proofs.lemmas.List.{at_drop_more, at_drop_all, get_or-map}
-use Rattle.std.specs.List.{AllByRecursion}
-use Rattle.std.specs.Prelude.{map, slice_index}
-use Rattle.vkg_tokens.specs.declared.cutting.Token.{Token}
-use Rattle.vkg_tokens.specs.Cut.{HasKind}
+use Rattle.std.proofs.Common.{◌≡◌, ℕ, ◌+◌, ◌<◌, ◌≤◌, Bool, true, false, cond, List, [], ◌∷◌, length, get_or, drop, ap, sym, ◌∙◌, arith}
+use Rattle.std.proofs.lemmas.List.{at_drop_more, at_drop_all}
 use Rattle.vkg_ddl.specs.declared.role.Role.{Role}
 use Rattle.vkg_ddl.specs.declared.written.WrittenTable.{WrittenTable}
 use Rattle.vkg_ddl.specs.Written.{act}
 use Rattle.vkg_ddl.specs.declared.name.Name.{Name}
-use Rattle.vkg_ddl.specs.Reading.{role_of, is_choice, written_of, with_token, with_note}
+use Rattle.vkg_ddl.specs.Reading.{role_of, is_choice, written_of, with_token}
 
 note_first : (n : Note) (ns : List Note) (ts : List Name) (tables : List WrittenTable) (is_so : Bool) → is_choice (role_of n.symbol) ≡ is_so → written_of (n ∷ ns) ts tables ≡ cond is_so (written_of ns ts tables) (with_token (role_of n.symbol) ts tables (λ us next. written_of ns us next))
 unfolding written_of

@@ -1,5 +1,5 @@
 -- What holds of the tables of every text of the grammar.
-use Rattle.std.specs.Prelude.{◌≢◌, List, [], IsUtf8}
+use Rattle.std.specs.Prelude.{◌≢◌, [], IsUtf8}
 use Rattle.std.specs.List.{AllByRecursion}
 use Rattle.vkg_ddl.specs.declared.name.Name.{Name}
 use Rattle.vkg_ddl.specs.declared.written.WrittenColumn.{WrittenColumn}

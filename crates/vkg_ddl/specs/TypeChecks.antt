@@ -1,5 +1,5 @@
 -- Types that are unknown or take no such numbers: for each check the least place at which it fails.
-use Rattle.std.specs.Prelude.{unwrap_or, ℕ, ◌+◌, ◌-◌, ◌*◌, Bool, true, false, not, ◌&&◌, List, [], ◌∷◌, codes, fold, take, Option, Some, None, if◌then◌else◌, nat_le, min}
+use Rattle.std.specs.Prelude.{unwrap_or, ℕ, ◌+◌, ◌-◌, ◌*◌, Bool, true, false, not, ◌&&◌, List, [], ◌∷◌, codes, fold, Option, Some, None, if◌then◌else◌, nat_le, min}
 use Rattle.std.specs.List.{list_any}
 use Rattle.std.specs.Str.{str_eq_ignore_ascii_case}
 use Rattle.vkg_ddl.specs.declared.name.Name.{Name}

@@ -1,5 +1,5 @@
 -- A schema's text as it is written, before any name is resolved.
-use Rattle.std.specs.Prelude.{ℕ, Bool, true, false, List, [], ◌∷◌, ◌++◌, ◌-◌, length, slice_get, Option, Some, None}
+use Rattle.std.specs.Prelude.{Bool, true, false, List, [], ◌∷◌, ◌++◌, ◌-◌, length, slice_get, Option, Some, None}
 use Rattle.vkg_ddl.specs.declared.name.Name.{Name}
 use Rattle.vkg_ddl.specs.declared.role.Role.{Role}
 use Rattle.vkg_ddl.specs.declared.role.Role.TheVariants as role

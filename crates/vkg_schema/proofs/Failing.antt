@@ -1,14 +1,12 @@
 -- Why a text is no schema.
-use Rattle.std.proofs.Common.{◌≡◌, ℕ, List, Option, Some, None, ap, sym, ◌∙◌, subst}
+use Rattle.std.proofs.Common.{◌≡◌, ℕ, List, Some, ap, sym, ◌∙◌, subst}
 use Rattle.std.specs.Prelude.{IsUtf8}
 use Rattle.vkg_ddl.specs.declared.reading.TextFault.{TextFault}
 use Rattle.vkg_ddl.specs.declared.reading.TextFault.TheVariants as text
 use Rattle.vkg_ddl.specs.declared.written.WrittenTable.{WrittenTable}
 use Rattle.vkg_ddl.specs.FirstFault.{first_fault}
 use Rattle.vkg_ddl.specs.Reading.{TextFails as NoText, Says}
-use Rattle.vkg_schema.specs.Reading.{TextFails, of_text, no_token, no_text, no_schema, IsFaultOf, IsSchemaText, fault}
-use Rattle.vkg_schema.specs.Resolve.{schema_of}
-use Rattle.vkg_schema.specs.declared.table.Table.{Table}
+use Rattle.vkg_schema.specs.Reading.{TextFails, of_text, no_token, no_text, no_schema, IsFaultOf, fault}
 
 pub no_text_of : (bytes : List ℕ) (e : TextFault) → IsUtf8 bytes → NoText bytes e → TextFails bytes (of_text e)
 no_text_of bytes text.Memory u h = tt

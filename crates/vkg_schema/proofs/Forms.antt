@@ -1,17 +1,16 @@
 -- The form of the columns, keys and foreign keys of a text in which no check finds a fault.
-use Rattle.std.proofs.Common.{◌≡◌, ◌≢◌, ℕ, ◌+◌, ◌<◌, Bool, true, false, cond, not, ◌||◌, ◌&&◌, Option, Some, None, List, [], ◌∷◌, length, map, refl, sym, ap, ◌∙◌, subst, arith}
-use Rattle.std.specs.Prelude.{find, position, slice_get, unwrap_or, option_map, IfSome, IsTrue, nat_eq, ◌==◌}
-use Rattle.std.specs.List.{list_any, list_all, AllByRecursion, Contains, range_with_len}
+use Rattle.std.proofs.Common.{◌≡◌, ◌≢◌, ◌<◌, Bool, true, false, cond, ◌||◌, ◌&&◌, Option, Some, None, List, length, map, refl, sym, ap, ◌∙◌, subst, arith}
+use Rattle.std.specs.Prelude.{find, slice_get, unwrap_or, option_map, IfSome, IsTrue}
+use Rattle.std.specs.List.{list_any, AllByRecursion, Contains}
 use Rattle.std.proofs.lemmas.List.{length-map}
 use Rattle.std.proofs.lemmas.Option.{slice_get-map}
-use Rattle.vkg_cells.specs.declared.cell.SqlType.{SqlType}
 use Rattle.vkg_cells.specs.declared.cell.SqlType.TheVariants as kind
 use Rattle.vkg_ddl.specs.declared.name.Name.{Name}
 use Rattle.vkg_ddl.specs.declared.written.WrittenColumn.{WrittenColumn}
 use Rattle.vkg_ddl.specs.declared.written.WrittenKey.{WrittenKey}
 use Rattle.vkg_ddl.specs.declared.written.WrittenTable.{WrittenTable}
 use Rattle.vkg_ddl.specs.Formed.{IsNamed, HasColumns}
-use Rattle.vkg_ddl.specs.NameChecks.{matches, column_place, names_column}
+use Rattle.vkg_ddl.specs.NameChecks.{matches, names_column}
 use Rattle.vkg_ddl.specs.TypeChecks.{kind_named, column_kind}
 use Rattle.vkg_lists.proofs.Members.{each_from_recursion, recursion_from_each}
 use Rattle.vkg_schema.specs.Meets.{IsColumn, IsKey}

@@ -1,14 +1,10 @@
 -- There is one answer.
-use Rattle.std.proofs.Common.{◌≡◌, ℕ, ◌+◌, ◌<◌, ◌≤◌, ◌⊎◌, inl, inr, Bool, List, [], ◌∷◌, ◌++◌, Result, Ok, Err, Option, Some, None, take, drop, length, refl, ap, sym, ◌∙◌, subst, take-append-drop, append_assoc, arith}
-use Rattle.std.specs.Prelude.{IsUtf8}
-use Rattle.std.specs.Str.Lossy.{utf8_valid_len}
+use Rattle.std.proofs.Common.{◌≡◌, ℕ, ◌+◌, ◌<◌, ◌⊎◌, inl, inr, List, [], ◌∷◌, ◌++◌, Result, Ok, Err, Option, Some, None, take, drop, length, ap, sym, ◌∙◌, subst, take-append-drop, append_assoc, arith}
 use Rattle.vkg_grammar.specs.declared.note.Note.{Note}
 use Rattle.vkg_grammar.specs.declared.rule.Rule.{Rule}
-use Rattle.vkg_grammar.specs.Grammar.{Derives, IsAlive}
-use Rattle.vkg_grammar.specs.Parsing.{IsTheText, IsFirstDead, IsCutOff}
+use Rattle.vkg_grammar.specs.Grammar.{Derives}
+use Rattle.vkg_grammar.specs.Parsing.{IsFirstDead, IsCutOff}
 use Rattle.vkg_tokens.specs.declared.cutting.Token.{Token}
-use Rattle.vkg_tokens.specs.declared.lang.Lang.TheVariants.{Ddl}
-use Rattle.vkg_tokens.specs.Cut.{tokens_of}
 use Rattle.vkg_ddl.specs.declared.grammar_table.TheConstants.{DDL}
 use Rattle.vkg_ddl.specs.declared.written.WrittenTable.{WrittenTable}
 use Rattle.vkg_ddl.specs.FirstFault.{first_fault}

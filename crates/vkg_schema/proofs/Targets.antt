@@ -1,6 +1,6 @@
 -- The form of a foreign key in which no check finds a fault.
-use Rattle.std.proofs.Common.{◌≡◌, ◌≢◌, ℕ, zero, suc, ◌+◌, ◌<◌, Bool, true, false, cond, not, ◌||◌, ◌&&◌, Option, Some, None, List, [], ◌∷◌, length, map, refl, sym, ap, ◌∙◌, subst, arith}
-use Rattle.std.specs.Prelude.{find, position, slice_get, unwrap_or, option_map, IfSome, IsTrue, nat_eq, ◌==◌}
+use Rattle.std.proofs.Common.{◌≡◌, ◌≢◌, ℕ, suc, ◌+◌, ◌<◌, Bool, true, false, not, ◌||◌, ◌&&◌, Option, Some, None, List, [], ◌∷◌, length, map, refl, sym, ap, ◌∙◌, subst, arith}
+use Rattle.std.specs.Prelude.{find, slice_get, unwrap_or, option_map, IfSome, IsTrue, nat_eq, ◌==◌}
 use Rattle.std.specs.List.{list_any, list_all, AllByRecursion, Contains, range_with_len}
 use Rattle.std.proofs.lemmas.Bool.{eqb-true}
 use Rattle.std.proofs.lemmas.List.{length-map}
@@ -17,8 +17,7 @@ use Rattle.vkg_ddl.specs.Places.{is_nowhere}
 use Rattle.vkg_ddl.specs.NameChecks.{matches, column_place, one_place, one_column, names_column, names_table, name_twice, unknown_columns}
 use Rattle.vkg_ddl.specs.TypeChecks.{column_kind}
 use Rattle.vkg_ddl.specs.ReferenceChecks.{targets_in, are_columns, columns_fault, same_columns, are_key, key_fault, at_target, family_of, family_named, over_families, family_fault, family_at_target}
-use Rattle.vkg_lists.proofs.Members.{each_from_recursion, recursion_from_each}
-use Rattle.vkg_schema.specs.declared.table.Table.{Table}
+use Rattle.vkg_lists.proofs.Members.{each_from_recursion}
 use Rattle.vkg_schema.specs.declared.table.Reference.{Reference}
 use Rattle.vkg_schema.specs.Meets.{same_columns as same_places, child_columns, parent_columns, RefersTo, Comparable, IsReference}
 use Rattle.vkg_schema.specs.Resolve.{column_at, columns_at, place_of, places_of, key_at, keys_at, table_place, place_at, pair_at, pairs_at, pairs_to, reference_at, table_at, schema_of}

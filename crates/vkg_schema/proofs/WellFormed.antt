@@ -1,5 +1,5 @@
 -- A text in which no check finds a fault gives a schema that is well formed.
-use Rattle.std.proofs.Common.{◌≡◌, true, None, List, map, refl, sym, ap, ◌∙◌}
+use Rattle.std.proofs.Common.{◌≡◌, None, List}
 use Rattle.std.specs.Prelude.{find, not}
 use Rattle.std.specs.List.{AllByRecursion, Contains}
 use Rattle.vkg_ddl.specs.declared.written.WrittenReference.{WrittenReference}

@@ -1,5 +1,5 @@
 -- Which bytes are a schema, and the first fault of others.
-use Rattle.std.specs.Prelude.{◌≡◌, ℕ, List, [], ◌∷◌, drop, IsUtf8, Some, None, Ok, Err, if◌then◌else◌, nat_eq}
+use Rattle.std.specs.Prelude.{◌≡◌, ℕ, List, [], ◌∷◌, drop, IsUtf8, Some, None, Err, if◌then◌else◌, nat_eq}
 use Rattle.std.specs.List.{starts_with}
 use Rattle.std.specs.Str.Lossy.{utf8_valid_len}
 use Rattle.vkg_tokens.specs.declared.lang.Lang.TheVariants.{Ddl}

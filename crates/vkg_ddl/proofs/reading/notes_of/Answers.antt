@@ -1,5 +1,4 @@
-use Rattle.std.proofs.Common.{◌≡◌, refl, subst, sym, ap, ◌∙◌}
-use Rattle.std.specs.Prelude.{IfOk, IfErr}
+use Rattle.std.proofs.Common.{subst, sym}
 use Rattle.vkg_grammar.specs.Form.{IsWellFormed}
 use Rattle.vkg_grammar.specs.Grammar.{IsLL1}
 use Rattle.vkg_ddl.proofs.Certificate.{ddl_form, ddl_ll1}

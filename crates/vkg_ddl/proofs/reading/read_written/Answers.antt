@@ -1,4 +1,4 @@
-use Rattle.std.proofs.Common.{[], ap, sym, subst, ◌∙◌}
+use Rattle.std.proofs.Common.{[], sym, subst}
 use Rattle.std.specs.List.{AllByRecursion}
 use Rattle.vkg_grammar.specs.Kinds.{AreBelow}
 use Rattle.vkg_ddl.specs.Formed.{IsWord, IsFormed}

@@ -1,4 +1,4 @@
-use Rattle.std.proofs.Common.{◌≡◌, ◌+◌, drop, sym, refl, ap, ◌∙◌, arith}
+use Rattle.std.proofs.Common.{◌+◌, drop, ◌∙◌, arith}
 use Rattle.vkg_ddl.specs.Reading.{written_of}
 use Rattle.vkg_ddl.proofs.Meaning.{past_choice, past_token, out_of_tokens, all_noted}
 use Rattle.vkg_ddl.proofs.reading.written_of.Goals as goal

@@ -1,4 +1,4 @@
-use Rattle.std.proofs.Common.{◌≡◌, List, ℕ, Some, None, ap, sym, ◌∙◌, subst}
+use Rattle.std.proofs.Common.{ap, sym, ◌∙◌, subst}
 use Rattle.vkg_ddl.specs.FirstFault.{first_fault}
 use Rattle.vkg_ddl.specs.Reading.{TextFails as NoText}
 use Rattle.vkg_schema.specs.Meets.{IsWellFormed}

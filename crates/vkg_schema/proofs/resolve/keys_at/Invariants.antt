@@ -1,5 +1,4 @@
 use Rattle.std.proofs.Common.{◌≡◌, take}
-use Rattle.std.specs.Prelude.{map}
 use Rattle.vkg_schema.specs.Resolve.{keys_at}
 use Rattle.vkg_schema.proofs.resolve.keys_at.Given as goal
 
