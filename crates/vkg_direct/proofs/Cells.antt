@@ -1,5 +1,5 @@
 -- A cell of a kind has a form, and the form is of the kind's natural datatype.
-use Rattle.std.proofs.Common.{◌≡◌, ◌≢◌, ℕ, ◌<◌, refl, sym, ◌∙◌, ap, subst, List, [], ◌∷◌, map, codes, Bool, true, false, cond, ◌&&◌, ◌||◌, arith, nat_lt, Option, Some, None, Result, Ok, Err}
+use Rattle.std.proofs.Common.{◌≡◌, ◌≢◌, ℕ, ◌<◌, refl, sym, ◌∙◌, ap, subst, List, [], ◌∷◌, codes, Bool, true, false, cond, ◌&&◌, ◌||◌, arith, nat_lt, Option, Some, None, Result, Ok, Err}
 use Rattle.std.specs.Prelude.{chars, IsUtf8}
 use Rattle.std.specs.List.{list_all}
 use Rattle.std.specs.Char.{is_ascii_digit}
