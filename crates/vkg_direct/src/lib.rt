@@ -11,6 +11,8 @@ mod direct_error;
 mod iris;
 mod mapping;
 mod rule_limit;
+#[cfg(test)]
+mod tests;
 mod triples_map;
 
 pub use direct_error::DirectError;

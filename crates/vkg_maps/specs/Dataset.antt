@@ -19,7 +19,7 @@ abbrev pub object_rows : Option Join → Database → Row → List Row
 object_rows None db row = row ∷ []
 object_rows (Some join) db row = filter (agree join.conditions row) (rows_of db join.table)
 
--- R2RML, 9.1: rr:defaultGraph names the default graph
+-- R2RML, 9: rr:defaultGraph names the default graph
 abbrev pub graph_name : Term → Option Term
 graph_name g = if term_eq g (Iri rr_default_graph) then None else Some g
 
