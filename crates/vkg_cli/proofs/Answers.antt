@@ -3,7 +3,7 @@ use Rattle.std.proofs.Common.{◌≡◌, ◌⊎◌, inl, inr, ℕ, List, ◌++�
 use Rattle.std.proofs.Math.Seq.{take-length}
 use Rattle.std.specs.Prelude.{Result}
 use Rattle.vkg_base.specs.Outside.{Files}
-use Rattle.vkg_base.specs.declared.answers.Status.{Status}
+use Rattle.vkg_base.specs.declared.status.Status.{Status}
 use Rattle.vkg_cli.specs.declared.stops.Fault.{Fault}
 use Rattle.vkg_cli.specs.declared.stops.Fault.TheVariants.{Schema, Table, Keyless, TooManyRules}
 use Rattle.vkg_cli.specs.declared.stops.Stop.{Stop}

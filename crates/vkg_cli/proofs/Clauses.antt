@@ -3,8 +3,8 @@ use Rattle.std.proofs.Common.{◌≡◌, ◌⊎◌, inl, inr, ℕ, List, refl, s
 use Rattle.std.specs.Prelude.{Result}
 use Rattle.vkg_base.specs.Outside.{Files, Rose, Took}
 use Rattle.vkg_base.specs.Written.{written}
-use Rattle.vkg_base.specs.declared.answers.Status.{Status}
-use Rattle.vkg_base.specs.declared.answers.Status.TheVariants.{Done, Usage as BadWords, BadSchema, BadTable, BadMapping, BadData, BadQuery, ReadFault, WriteFault, Memory}
+use Rattle.vkg_base.specs.declared.status.Status.{Status}
+use Rattle.vkg_base.specs.declared.status.Status.TheVariants.{Done, Usage as BadWords, BadSchema, BadTable, BadMapping, BadData, BadQuery, ReadFault, WriteFault, Memory}
 use Rattle.vkg_cli.specs.declared.stops.Fault.{Fault}
 use Rattle.vkg_cli.specs.declared.stops.Stop.{Stop}
 use Rattle.vkg_cli.specs.declared.stops.Stop.TheVariants as stop

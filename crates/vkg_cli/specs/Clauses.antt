@@ -2,8 +2,8 @@
 use Rattle.std.specs.Prelude.{◌≡◌, ◌⊎◌, ◌↔◌, ℕ, List, ◌++◌, take, codes, Some}
 use Rattle.vkg_base.specs.Outside.{Files, Rose, Took, Broke}
 use Rattle.vkg_base.specs.Written.{written}
-use Rattle.vkg_base.specs.declared.answers.Status.{Status}
-use Rattle.vkg_base.specs.declared.answers.Status.TheVariants.{Done, Usage as BadWords, ReadFault, WriteFault, Memory}
+use Rattle.vkg_base.specs.declared.status.Status.{Status}
+use Rattle.vkg_base.specs.declared.status.Status.TheVariants.{Done, Usage as BadWords, ReadFault, WriteFault, Memory}
 use Rattle.vkg_cli.specs.declared.stops.Fault.{Fault}
 use Rattle.vkg_cli.specs.declared.stops.Usage.{Usage}
 use Rattle.vkg_cli.specs.FaultLine.{status_of, usage_line}

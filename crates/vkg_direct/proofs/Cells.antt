@@ -1,12 +1,15 @@
 -- A cell of a kind has a form, and the form is of the kind's natural datatype.
-use Rattle.std.proofs.Common.{◌≡◌, ◌≢◌, ℕ, ◌<◌, refl, sym, ◌∙◌, ap, subst, List, [], ◌∷◌, map, codes, Bool, true, false, cond, ◌&&◌, ◌||◌, arith, nat_lt, Option, Some, None, Result, Ok, Err}
+use Rattle.std.proofs.Common.{◌≡◌, ◌≢◌, ℕ, ◌<◌, refl, sym, ◌∙◌, ap, subst, List, [], ◌∷◌, codes, Bool, true, false, cond, ◌&&◌, ◌||◌, arith, nat_lt, Option, Some, None, Result, Ok, Err}
 use Rattle.std.specs.Prelude.{chars, IsUtf8}
 use Rattle.std.specs.List.{list_all}
-use Rattle.std.specs.Char.{is_ascii_digit, is_ascii_hexdigit, to_ascii_uppercase}
+use Rattle.std.specs.Char.{is_ascii_digit}
 use Rattle.std.specs.Str.{IsAscii}
 use Rattle.std.proofs.lemmas.Str.{scalars-chars, IsUtf8-from_ascii}
 use Rattle.std.proofs.lemmas.Str.Ascii.{IsAscii-nil, IsAscii-cons}
 use lib.Utf8.{scalars}
+use Rattle.hex.specs.Hex.{decode_of, encode_upper, upper_digits}
+use Rattle.hex.specs.declared.error.FromHexError.{FromHexError}
+use Rattle.hex.proofs.HexLemmas.{IsAscii-encode_with}
 use Rattle.vkg_terms.specs.declared.term.Term.TheVariants.{Lit}
 use Rattle.vkg_cells.specs.declared.cell.SqlType.{SqlType}
 use Rattle.vkg_cells.specs.declared.cell.SqlType.TheVariants as kind
@@ -14,7 +17,7 @@ use Rattle.vkg_cells.specs.declared.cell.Cell.{Cell}
 use Rattle.vkg_cells.specs.declared.cell.Cell.TheVariants as cell
 use Rattle.vkg_cells.specs.declared.cell.FieldFault.{FieldFault}
 use Rattle.vkg_cells.specs.declared.cell.FieldFault.TheVariants as field
-use Rattle.vkg_cells.specs.Field.{where_field, where_number, where_stamp, is_true_word, is_false_word, is_hex}
+use Rattle.vkg_cells.specs.Field.{where_field, where_number, where_octets, where_stamp, is_true_word, is_false_word}
 use Rattle.vkg_cells.specs.Form.{lexical_form, IsOfKind, natural}
 use Rattle.vkg_cells.specs.Number.{is_integer, is_decimal, whole, fraction, width, canonical, is_negative, without_leading_zeros, without_trailing_zeros}
 use Rattle.vkg_cells.specs.Moment.{is_date, stamp_form}
@@ -95,22 +98,17 @@ formed_bool : (b : Bool) → Formed kind.Bool (cell.Bool b)
 formed_bool true = record { form = codes "true"; is = refl; spelled = ascii_spelled (codes "true") (small_ascii (codes "true") refl); typed = refl }
 formed_bool false = record { form = codes "false"; is = refl; spelled = ascii_spelled (codes "false") (small_ascii (codes "false") refl); typed = refl }
 
-hex_ascii : (text : List ℕ) → list_all is_ascii_hexdigit text ≡ true → IsAscii (map to_ascii_uppercase text)
-hex_ascii [] e = IsAscii-nil
-hex_ascii (b ∷ bs) e =
-    let h = and_parts (is_ascii_hexdigit b) (list_all is_ascii_hexdigit bs) e in
-    IsAscii-cons (to_ascii_uppercase b) (map to_ascii_uppercase bs) (small b h.0) (hex_ascii bs h.1)
-  where
-    small : (b : ℕ) → is_ascii_hexdigit b ≡ true → to_ascii_uppercase b < 128
-    small b e = grind arith
-
-formed_binary : (text : List ℕ) → is_hex text ≡ true → Formed kind.Bin (cell.Bin (map to_ascii_uppercase text))
-formed_binary text e = record {
-  form = map to_ascii_uppercase text;
+formed_octets : (octets : List ℕ) → Formed kind.Bin (cell.Bin (encode_upper octets))
+formed_octets octets = record {
+  form = encode_upper octets;
   is = refl;
-  spelled = ascii_spelled (map to_ascii_uppercase text) (hex_ascii text (and_parts _ (list_all is_ascii_hexdigit text) e).1);
+  spelled = ascii_spelled (encode_upper octets) (IsAscii-encode_with upper_digits octets (small_ascii upper_digits refl));
   typed = refl;
 }
+
+formed_binary : (r : Result (List ℕ) FromHexError) (c : Cell) → where_octets r ≡ Ok c → Formed kind.Bin c
+formed_binary (Err e) c f = cc
+formed_binary (Ok octets) c f = subst (Formed kind.Bin) (ok_is (cell.Bin (encode_upper octets)) c f) (formed_octets octets)
 
 typed_date : (t : List ℕ) → is_xsd_date t ≡ true → literal t (natural kind.Date) ≡ Ok (Some (Lit t (natural kind.Date)))
 typed_date t e = ap (λ b. cond b (Ok (Some (Lit t (natural kind.Date)))) (Err IllTyped)) e
@@ -140,5 +138,5 @@ formed kind.Dec c n (text, u, e) = let h = number_ok (is_decimal text) text (cel
 formed kind.Bool c n (text, u, e) = let h = field_ok (is_true_word text || is_false_word text) (cell.Bool (is_true_word text)) c e in subst (Formed kind.Bool) h.1 (formed_bool (is_true_word text))
 formed kind.Date c n (text, u, e) = let h = field_ok (is_date text) (cell.Date text) c e in subst (Formed kind.Date) h.1 (formed_date text u h.0)
 formed kind.Stamp c n (text, u, e) = let h = stamp_ok (stamp_form text) c e in subst (Formed kind.Stamp) h.2 (formed_stamp h.0 (stamp_made text h.0 h.1))
-formed kind.Bin c n (text, u, e) = let h = field_ok (is_hex text) (cell.Bin (map to_ascii_uppercase text)) c e in subst (Formed kind.Bin) h.1 (formed_binary text h.0)
+formed kind.Bin c n (text, u, e) = formed_binary (decode_of text) c e
 formed kind.Term c n o = absurd (n refl)
