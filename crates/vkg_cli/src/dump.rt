@@ -11,15 +11,15 @@ ghost use Rattle.vkg_cli.specs.Work.{Dumps, DumpsDirect, Works, checked, mapping
 
 use crate::Stop;
 use crate::load::{load_file, load_tables, schema_of, table_stop};
-use vkg_direct::{DirectError, direct};
-use vkg_maps::Mapping;
-use vkg_quads::dump_lines;
-use vkg_tables::{Database, TableError};
 use crate::stops::Fault;
 use crate::words::DumpOptions;
 use std::alloc::Global;
 use vkg_base::{Lines, Memory, Store};
+use vkg_direct::{DirectError, direct};
+use vkg_maps::Mapping;
+use vkg_quads::dump_lines;
 use vkg_schema::Schema;
+use vkg_tables::{Database, TableError};
 
 fn check_keys(alloc: Global, db: &Database) -> Result<(), Stop>
     ensures { Answers (λ outcome. outcome ≡ checked (key_fault db.now.schema db.now.tables)) (done_or result) }

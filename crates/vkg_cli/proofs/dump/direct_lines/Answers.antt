@@ -1,8 +1,3 @@
-use Rattle.std.proofs.Common.{◌≡◌, ◌∙◌, ap, sym, Ok, refl}
-use Rattle.vkg_direct.specs.DirectMapping.{direct_result}
-use Rattle.vkg_quads.specs.Dump.{dump}
-use Rattle.vkg_maps.specs.Dataset.{dataset}
-use Rattle.vkg_cli.specs.Work.{IsDirectDump, lines_or, mapping_or}
 use Rattle.vkg_cli.proofs.DirectLemmas.{direct_dump}
 use Rattle.vkg_cli.proofs.dump.direct_lines.Goals as goal
 
