@@ -3,8 +3,8 @@ use Rattle.std.proofs.Common.{◌≡◌, ◌⊎◌, inl, inr, ℕ, List, refl, s
 use Rattle.std.specs.Prelude.{Result}
 use Rattle.vkg_base.specs.Outside.{Files, Rose, Took}
 use Rattle.vkg_base.specs.Written.{written}
-use Rattle.vkg_base.specs.declared.answers.Status.{Status}
-use Rattle.vkg_base.specs.declared.answers.Status.TheVariants.{Done, Usage as BadWords, BadSchema, BadTable, BadMapping, BadData, BadQuery, ReadFault, WriteFault, Memory}
+use Rattle.vkg_base.specs.declared.status.Status.{Status}
+use Rattle.vkg_base.specs.declared.status.Status.TheVariants.{Done, Usage as BadWords, BadSchema, BadTable, BadMapping, BadData, BadQuery, ReadFault, WriteFault, Memory}
 use Rattle.vkg_cli.specs.declared.stops.Fault.{Fault}
 use Rattle.vkg_cli.specs.declared.stops.Stop.{Stop}
 use Rattle.vkg_cli.specs.declared.stops.Stop.TheVariants as stop
@@ -13,7 +13,7 @@ use Rattle.vkg_cli.specs.FaultLine.{status_of}
 use Rattle.vkg_cli.specs.Words.{Asked, Options, dump, help, refused}
 use Rattle.vkg_cli.specs.Work.{Works}
 use Rattle.vkg_cli.specs.Answer.{Ends, HasFault, HasText, IsAnswer, IsDone, IsRefused, World}
-use Rattle.vkg_cli.specs.Clauses.{AsksInOrder, HelpIsGiven, IsComplete, IsDoneOnly, IsMemoryTold, IsReadFaultOnly, IsRefusedExactly, IsUntouched, IsUsageExactly, IsWriteFaultOnly, WritesDump}
+use Rattle.vkg_cli.specs.Clauses.{AsksInOrder, HelpIsGiven, IsComplete, IsDoneOnly, IsMemoryTold, IsNoOther, IsReadFaultOnly, IsRefusedExactly, IsUntouched, IsUsageExactly, IsWriteFaultOnly, WritesDump}
 use Rattle.vkg_cli.proofs.Headline.{headline}
 use Rattle.vkg_cli.proofs.Whole.{determined_work}
 
@@ -124,6 +124,13 @@ module _ (old new : World) (status : Status) where
   usage_exactly (refused usage) (same, inl (is, why)) = (λ bad. (usage, refl, why.told), λ other e. inl is)
   usage_exactly (refused usage) (same, inr (is, why)) = (λ bad. absurd (not_twice status BadWords Memory bad is (λ e. cc e)), λ other e. inr is)
   usage_exactly (dump options) is = (λ bad. absurd (subst (Ends options old new) bad is.ends), λ usage e. absurd (no_dump_refused options usage e))
+
+  pub no_other : (asked : Asked) → IsAnswer asked old new status → IsNoOther status
+  no_other help (same, inl (is, took, quiet)) = (λ bad. not_twice status BadData Done bad is (λ e. cc e), λ bad. not_twice status BadQuery Done bad is (λ e. cc e))
+  no_other help (same, inr (is, broke, told)) = (λ bad. not_twice status BadData WriteFault bad is (λ e. cc e), λ bad. not_twice status BadQuery WriteFault bad is (λ e. cc e))
+  no_other (refused usage) (same, inl (is, why)) = (λ bad. not_twice status BadData BadWords bad is (λ e. cc e), λ bad. not_twice status BadQuery BadWords bad is (λ e. cc e))
+  no_other (refused usage) (same, inr (is, why)) = (λ bad. not_twice status BadData Memory bad is (λ e. cc e), λ bad. not_twice status BadQuery Memory bad is (λ e. cc e))
+  no_other (dump options) is = (λ bad. subst (Ends options old new) bad is.ends, λ bad. subst (Ends options old new) bad is.ends)
 
   pub memory_told : (asked : Asked) → IsAnswer asked old new status → IsMemoryTold old new status
   memory_told help (same, inl (is, took, quiet)) short = absurd (not_twice status Memory Done short is (λ e. cc e))

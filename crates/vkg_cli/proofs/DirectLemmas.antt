@@ -3,13 +3,18 @@ use Rattle.std.proofs.Common.{◌≡◌, ◌∙◌, ℕ, List, ap, sym, Ok, Err,
 use Rattle.std.specs.Prelude.{Result, Option, Some, None}
 use Rattle.vkg_schema.specs.declared.table.Table.{Table}
 use Rattle.vkg_schema.specs.Meets.{MeetsSchema}
-use Rattle.vkg_cli.specs.declared.parts.DirectError.{DirectError}
-use Rattle.vkg_cli.specs.declared.parts.Mapping.{Mapping}
+use Rattle.vkg_direct.specs.declared.direct_error.DirectError.{DirectError}
+use Rattle.vkg_maps.specs.declared.mapping.Mapping.{Mapping}
 use Rattle.vkg_cli.specs.declared.stops.Stop.{Stop}
 use Rattle.vkg_cli.specs.declared.stops.Stop.TheVariants.{Refused, Read, Memory}
-use Rattle.vkg_cli.specs.declared.parts.TableFault.{TableFault}
+use Rattle.vkg_tables.specs.declared.fault.TableFault.{TableFault}
 use Rattle.vkg_cli.specs.Stages.{Answers}
-use Rattle.vkg_cli.specs.Parts.{Seen, GivesDirectGraph, direct_result, dump, key_fault, quads, reference_fault}
+use Rattle.vkg_tables.specs.Seen.{Seen}
+use Rattle.vkg_direct.specs.Laws.{GivesDirectGraph}
+use Rattle.vkg_direct.specs.DirectMapping.{direct_result}
+use Rattle.vkg_quads.specs.Dump.{IsDump, dump}
+use Rattle.vkg_tables.specs.Checks.{key_fault, reference_fault}
+use Rattle.vkg_maps.specs.Dataset.{dataset}
 use Rattle.vkg_cli.specs.Work.{Dumps, DumpsDirect, IsDirectDump, checked, lines_or, mapping_or, table_stop, unless_fault}
 
 given : (found : Result Mapping DirectError) (mapping : Mapping) → (let made : Result Mapping Stop = Ok mapping in made ≡ mapping_or found) → found ≡ Ok mapping
@@ -19,11 +24,11 @@ given (Err e) mapping is = cc is
 pub direct_dump : (db : Seen) (base : List ℕ) (mapping : Mapping) (lines : List (List ℕ)) → MeetsSchema db.schema db.tables
     → (let made : Result Mapping Stop = Ok mapping in made ≡ mapping_or (direct_result db.schema base))
     → GivesDirectGraph db.schema base mapping
-    → lines ≡ dump (quads mapping db.tables)
+    → lines ≡ dump (dataset mapping db.tables) → IsDump lines (dataset mapping db.tables)
     → DumpsDirect db base (Ok lines)
-direct_dump db base mapping lines meets made graph is = (
+direct_dump db base mapping lines meets made graph is order = (
   ap (λ (l : List (List ℕ)). Ok l) is ∙ ap (lines_or db.tables) made,
-  record { meets = meets; mapping = mapping; direct = given (direct_result db.schema base) mapping made; graph = graph db.tables meets; lines_are = is },
+  record { meets = meets; mapping = mapping; direct = given (direct_result db.schema base) mapping made; graph = graph db.tables meets; lines_are = is; ascending = order },
 )
 
 same_error : {A B : Type 0} (stop other : Stop) → (let one : Result A Stop = Err stop in one ≡ Err other) → (let one : Result B Stop = Err stop in one ≡ Err other)

@@ -11,11 +11,13 @@ use Rattle.vkg_schema.specs.declared.table.Table.{Table}
 use Rattle.vkg_schema.specs.declared.table.Column.{Column}
 use Rattle.vkg_schema.specs.Rows.{Row}
 use Rattle.vkg_cli.specs.declared.load.TheConstants.{LIMIT}
-use Rattle.vkg_cli.specs.declared.parts.TableFault.{TableFault}
+use Rattle.vkg_tables.specs.declared.fault.TableFault.{TableFault}
 use Rattle.vkg_cli.specs.declared.stops.Fault.TheVariants.{Schema}
 use Rattle.vkg_cli.specs.declared.stops.Stop.{Stop}
 use Rattle.vkg_cli.specs.declared.stops.Stop.TheVariants.{Refused}
-use Rattle.vkg_cli.specs.Parts.{IsSchemaOf, Seen, columns_at, columns_of, loaded, table_of_bytes, with_read, with_rows, without_rows}
+use Rattle.vkg_schema.specs.Reading.{IsSchemaOf}
+use Rattle.vkg_tables.specs.Seen.{Seen, columns_at, columns_of, loaded, with_read, with_rows, without_rows}
+use Rattle.vkg_tables.specs.TableFile.{table_of_bytes, unless_fault}
 use Rattle.vkg_cli.specs.Stages.{Loads, Settles, Then, found, goes_on, stops}
 use Rattle.vkg_cli.specs.Words.{Options}
 use Rattle.vkg_cli.specs.Work.{Dumps, IsDirectDump, LoadsTable, LoadsTables, ReadsSchema, UnlessLong, Works, loaded_or, table_file, table_stop}
@@ -41,17 +43,17 @@ schema_of true bytes tables is = absurd (no_value tables _ is)
 schema_of false bytes tables is = (refl, is)
 
 -- the table's file of a loaded table
-rows_read : (db next : Seen) (k : ℕ) (read : Result (List Row) TableFault) → (let one : Result Seen Stop = Ok next in one ≡ loaded_or (with_read db k read))
+rows_read : (db next : Seen) (k : ℕ) (read : Result (List Row) _) → (let one : Result Seen Stop = Ok next in one ≡ loaded_or (with_read db k read))
     → (rows : List Row) × (read ≡ Ok rows) × (next ≡ with_rows db k rows)
 rows_read db next k (Ok rows) e = (rows, refl, cc e)
 rows_read db next k (Err f) e = cc e
 
-not_long : (long : Bool) (f : TableFault) (rows others : List Row) → (let one : Result (List Row) TableFault = Ok others in one ≡ (if long then Err f else Ok rows)) → long ≡ false
-not_long true f rows others e = cc e
-not_long false f rows others e = refl
+not_long : {F : Type 0} (long : Bool) (f : F) (faults : List F) (rows others : List Row) → (let one : Result (List Row) F = Ok others in one ≡ unless_fault (slice_get (if long then f ∷ [] else faults) 0) rows) → long ≡ false
+not_long true f faults rows others e = cc e
+not_long false f faults rows others e = refl
 
 short_file : (columns : List Column) (bytes : List ℕ) (rows : List Row) → table_of_bytes columns bytes ≡ Ok rows → nat_lt 2147483647 (length bytes) ≡ false
-short_file columns bytes rows e = not_long (nat_lt 2147483647 (length bytes)) _ [] rows (sym e)
+short_file columns bytes rows e = not_long (nat_lt 2147483647 (length bytes)) _ _ _ rows (sym e)
 
 -- the element behind a list
 at_seam : {A : Type 0} (xs : List A) (y : A) (ys : List A) → slice_get (xs ++ y ∷ ys) (length xs) ≡ Some y

@@ -6,7 +6,7 @@ use Rattle.vkg_base.specs.Outside.{Files, StoreState}
 use Rattle.vkg_schema.specs.declared.table.Table.{Table}
 use Rattle.vkg_cli.specs.declared.load.TheConstants.{LIMIT}
 use Rattle.vkg_cli.specs.declared.stops.Stop.{Stop}
-use Rattle.vkg_cli.specs.Parts.{Seen, loaded}
+use Rattle.vkg_tables.specs.Seen.{Seen, loaded}
 use Rattle.vkg_cli.specs.Stages.{IsDetermined, IsOneOutcome, Ran}
 use Rattle.vkg_cli.specs.Work.{LoadsTable, LoadsTables, loaded_or}
 use Rattle.vkg_cli.proofs.Ran.{determined_loads, determined_settles, determined_then, ran_then, ran_stop}

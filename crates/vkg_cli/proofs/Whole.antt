@@ -4,11 +4,12 @@ use Rattle.std.specs.Prelude.{Result}
 use Rattle.vkg_base.specs.Outside.{Files}
 use Rattle.vkg_schema.specs.declared.table.Table.{Table}
 use Rattle.vkg_cli.specs.declared.load.TheConstants.{LIMIT}
-use Rattle.vkg_cli.specs.declared.parts.SchemaFault.{SchemaFault}
+use Rattle.vkg_schema.specs.declared.reading.SchemaFault.{SchemaFault}
 use Rattle.vkg_cli.specs.declared.stops.Fault.TheVariants.{Schema, Table as AtTable, Keyless, TooManyRules}
 use Rattle.vkg_cli.specs.declared.stops.Stop.{Stop}
 use Rattle.vkg_cli.specs.declared.stops.Stop.TheVariants.{Refused, Read, Memory}
-use Rattle.vkg_cli.specs.Parts.{Seen, determined, without_rows}
+use Rattle.vkg_tables.specs.Seen.{Seen, without_rows}
+use Rattle.vkg_schema.proofs.One.{determined}
 use Rattle.vkg_cli.specs.Stages.{IsDetermined, IsOneOutcome}
 use Rattle.vkg_cli.specs.Words.{Options}
 use Rattle.vkg_cli.specs.Work.{Dumps, Reads, ReadsSchema, UnlessLong, Works}

@@ -2,8 +2,8 @@
 use Rattle.std.specs.Prelude.{◌≡◌, ◌⊎◌, ◌↔◌, ℕ, List, ◌++◌, take, codes, Option, Some, Result, Ok, Err}
 use Rattle.vkg_base.specs.Outside.{Files, StoreState, SinkState, Rose, Took, Broke}
 use Rattle.vkg_base.specs.Written.{written}
-use Rattle.vkg_base.specs.declared.answers.Status.{Status}
-use Rattle.vkg_base.specs.declared.answers.Status.TheVariants.{Done, Usage as BadWords, BadSchema, BadTable, BadMapping, BadData, BadQuery, ReadFault, WriteFault, Memory}
+use Rattle.vkg_base.specs.declared.status.Status.{Status}
+use Rattle.vkg_base.specs.declared.status.Status.TheVariants.{Done, Usage as BadWords, BadSchema, BadTable, BadMapping, BadData, BadQuery, ReadFault, WriteFault, Memory}
 use Rattle.vkg_cli.specs.declared.stops.Fault.{Fault}
 use Rattle.vkg_cli.specs.declared.stops.Usage.{Usage}
 use Rattle.vkg_cli.specs.declared.stops.Stop.{Stop}
@@ -116,10 +116,14 @@ IsAnswer help old new status = Helps old new status
 IsAnswer (refused usage) old new status = Rejects usage old new status
 IsAnswer (dump options) old new status = IsDumpAnswer options old new status
 
+-- why there is no text is told
+abbrev pub TellsStop : Stop → SinkState → SinkState → Status → Type 0
+TellsStop (stop.Refused fault) err err' status = (status ≡ status_of fault) × Tells err err' (fault_line fault)
+TellsStop stop.Read err err' status = (status ≡ ReadFault) × Tells err err' (codes "vkg: read fault\n")
+TellsStop stop.Memory err err' status = (status ≡ Memory) × Tells err err' (codes "vkg: want of memory\n")
+
 -- what becomes of made lines, or of the reason why there are none
 abbrev pub Delivers : Result (List (List ℕ)) Stop → SinkState → SinkState → SinkState → SinkState → Status → Type 0
 Delivers (Ok lines) out out' err err' status =
     ((status ≡ Done) × Took out out' (written lines) × (err' ≡ err)) ⊎ ((status ≡ WriteFault) × Broke out out' (written lines) × Tells err err' (codes "vkg: write fault\n"))
-Delivers (Err (stop.Refused fault)) out out' err err' status = (status ≡ status_of fault) × (out' ≡ out) × Tells err err' (fault_line fault)
-Delivers (Err stop.Read) out out' err err' status = (status ≡ ReadFault) × (out' ≡ out) × Tells err err' (codes "vkg: read fault\n")
-Delivers (Err stop.Memory) out out' err err' status = (status ≡ Memory) × (out' ≡ out) × Tells err err' (codes "vkg: want of memory\n")
+Delivers (Err why) out out' err err' status = (out' ≡ out) × TellsStop why err err' status

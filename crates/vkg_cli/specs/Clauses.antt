@@ -2,8 +2,8 @@
 use Rattle.std.specs.Prelude.{◌≡◌, ◌⊎◌, ◌↔◌, ℕ, List, ◌++◌, take, codes, Some}
 use Rattle.vkg_base.specs.Outside.{Files, Rose, Took, Broke}
 use Rattle.vkg_base.specs.Written.{written}
-use Rattle.vkg_base.specs.declared.answers.Status.{Status}
-use Rattle.vkg_base.specs.declared.answers.Status.TheVariants.{Done, Usage as BadWords, ReadFault, WriteFault, Memory}
+use Rattle.vkg_base.specs.declared.status.Status.{Status}
+use Rattle.vkg_base.specs.declared.status.Status.TheVariants.{Done, Usage as BadWords, BadData, BadQuery, ReadFault, WriteFault, Memory}
 use Rattle.vkg_cli.specs.declared.stops.Fault.{Fault}
 use Rattle.vkg_cli.specs.declared.stops.Usage.{Usage}
 use Rattle.vkg_cli.specs.FaultLine.{status_of, usage_line}
@@ -50,6 +50,10 @@ abbrev pub IsWriteFaultOnly : Asked → World → World → Status → Type 0
 IsWriteFaultOnly asked old new status = status ≡ WriteFault →
     ((asked ≡ help) × Broke old.out new.out help_text × Tells old.err new.err (codes "vkg: write fault\n"))
     ⊎ ((options : Options) × (asked ≡ dump options) × IsUnwritten options old new)
+
+-- No data error and no fault of a query is answered: no command reads a mapping or a query.
+abbrev pub IsNoOther : Status → Type 0
+IsNoOther status = ¬ (status ≡ BadData) × ¬ (status ≡ BadQuery)
 
 -- Memory: it is told.
 abbrev pub IsMemoryTold : World → World → Status → Type 0

@@ -4,7 +4,8 @@ use Rattle.std.specs.List.{AllZip}
 use Rattle.vkg_base.specs.Outside.{Files, held}
 use Rattle.vkg_schema.specs.declared.table.Table.{Table}
 use Rattle.vkg_schema.specs.Rows.{Database, Row}
-use Rattle.vkg_cli.specs.Parts.{IsSchemaOf, table_of_bytes}
+use Rattle.vkg_schema.specs.Reading.{IsSchemaOf}
+use Rattle.vkg_tables.specs.TableFile.{table_of_bytes}
 use Rattle.vkg_cli.specs.Words.{Options}
 use Rattle.vkg_cli.specs.Work.{IsDirectDump, table_file}
 

@@ -3,7 +3,6 @@ pub mod Clauses
 pub mod CommandLine
 pub mod FaultLine
 pub mod Headline
-pub mod Parts
 pub mod Stages
 pub mod Words
 pub mod Work

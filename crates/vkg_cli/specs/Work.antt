@@ -10,11 +10,18 @@ use Rattle.vkg_cli.specs.declared.stops.Fault.TheVariants as fault
 use Rattle.vkg_cli.specs.declared.stops.Stop.{Stop}
 use Rattle.vkg_cli.specs.declared.stops.Stop.TheVariants as stop
 use Rattle.vkg_cli.specs.declared.load.TheConstants.{LIMIT}
-use Rattle.vkg_cli.specs.declared.parts.TableFault.{TableFault}
-use Rattle.vkg_cli.specs.declared.parts.DirectError.{DirectError}
-use Rattle.vkg_cli.specs.declared.parts.DirectError.TheVariants as direct_error
-use Rattle.vkg_cli.specs.declared.parts.Mapping.{Mapping}
-use Rattle.vkg_cli.specs.Parts.{Seen, without_rows, loaded, key_fault, reference_fault, IsSchemaOf, IsFirstFault, direct_result, direct_graph, SameQuads, quads, dump}
+use Rattle.vkg_tables.specs.declared.fault.TableFault.{TableFault}
+use Rattle.vkg_direct.specs.declared.direct_error.DirectError.{DirectError}
+use Rattle.vkg_direct.specs.declared.direct_error.DirectError.TheVariants as direct_error
+use Rattle.vkg_maps.specs.declared.mapping.Mapping.{Mapping}
+use Rattle.vkg_tables.specs.Seen.{Seen, without_rows, loaded}
+use Rattle.vkg_tables.specs.Checks.{key_fault, reference_fault}
+use Rattle.vkg_schema.specs.Reading.{IsSchemaOf, IsFirstFault}
+use Rattle.vkg_direct.specs.DirectMapping.{direct_result}
+use Rattle.vkg_direct.specs.DirectGraph.{direct_graph}
+use Rattle.vkg_lists.specs.Sets.{HasSameMembers}
+use Rattle.vkg_maps.specs.Dataset.{dataset}
+use Rattle.vkg_quads.specs.Dump.{IsDump, dump}
 use Rattle.vkg_cli.specs.Stages.{Stage, Settles, Loads, Then}
 use Rattle.vkg_cli.specs.Words.{Options}
 
@@ -75,7 +82,7 @@ mapping_or (Ok mapping) = Ok mapping
 mapping_or (Err e) = Err (direct_stop e)
 
 abbrev pub lines_or : List (List Row) → Result Mapping Stop → Result (List (List ℕ)) Stop
-lines_or db (Ok mapping) = Ok (dump (quads mapping db))
+lines_or db (Ok mapping) = Ok (dump (dataset mapping db))
 lines_or db (Err stop) = Err stop
 
 -- A Direct Mapping of Relational Data to RDF, 2: the database meets its schema, the dataset of the direct mapping over it
@@ -84,8 +91,9 @@ pub record IsDirectDump (schema : List Table) (db : Database) (base : List ℕ) 
   pub meets : MeetsSchema schema db
   pub mapping : Mapping
   pub direct : direct_result schema base ≡ Ok mapping
-  pub graph : SameQuads (quads mapping db) (direct_graph schema base db)
-  pub lines_are : lines ≡ dump (quads mapping db)
+  pub graph : HasSameMembers (dataset mapping db) (direct_graph schema base db)
+  pub lines_are : lines ≡ dump (dataset mapping db)
+  pub ascending : IsDump lines (dataset mapping db)
 
 -- of a database that meets its schema: the direct mapping, or its first fault, and the lines
 abbrev pub DumpsDirect : Seen → List ℕ → Result (List (List ℕ)) Stop → Type 0

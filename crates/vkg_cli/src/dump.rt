@@ -2,19 +2,24 @@
 ghost use Rattle.std.specs.Prelude.{◌≡◌, None, Ok, IfOk, OnOk, true};
 ghost use Rattle.vkg_terms.specs.Iri.{is_absolute};
 ghost use Rattle.vkg_schema.specs.Meets.{MeetsSchema};
-ghost use Rattle.vkg_cli.specs.Parts.{GivesDirectGraph, direct_result, key_fault, reference_fault};
+ghost use Rattle.vkg_direct.specs.Laws.{GivesDirectGraph};
+ghost use Rattle.vkg_direct.specs.DirectMapping.{direct_result};
+ghost use Rattle.vkg_tables.specs.Checks.{key_fault, reference_fault};
 ghost use Rattle.vkg_cli.specs.Stages.{Answers, Ran, done_or};
 ghost use Rattle.vkg_cli.specs.Words.{options_seen};
 ghost use Rattle.vkg_cli.specs.Work.{Dumps, DumpsDirect, Works, checked, mapping_or};
 
 use crate::Stop;
 use crate::load::{load_file, load_tables, schema_of, table_stop};
-use crate::parts::{Database, DirectError, Mapping, TableError, direct, dump_lines};
 use crate::stops::Fault;
 use crate::words::DumpOptions;
 use std::alloc::Global;
 use vkg_base::{Lines, Memory, Store};
+use vkg_direct::{DirectError, direct};
+use vkg_maps::Mapping;
+use vkg_quads::dump_lines;
 use vkg_schema::Schema;
+use vkg_tables::{Database, TableError};
 
 fn check_keys(alloc: Global, db: &Database) -> Result<(), Stop>
     ensures { Answers (λ outcome. outcome ≡ checked (key_fault db.now.schema db.now.tables)) (done_or result) }

@@ -6,7 +6,6 @@ mod command_line;
 mod dump;
 mod fault_line;
 mod load;
-mod parts;
 mod stops;
 mod top;
 mod words;

@@ -1,14 +1,14 @@
 // Files loaded from a store, and read.
 ghost use Rattle.std.specs.Prelude.{◌≡◌, ◌≤◌, ◌<◌, length, string_bytes, IfOk};
 ghost use Rattle.vkg_cli.specs.Stages.{Answers, Loads, Ran, carried, seen};
-ghost use Rattle.vkg_cli.specs.Parts.{loaded, without_rows};
+ghost use Rattle.vkg_tables.specs.Seen.{loaded, without_rows};
 ghost use Rattle.vkg_cli.specs.Work.{LoadsTable, LoadsTables, ReadsSchema, loaded_or, table_file, table_stop as stop_at};
 
-use crate::parts::{Database, SchemaError, TableError, TableFault, read_schema};
 use crate::{Fault, Stop};
 use std::alloc::Global;
 use vkg_base::{LoadFault, Memory, Store};
-use vkg_schema::{Schema, Table};
+use vkg_schema::{Schema, SchemaError, Table, read_schema};
+use vkg_tables::{Database, TableError, TableFault};
 use vkg_terms::iri_safe;
 
 /// The most bytes that are taken of a file: one more than a file may have.

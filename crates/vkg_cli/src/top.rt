@@ -1,7 +1,7 @@
 // The top call.
 ghost use Rattle.std.specs.Prelude.{◌≡◌, map, string_bytes};
-ghost use Rattle.vkg_cli.specs.Answer.{Delivers, IsAnswer, Tells, World, WritesHelp};
-ghost use Rattle.vkg_cli.specs.Clauses.{AsksInOrder, HelpIsGiven, IsComplete, IsDoneOnly, IsMemoryTold, IsReadFaultOnly, IsRefusedExactly, IsUntouched, IsUsageExactly, IsWriteFaultOnly};
+ghost use Rattle.vkg_cli.specs.Answer.{Delivers, IsAnswer, Tells, TellsStop, World, WritesHelp};
+ghost use Rattle.vkg_cli.specs.Clauses.{AsksInOrder, HelpIsGiven, IsComplete, IsDoneOnly, IsMemoryTold, IsNoOther, IsReadFaultOnly, IsRefusedExactly, IsUntouched, IsUsageExactly, IsWriteFaultOnly};
 ghost use Rattle.vkg_cli.specs.Words.{asked_of};
 
 use crate::Stop;
@@ -27,6 +27,26 @@ fn tell_bytes<E: Sink>(err: &mut E, line: &[u8])
     let _ = err.write(line);
 }
 
+/// Tells why there is no text.
+fn tell_stop<E: Sink>(stop: Stop, err: &mut E) -> Status
+    ensures { TellsStop stop (E.state err.old) (E.state err.new) result }
+{
+    match stop {
+        Stop::Refused(fault) => {
+            tell_bytes(err, fault_line(fault).as_bytes());
+            fault_status(fault)
+        }
+        Stop::Read => {
+            tell(err, "vkg: read fault\n");
+            Status::ReadFault
+        }
+        Stop::Memory => {
+            tell(err, "vkg: want of memory\n");
+            Status::Memory
+        }
+    }
+}
+
 /// Writes the text, or tells why there is none.
 fn deliver<O: Sink, E: Sink>(made: Result<Lines, Stop>, out: &mut O, err: &mut E) -> Status
     ensures { Delivers made (O.state out.old) (O.state out.new) (E.state err.old) (E.state err.new) result }
@@ -39,18 +59,7 @@ fn deliver<O: Sink, E: Sink>(made: Result<Lines, Stop>, out: &mut O, err: &mut E
                 Status::WriteFault
             }
         },
-        Err(Stop::Refused(fault)) => {
-            tell_bytes(err, fault_line(fault).as_bytes());
-            fault_status(fault)
-        }
-        Err(Stop::Read) => {
-            tell(err, "vkg: read fault\n");
-            Status::ReadFault
-        }
-        Err(Stop::Memory) => {
-            tell(err, "vkg: want of memory\n");
-            Status::Memory
-        }
+        Err(stop) => tell_stop(stop, err),
     }
 }
 
@@ -96,7 +105,7 @@ fn run<S: Store, O: Sink, E: Sink>(
 
 /// Does what the words ask for, of which the first is the program's name: loads files from the store, writes to `out`, and
 /// tells one line of `err` where it stops.
-#[tactic(auto, using(crate::proofs::Clauses::done_only, crate::proofs::Clauses::usage_exactly, crate::proofs::Clauses::bad_schema, crate::proofs::Clauses::bad_table, crate::proofs::Clauses::bad_mapping, crate::proofs::Clauses::read_only, crate::proofs::Clauses::write_only, crate::proofs::Clauses::memory_told, crate::proofs::Clauses::complete, crate::proofs::Clauses::help_given, crate::proofs::Clauses::untouched, crate::proofs::Clauses::in_order))]
+#[tactic(auto, using(crate::proofs::Clauses::done_only, crate::proofs::Clauses::usage_exactly, crate::proofs::Clauses::bad_schema, crate::proofs::Clauses::bad_table, crate::proofs::Clauses::bad_mapping, crate::proofs::Clauses::read_only, crate::proofs::Clauses::write_only, crate::proofs::Clauses::memory_told, crate::proofs::Clauses::no_other, crate::proofs::Clauses::complete, crate::proofs::Clauses::help_given, crate::proofs::Clauses::untouched, crate::proofs::Clauses::in_order))]
 pub fn vkg<S: Store, O: Sink, E: Sink>(
     alloc: Global,
     words: &Vec<String>,
@@ -128,6 +137,7 @@ pub fn vkg<S: Store, O: Sink, E: Sink>(
     ensures memory { IsMemoryTold
         (record { store = S.state store.old; out = O.state out.old; err = E.state err.old })
         (record { store = S.state store.new; out = O.state out.new; err = E.state err.new }) result }
+    ensures no_other { IsNoOther result }
     ensures complete { IsComplete (asked_of (map string_bytes words.now.items))
         (record { store = S.state store.old; out = O.state out.old; err = E.state err.old })
         (record { store = S.state store.new; out = O.state out.new; err = E.state err.new }) result }

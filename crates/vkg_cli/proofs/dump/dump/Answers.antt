@@ -1,8 +1,8 @@
-use Rattle.std.proofs.Common.{List, ℕ, Ok, Err, subst}
+use Rattle.std.proofs.Common.{List, Ok, Err, subst}
 use Rattle.vkg_schema.specs.declared.table.Table.{Table}
 use Rattle.vkg_cli.specs.declared.load.TheConstants.{LIMIT}
 use Rattle.vkg_cli.specs.Stages.{Answers}
-use Rattle.vkg_cli.specs.Work.{Dumps, ReadsSchema}
+use Rattle.vkg_cli.specs.Work.{ReadsSchema}
 use Rattle.vkg_cli.proofs.Ran.{determined_loads, determined_settles, ran_settle, ran_stop, ran_then}
 use Rattle.vkg_cli.proofs.Tables.{determined_tables}
 use Rattle.vkg_cli.proofs.Whole.{one_schema}

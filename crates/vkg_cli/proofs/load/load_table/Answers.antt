@@ -1,8 +1,4 @@
-use Rattle.std.proofs.Common.{List, ℕ, Ok, Err, subst, refl}
 use Rattle.vkg_cli.specs.declared.load.TheConstants.{LIMIT}
-use Rattle.vkg_cli.specs.Parts.{loaded}
-use Rattle.vkg_cli.specs.Stages.{Answers, carried}
-use Rattle.vkg_cli.specs.Work.{loaded_or}
 use Rattle.vkg_cli.proofs.Ran.{determined_loads, ran_settle, ran_then, ran_stop}
 use Rattle.vkg_cli.proofs.load.load_table.Goals as goal
 

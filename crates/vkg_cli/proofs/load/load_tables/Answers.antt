@@ -1,10 +1,6 @@
-use Rattle.std.proofs.Common.{◌≡◌, ◌<◌, ◌+◌, ◌∙◌, ap, refl, rules, arith, length, drop, subst, sym, Ok}
+use Rattle.std.proofs.Common.{◌∙◌, ap, refl, sym}
 use Rattle.std.proofs.lemmas.List.{drop_all}
-use Rattle.std.specs.Prelude.{Result}
-use Rattle.vkg_cli.specs.Parts.{without_rows}
-use Rattle.vkg_cli.specs.Stages.{Ran}
-use Rattle.vkg_cli.specs.Work.{LoadsTables}
-use Rattle.vkg_cli.proofs.Ran.{ran_settle, ran_short}
+use Rattle.vkg_cli.proofs.Ran.{ran_settle}
 use Rattle.vkg_cli.proofs.Tables.{tables_next, tables_stop}
 use Rattle.vkg_cli.proofs.load.load_tables.Goals as goal
 

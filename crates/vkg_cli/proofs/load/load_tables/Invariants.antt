@@ -2,7 +2,7 @@ use Rattle.std.proofs.Common.{◌≡◌, drop}
 use Rattle.std.specs.Prelude.{Result}
 use Rattle.vkg_base.specs.Outside.{StoreState}
 use Rattle.vkg_cli.specs.declared.stops.Stop.{Stop}
-use Rattle.vkg_cli.specs.Parts.{Seen, without_rows}
+use Rattle.vkg_tables.specs.Seen.{Seen, without_rows}
 use Rattle.vkg_cli.specs.Stages.{Ran}
 use Rattle.vkg_cli.specs.Work.{LoadsTables}
 use Rattle.vkg_cli.proofs.load.load_tables.Given as goal
