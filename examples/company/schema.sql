@@ -26,7 +26,7 @@ CREATE TABLE assignment (
     employee INTEGER REFERENCES employee,
     code VARCHAR(10),
     year INTEGER,
-    key BLOB,
+    badge BLOB,
     PRIMARY KEY (employee, code, year),
     FOREIGN KEY (code, year) REFERENCES project
 );
