@@ -1,6 +1,7 @@
 // Words and worked rows and what they are answered, over a store and sinks in memory.
 use crate::vkg;
 use std::alloc::Global;
+use std::process::Abort;
 use std::test::Fail;
 use vkg_base::{MemSink, MemStore, Status};
 
