@@ -1,7 +1,7 @@
 -- The first of what a scan finds.
 use Rattle.std.proofs.Common.{◌≡◌, ℕ, zero, suc, ◌+◌, ◌<◌, refl, sym, ◌∙◌, ap, List, [], ◌∷◌, ◌++◌, flat_map, map, drop, length, get_or, Some, None, arith}
 use Rattle.std.specs.List.{enumerate_from}
-use Rattle.std.proofs.lemmas.List.{get_or-map, length-map}
+use Rattle.std.proofs.lemmas.List.{drop_more, get_or-map, length-map}
 use Rattle.vkg_lists.specs.Firsts.{first_of}
 
 pub first_later : {A : Type 0} (xs ys : List A) → first_of xs ≡ None → first_of (xs ++ ys) ≡ first_of ys
@@ -12,12 +12,8 @@ pub first_here : {A : Type 0} (xs ys : List A) (x : A) → first_of xs ≡ Some 
 first_here [] ys x e = cc
 first_here (y ∷ xs) ys x e = e
 
-opened : {X : Type 0} (xs : List X) (i : ℕ) (x : X) → i < length xs → x ≡ get_or xs i x → drop i xs ≡ x ∷ drop (i + 1) xs
-opened [] i x h e = absurd (let n : i < 0 = h in omega (arith, n))
-opened (y ∷ ys) zero x h e = ap (λ z. z ∷ ys) (sym e)
-opened (y ∷ ys) (suc i) x h e =
-    let k : suc (i + 1) ≡ suc i + 1 = omega arith in
-    opened ys i x (omega (arith, h)) e ∙ ap (λ j. x ∷ drop j (y ∷ ys)) k
+pub opened : {X : Type 0} (xs : List X) (i : ℕ) (x : X) → i < length xs → x ≡ get_or xs i x → drop i xs ≡ x ∷ drop (i + 1) xs
+opened xs i x h e = drop_more xs i x h ∙ ap (λ z. z ∷ drop (i + 1) xs) (sym e)
 
 module _ {X A : Type 0} (f : (ℕ × X) → List A) (xs : List X) where
   pub scan_none : (n i : ℕ) (x : X) → i < length xs → x ≡ get_or xs i x → first_of (f (n, x)) ≡ None → first_of (flat_map f (enumerate_from n (drop i xs))) ≡ first_of (flat_map f (enumerate_from (n + 1) (drop (i + 1) xs)))

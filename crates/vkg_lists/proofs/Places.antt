@@ -9,6 +9,11 @@ pub lesser-none : (a : Option ℕ) → lesser a None ≡ a
 lesser-none None = refl
 lesser-none (Some a) = refl
 
+pub lesser-both_none : (a b : Option ℕ) → lesser a b ≡ None → (a ≡ None) × (b ≡ None)
+lesser-both_none None b e = (refl, e)
+lesser-both_none (Some a) None e = cc
+lesser-both_none (Some a) (Some b) e = cc
+
 pub lesser-assoc : (a b c : Option ℕ) → lesser (lesser a b) c ≡ lesser a (lesser b c)
 lesser-assoc None b c = refl
 lesser-assoc (Some a) None c = refl
@@ -27,13 +32,8 @@ module _ {A : Type 0} (place : A → Option ℕ) where
   pub least_of-none : (xs : List A) → least_of place xs ≡ None → (x : A) → Contains xs x → place x ≡ None
   least_of-none [] e x c = absurd (Contains-none x c)
   least_of-none (y ∷ xs) e x c =
-      let both = apart (place y) (least_of place xs) (sym (least_of-cons y xs) ∙ e) in
+      let both = lesser-both_none (place y) (least_of place xs) (sym (least_of-cons y xs) ∙ e) in
       ⊎_elim (λ i. subst (λ z. place z ≡ None) i both.0) (λ d. least_of-none xs both.1 x d) (Contains-cons_cases y xs x c)
-    where
-      apart : (a b : Option ℕ) → lesser a b ≡ None → (a ≡ None) × (b ≡ None)
-      apart None b e = (refl, e)
-      apart (Some a) None e = cc
-      apart (Some a) (Some b) e = cc
 
   least_by : (y : A) (xs : List A) (p rest : Option ℕ) → place y ≡ p → least_of place xs ≡ rest → ((b : ℕ) → rest ≡ Some b → IsLeastPlace place xs b) → (at : ℕ) → lesser p rest ≡ Some at → IsLeastPlace place (y ∷ xs) at
   least_by y xs None rest is none later at e = let l = later at e in record {
