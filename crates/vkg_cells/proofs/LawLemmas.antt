@@ -6,6 +6,7 @@ use Rattle.std.proofs.lemmas.Slice.Eq.{bytes_eq-Decides}
 use Rattle.hex.specs.Hex.{decode_of, encode_upper}
 use Rattle.hex.proofs.HexLemmas.{decode_of-encode_upper, decode_of-ok}
 use Rattle.hex.specs.declared.error.FromHexError.{FromHexError}
+use Rattle.vkg_lists.specs.Texts.{bytes_cmp}
 use Rattle.vkg_cells.specs.declared.cell.FieldFault.{FieldFault}
 use Rattle.vkg_cells.specs.declared.cell.FieldFault.TheVariants.{BadValue, TooWide}
 use Rattle.vkg_cells.specs.declared.cell.SqlType.{SqlType}
@@ -37,7 +38,7 @@ use Rattle.vkg_terms.specs.declared.term.Annotation.{Annotation}
 use Rattle.vkg_terms.specs.declared.term.Annotation.TheVariants.{Plain, Lang, Typed}
 use Rattle.vkg_terms.specs.declared.term.Term.{Term}
 use Rattle.vkg_terms.specs.declared.term.Term.TheVariants.{Iri, Blank, Lit}
-use Rattle.vkg_terms.specs.Same.{annotation_cmp, annotation_eq, term_cmp, term_eq, text_cmp}
+use Rattle.vkg_terms.specs.Same.{annotation_cmp, annotation_eq, term_cmp, term_eq}
 
 by-bytes : (a b : List ℕ) → (◌≡◌ {A = Option Bool} (Some (bytes_eq a b)) (Some true)) ↔ (◌≡◌ {A = Option (List ℕ)} (Some a) (Some b))
 by-bytes a b =
@@ -196,10 +197,10 @@ values k text (Ok c) h = (proper k text c h).1
 values k text (Err e) h = tt
 
 -- the order is equal where the cells are the same
-text-same : (a b : List ℕ) → (text_cmp a b ≡ Equal) ↔ (◌≡◌ {A = Option Bool} (Some (bytes_eq a b)) (Some true))
+text-same : (a b : List ℕ) → (bytes_cmp a b ≡ Equal) ↔ (◌≡◌ {A = Option Bool} (Some (bytes_eq a b)) (Some true))
 text-same a b =
     let d = bytes_eq-Decides a b in
-    (λ e. ap Some (d.1 (exact_bytes a b e)), λ e. let f : a ≡ b = d.0 (cc e) in ap (text_cmp a) (sym f) ∙ tied_itself nat_list_cmp_total a)
+    (λ e. ap Some (d.1 (exact_bytes a b e)), λ e. let f : a ≡ b = d.0 (cc e) in ap (bytes_cmp a) (sym f) ∙ tied_itself nat_list_cmp_total a)
 
 number-same : (a b : List ℕ) → (is_decimal a ≡ true) × (canonical a ≡ a) → (is_decimal b ≡ true) × (canonical b ≡ b)
     → (number_cmp a b ≡ Equal) ↔ (◌≡◌ {A = Option Bool} (Some (bytes_eq a b)) (Some true))
@@ -216,9 +217,9 @@ annotation-tied (Typed a) (Typed b) = is_eq-slice_cmp a b
 annotation-tied x y = refl
 
 term-tied : (s t : Term) → is_eq (term_cmp s t) ≡ term_eq s t
-term-tied (Iri a) (Iri b) = ap is_eq (then-equal (text_cmp a b)) ∙ is_eq-slice_cmp a b
-term-tied (Blank a) (Blank b) = ap is_eq (then-equal (text_cmp a b)) ∙ is_eq-slice_cmp a b
-term-tied (Lit a x) (Lit b y) = sym (tied_then (text_cmp a b) (annotation_cmp x y)) ∙ (λ i. is_eq-slice_cmp a b i && annotation-tied x y i)
+term-tied (Iri a) (Iri b) = ap is_eq (then-equal (bytes_cmp a b)) ∙ is_eq-slice_cmp a b
+term-tied (Blank a) (Blank b) = ap is_eq (then-equal (bytes_cmp a b)) ∙ is_eq-slice_cmp a b
+term-tied (Lit a x) (Lit b y) = sym (tied_then (bytes_cmp a b) (annotation_cmp x y)) ∙ (λ i. is_eq-slice_cmp a b i && annotation-tied x y i)
 term-tied s t = refl
 
 term-same : (s t : Term) → (term_cmp s t ≡ Equal) ↔ (◌≡◌ {A = Option Bool} (Some (term_eq s t)) (Some true))

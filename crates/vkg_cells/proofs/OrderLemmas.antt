@@ -9,6 +9,7 @@ use Rattle.std.proofs.Math.IntN.{pos-*ℤ-pos}
 use Rattle.std.proofs.Math.Nat.{mul-lt-mul_of_pos_right, mul-pos, mul_assoc, mul_comm, one-le-pow, zero-mul}
 use Rattle.std.proofs.Math.Dec.{lit<}
 use Rattle.std.proofs.lemmas.Bool.{cases_order}
+use Rattle.vkg_lists.specs.Texts.{bytes_cmp}
 use Rattle.vkg_cells.specs.declared.cell.Cell.{Cell}
 use Rattle.vkg_cells.specs.declared.cell.Cell.TheVariants as cell
 use Rattle.vkg_cells.specs.Number.{is_negative, number_cmp, numerator, scale, size}
@@ -17,7 +18,7 @@ use Rattle.vkg_cells.proofs.SignLemmas.{above-neg, cmp-neg, cmp-pos, neg-above, 
 use Rattle.vkg_cells.proofs.ValueLemmas.{cmp-equal, cmp-greater, cmp-less, then-equal}
 use Rattle.vkg_terms.specs.declared.term.Term.{Term}
 use Rattle.vkg_terms.specs.declared.term.Term.TheVariants.{Iri}
-use Rattle.vkg_terms.specs.Same.{annotation_cmp, annotation_name, annotation_rank, term_annotation, term_cmp, term_name, term_rank, text_cmp}
+use Rattle.vkg_terms.specs.Same.{annotation_cmp, annotation_name, annotation_rank, term_annotation, term_cmp, term_name, term_rank}
 
 abbrev signed : Bool → ℕ → ℤ
 signed minus n = if minus then neg_ℤ (pos n) else pos n
@@ -120,7 +121,7 @@ term_of (cell.Term t) = t
 term_of c = Iri []
 
 abbrev by_parts : Cell → Cell → Ordering
-by_parts = then_cmp (on family_of nat_cmp) (then_cmp (on text_of text_cmp) (then_cmp (on number_in number_cmp) (then_cmp (on truth_of bool_cmp) (on term_of term_cmp))))
+by_parts = then_cmp (on family_of nat_cmp) (then_cmp (on text_of bytes_cmp) (then_cmp (on number_in number_cmp) (then_cmp (on truth_of bool_cmp) (on term_of term_cmp))))
 
 parts-total : IsTotalOrder by_parts
 parts-total =
@@ -128,15 +129,15 @@ parts-total =
     (then_total (on_total number_in number-total) (then_total (on_total truth_of bool_cmp_total) (on_total term_of term-total))))
 
 order-parts : (c d : Cell) → by_parts c d ≡ order c d
-order-parts (cell.Text a) (cell.Text b) = then-equal (text_cmp a b)
+order-parts (cell.Text a) (cell.Text b) = then-equal (bytes_cmp a b)
 order-parts (cell.Int a) (cell.Int b) = then-equal (number_cmp a b)
 order-parts (cell.Int a) (cell.Dec b) = then-equal (number_cmp a b)
 order-parts (cell.Dec a) (cell.Int b) = then-equal (number_cmp a b)
 order-parts (cell.Dec a) (cell.Dec b) = then-equal (number_cmp a b)
 order-parts (cell.Bool a) (cell.Bool b) = then-equal (bool_cmp a b)
-order-parts (cell.Date a) (cell.Date b) = then-equal (text_cmp a b)
-order-parts (cell.Stamp a) (cell.Stamp b) = then-equal (text_cmp a b)
-order-parts (cell.Bin a) (cell.Bin b) = then-equal (text_cmp a b)
+order-parts (cell.Date a) (cell.Date b) = then-equal (bytes_cmp a b)
+order-parts (cell.Stamp a) (cell.Stamp b) = then-equal (bytes_cmp a b)
+order-parts (cell.Bin a) (cell.Bin b) = then-equal (bytes_cmp a b)
 order-parts cell.Null cell.Null = refl
 order-parts (cell.Term s) (cell.Term t) = refl
 order-parts c d = refl

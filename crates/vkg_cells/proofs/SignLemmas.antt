@@ -12,6 +12,7 @@ use Rattle.std.proofs.Math.IntN.{negsuc-*ℤ-pos, pos-*ℤ-pos, zero-*ℤ}
 use Rattle.std.proofs.Math.Nat.{mul-one, mul-pos, one-le-pow, zero-mul}
 use Rattle.std.proofs.Math.Dec.{lt→ltb}
 use Rattle.std.proofs.lemmas.Bool.{cases_order, leb-true, ltb-true, ltb-false}
+use Rattle.vkg_lists.proofs.Bools.{and_parts}
 use Rattle.vkg_cells.specs.Number.{digits_value, fraction, is_below_zero, is_decimal, is_digits, is_negative, number_cmp, numerator, scale, size, whole, width, without_leading_zeros, without_trailing_zeros}
 use Rattle.vkg_cells.proofs.ValueLemmas.{AreDigits, cmp-less, cmp-equal, cmp-greater, cmp-scaled}
 
@@ -25,8 +26,8 @@ both false b e = absurd (no e)
 digits-all : (ds : List ℕ) → list_all is_ascii_digit ds ≡ true → AreDigits ds
 digits-all [] e = tt
 digits-all (d ∷ ds) e =
-    let here = both (is_ascii_digit d) (list_all is_ascii_digit ds) e in
-    let range = both _ _ here.0 in
+    let here = and_parts (is_ascii_digit d) (list_all is_ascii_digit ds) e in
+    let range = and_parts _ _ here.0 in
     (leb-true 48 d range.0, leb-true d 57 range.1, digits-all ds here.1)
 
 pub digits-some : (ds : List ℕ) → is_digits ds ≡ true → AreDigits ds
@@ -116,7 +117,7 @@ pub record IsBelow (text : List ℕ) : Type 0 where
 
 pub below : (text : List ℕ) → is_decimal text ≡ true → is_below_zero text ≡ true → IsBelow text
 below text d e =
-    let signs = both (is_negative text) (nat_lt 0 (width text)) e in
+    let signs = and_parts (is_negative text) (nat_lt 0 (width text)) e in
     record { numerator_is = rw signs.0 refl; is_positive = size-above text d signs.1 }
 
 pub not-below : (text : List ℕ) → is_decimal text ≡ true → is_below_zero text ≡ false → numerator text ≡ pos (size text)

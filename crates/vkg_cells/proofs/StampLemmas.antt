@@ -1,11 +1,12 @@
 -- The lexical form of a moment reads as itself.
 use Rattle.std.proofs.Common.{◌≡◌, ◌∙◌, ◌≤◌, ◌++◌, ◌∷◌, ◌&&◌, ℕ, Bool, true, false, List, [], Option, Some, None, refl, ap, subst, arith, length, nat_le, codes, append-nil, append_assoc, leb-true}
 use Rattle.std.proofs.lemmas.Bool.{le-leb}
+use Rattle.vkg_lists.proofs.Bools.{and_parts}
 use Rattle.vkg_cells.specs.Moment.{cut, form_at, form_if, form_of_parts, is_clock, is_date, or_cut, stamp_form}
 use Rattle.vkg_cells.specs.Number.{after_point, is_digits, without_trailing_zeros}
 use Rattle.vkg_cells.proofs.CanonicalLemmas.{are-digits, trailing-kept}
 use Rattle.vkg_cells.proofs.PlaceLemmas.{Lacks, cut-none, cut-some, lacks-cut, lacks-front, lacks-front-of}
-use Rattle.vkg_cells.proofs.SignLemmas.{both, digits-some}
+use Rattle.vkg_cells.proofs.SignLemmas.{digits-some}
 use Rattle.vkg_cells.proofs.ValueLemmas.{AreDigits, digits-without-trailing, ends-long, trimmed}
 
 -- a moment of its parts
@@ -47,9 +48,9 @@ form-if false date clock f form e = absurd (no e)
 
 four : (a b c d : Bool) → a && b && c && d ≡ true → (a ≡ true) × (b ≡ true) × (c ≡ true) × (d ≡ true)
 four a b c d e =
-    let last = both (a && b && c) d e in
-    let third = both (a && b) c last.0 in
-    let first = both a b third.0 in
+    let last = and_parts (a && b && c) d e in
+    let third = and_parts (a && b) c last.0 in
+    let first = and_parts a b third.0 in
     (first.0, first.1, third.1, last.1)
 
 again-with : (date clock f form : List ℕ) → Lacks 84 date → Lacks 46 clock

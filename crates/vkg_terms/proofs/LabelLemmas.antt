@@ -3,7 +3,7 @@ use Rattle.std.proofs.Common.{◌≡◌, ◌<◌, ◌++◌, ◌/◌, ◌%◌, �
 use Rattle.std.specs.Prelude.{flat_map, slice_index}
 use Rattle.std.proofs.lemmas.Bool.Decides.{nat_tests}
 use Rattle.hex.specs.Hex.{encode_with, encode_lower, lower_digits, IsBytes}
-use Rattle.vkg_terms.proofs.Octets.{use_below}
+use Rattle.vkg_terms.proofs.Octets.{use_below, head_same, tail_same}
 use Rattle.vkg_terms.specs.Label.{blank_label, lower_hex}
 
 -- the digits of an octet
@@ -12,12 +12,6 @@ digits octet = lower_hex (octet / 16) ∷ lower_hex (octet % 16) ∷ []
 
 lower_hex_same : (a b : ℕ) → lower_hex a ≡ lower_hex b → a ≡ b
 lower_hex_same a b e = grind (arith, nat_tests)
-
-first : (a b : ℕ) (x y : List ℕ) → a ∷ x ≡ b ∷ y → a ≡ b
-first a b x y e = cc e
-
-rest : (a b : ℕ) (x y : List ℕ) → a ∷ x ≡ b ∷ y → x ≡ y
-rest a b x y e = cc e
 
 octet_same : (a b : ℕ) → lower_hex (a / 16) ≡ lower_hex (b / 16) → lower_hex (a % 16) ≡ lower_hex (b % 16) → a ≡ b
 octet_same a b high low =
@@ -30,14 +24,14 @@ digits_same [] [] e = refl
 digits_same [] (y ∷ ys) e = cc e
 digits_same (x ∷ xs) [] e = cc e
 digits_same (x ∷ xs) (y ∷ ys) e =
-    let tail = rest _ _ _ _ e in
-    let h : x ≡ y = octet_same x y (first _ _ _ _ e) (first _ _ _ _ tail) in
-    let t : xs ≡ ys = digits_same xs ys (rest _ _ _ _ tail) in
+    let tail = tail_same _ _ _ _ e in
+    let h : x ≡ y = octet_same x y (head_same _ _ _ _ e) (head_same _ _ _ _ tail) in
+    let t : xs ≡ ys = digits_same xs ys (tail_same _ _ _ _ tail) in
     cc
 
 -- no two texts have one label
 pub label_same : (a b : List ℕ) → blank_label a ≡ blank_label b → a ≡ b
-label_same a b e = digits_same a b (rest _ _ _ _ e)
+label_same a b e = digits_same a b (tail_same _ _ _ _ e)
 
 digit_table : (d : ℕ) → d < 16 → (lower_hex d == slice_index lower_digits d) ≡ true
 digit_table = use_below 16 (λ d. lower_hex d == slice_index lower_digits d) refl

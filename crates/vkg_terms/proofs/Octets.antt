@@ -1,20 +1,15 @@
--- Tests of each octet of a text.
-use Rattle.std.proofs.Common.{◌≡◌, ℕ, zero, suc, ◌+◌, ◌/◌, ◌<◌, ◌≤◌, refl, ◌∙◌, ap, [], ◌∷◌, Bool, true, false, not, cond, ◌&&◌, ◌||◌, ltb, arith, ◌⊎◌, ⊎_elim}
+-- Octets of a text, and tests of each.
+use Rattle.std.proofs.Common.{◌≡◌, ℕ, zero, suc, ◌+◌, ◌/◌, ◌<◌, ◌≤◌, refl, ◌∙◌, ap, [], ◌∷◌, List, Bool, true, false, not, cond, ◌&&◌, ◌||◌, ltb, arith, ◌⊎◌, ⊎_elim}
 use Rattle.std.specs.List.{list_all}
 use Rattle.std.proofs.lemmas.Bool.{ltb-true}
-use lib.Utf8.{encode, next}
+use Rattle.vkg_lists.proofs.Bools.{and_true, and_parts}
+use lib.Utf8.{encode, next, scalar}
 
-pub and_true : (a b : Bool) → a ≡ true → b ≡ true → (a && b) ≡ true
-and_true true b e f = f
-and_true false b e f = e
+pub head_same : (a b : ℕ) (x y : List ℕ) → a ∷ x ≡ b ∷ y → a ≡ b
+head_same a b x y e = cc e
 
-pub and_parts : (a b : Bool) → (a && b) ≡ true → (a ≡ true) × (b ≡ true)
-and_parts true b e = (refl, e)
-and_parts false b e = cc
-
-pub implied : (a b : Bool) → (not a || b) ≡ true → a ≡ true → b ≡ true
-implied true b e f = e
-implied false b e f = cc
+pub tail_same : (a b : ℕ) (x y : List ℕ) → a ∷ x ≡ b ∷ y → x ≡ y
+tail_same a b x y e = cc e
 
 -- a test that was made of every number below n
 abbrev pub passes_below : ℕ → (ℕ → Bool) → Bool
@@ -29,6 +24,9 @@ use_below zero p e k h = absurd (let x : ⊥ = omega (arith, h) in x)
 use_below (suc n) p e k h =
     let b = and_parts (p n) (passes_below n p) e in
     ⊎_elim (λ (l : k < n). use_below n p b.1 k l) (λ (s : k ≡ n). ap p s ∙ b.0) (last_or_below k n h)
+
+pub scalar_below : (c : ℕ) → scalar c ≡ true → c < 1114112
+scalar_below c e = grind arith
 
 -- the octets of a character are itself, or all at least 128
 pub encode_all : (p : ℕ → Bool) (c : ℕ) → c < 1114112 → ((b : ℕ) → 128 ≤ b → b < 256 → p b ≡ true) → (c < 128 → p c ≡ true) → list_all p (encode c) ≡ true

@@ -6,22 +6,17 @@ use Rattle.std.proofs.lemmas.Str.{encodes-chars, scalars-chars, chars-append, ch
 use Rattle.std.proofs.lemmas.Bool.Decides.{nat_tests}
 use Rattle.std.proofs.lemmas.List.{append-nil}
 use Rattle.std.proofs.lemmas.List.Folds.{list_all-append}
-use Rattle.std.proofs.Math.Utf8.{encode, encodes, scalar, scalar_cases, scalars}
+use Rattle.std.proofs.Math.Utf8.{encode, encodes, scalar, scalars}
 use Rattle.percent_encoding.specs.Percent.{percent_decode, percent_encode_byte}
 use Rattle.percent_encoding.proofs.PercentLemmas.{percent_decode-nil, percent_decode-percent_encode_byte, percent_decode_not_percent}
-use Rattle.vkg_terms.proofs.Octets.{and_true, and_parts, implied, use_below, encode_all}
+use Rattle.vkg_lists.proofs.Bools.{and_true, and_parts, implied}
+use Rattle.vkg_terms.proofs.Octets.{use_below, encode_all, scalar_below}
 use Rattle.vkg_terms.specs.Safe.{safe, safe_character, percent, is_unreserved, is_safe_character}
 
 -- the escape of an octet is that of the kit
 pub percent_kit : (b : ℕ) → b < 256 → percent b ≡ percent_encode_byte b
 unfolding percent_encode_byte
 percent_kit b h = let e : b / 16 % 16 ≡ b / 16 = omega arith in rw e refl
-
-below : (c : ℕ) → scalar c ≡ true → c < 1114112
-below c e = elim (scalar_cases c e) [
-  | inl low ↦ omega (arith, low)
-  | inr high ↦ high.1
-]
 
 -- no octet of a character that stays is `%`
 other : ℕ → Bool
@@ -33,14 +28,14 @@ other_high b h = grind (arith, nat_tests)
 
 other_kept : (c : ℕ) → scalar c ≡ true → is_unreserved c ≡ true → list_all other (encode c) ≡ true
 unfolding other
-other_kept c e u = encode_all other c (below c e) (λ b h _. other_high b h) (λ l. implied _ _ (use_below 128 (λ b. not (is_unreserved b) || not (b == 37)) refl c l) u)
+other_kept c e u = encode_all other c (scalar_below c e) (λ b h _. other_high b h) (λ l. implied _ _ (use_below 128 (λ b. not (is_unreserved b) || not (b == 37)) refl c l) u)
 
 other_percent : (b : ℕ) → other b ≡ true → b ≢ 37
 unfolding other
 other_percent b e = grind (arith, nat_tests)
 
 octets : (c : ℕ) → scalar c ≡ true → list_all (λ b. nat_lt b 256) (encode c) ≡ true
-octets c e = encode_all (λ b. nat_lt b 256) c (below c e) (λ b _ l. grind (arith, nat_tests)) (λ l. grind (arith, nat_tests))
+octets c e = encode_all (λ b. nat_lt b 256) c (scalar_below c e) (λ b _ l. grind (arith, nat_tests)) (λ l. grind (arith, nat_tests))
 
 decode-kept : (bs rest : List ℕ) → list_all other bs ≡ true → percent_decode (bs ++ rest) ≡ bs ++ percent_decode rest
 decode-kept [] rest h = refl

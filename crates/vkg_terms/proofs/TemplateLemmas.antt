@@ -12,7 +12,8 @@ use Rattle.vkg_terms.specs.declared.template_reader.Place.{Place}
 use Rattle.vkg_terms.specs.declared.template_reader.Place.TheVariants.{Fixed, Hole, EscapedFixed, EscapedHole, Broken}
 use Rattle.vkg_terms.specs.TemplateParts.{Mark, Plain, Open, Close, mark, marks, onto, escape, is_special, onto_fixed, outside, inside, outside_if_any, template_of}
 use Rattle.vkg_terms.specs.TemplateReader.{State, start, fixed_part, step, at_place, with_char, with_fixed, with_hole, run, finished, finished_at}
-use Rattle.vkg_terms.proofs.Octets.{and_parts, encode_all}
+use Rattle.vkg_lists.proofs.Bools.{and_parts, not_true}
+use Rattle.vkg_terms.proofs.Octets.{encode_all, scalar_below}
 
 -- a text put before the parts that follow it
 abbrev pub glue : List ℕ → List Part → List Part
@@ -132,27 +133,20 @@ ordinary_mark b e = by_tests (b == 123) (b == 125) refl refl
 pub ordinary_cons : (b : ℕ) (bs : List ℕ) → is_special b ≡ false → marks (b ∷ bs) ≡ onto (Plain b) (marks bs)
 ordinary_cons b bs e = marks-cons b bs (grind (arith, nat_tests)) ∙ ap (λ m. onto m (marks bs)) (ordinary_mark b e)
 
-false_from : (b : Bool) → not b ≡ true → b ≡ false
-false_from true e = cc e
-false_from false e = refl
-
 -- a run of octets that stand for themselves goes to the text
 module _ (go : List ℕ → Option (List Mark) → Option (List Part)) (plain : (text : List ℕ) (b : ℕ) (ms : Option (List Mark)) → go text (onto (Plain b) ms) ≡ go (text ++ b ∷ []) ms) where
   plain_run : (xs text bs : List ℕ) → list_all (λ b. not (is_special b)) xs ≡ true → go text (marks (xs ++ bs)) ≡ go (text ++ xs) (marks bs)
   plain_run [] text bs e = ap (λ t. go t (marks bs)) (sym (append-nil text))
   plain_run (x ∷ xs) text bs e =
       let parts = and_parts (not (is_special x)) (list_all (λ b. not (is_special b)) xs) e in
-      ap (go text) (ordinary_cons x (xs ++ bs) (false_from (is_special x) parts.0))
+      ap (go text) (ordinary_cons x (xs ++ bs) (not_true (is_special x) parts.0))
       ∙ plain text x (marks (xs ++ bs))
       ∙ plain_run xs (text ++ x ∷ []) bs parts.1
       ∙ ap (λ t. go t (marks bs)) (append_assoc text (x ∷ []) xs)
 
-below : (c : ℕ) → scalar c ≡ true → c < 1114112
-below c e = grind arith
-
 -- the octets of a character that stands for itself do so
 ordinary : (c : ℕ) → scalar c ≡ true → is_special c ≡ false → list_all (λ b. not (is_special b)) (encode c) ≡ true
-ordinary c u e = encode_all (λ b. not (is_special b)) c (below c u) (λ b h _. high b h) (λ _. ap not e)
+ordinary c u e = encode_all (λ b. not (is_special b)) c (scalar_below c u) (λ b h _. high b h) (λ _. ap not e)
   where
     high : (b : ℕ) → 128 ≤ b → not (is_special b) ≡ true
     high b h = grind (arith, nat_tests)
@@ -198,7 +192,7 @@ module _ (go : List ℕ → Option (List Mark) → Option (List Part)) (none : (
   first_bad : (text : List ℕ) (xs bs : List ℕ) → list_all (λ b. not (is_special b)) xs ≡ true → (xs ≡ [] → ⊥) → escaped_rest (go text) (xs ++ bs) ≡ None
   first_bad text [] bs e n = absurd (n refl)
   first_bad text (x ∷ xs) bs e n =
-      ap (λ b. go text (if b then onto (Plain x) (marks (xs ++ bs)) else None)) (false_from (is_special x) (and_parts (not (is_special x)) (list_all (λ b. not (is_special b)) xs) e).0) ∙ none text
+      ap (λ b. go text (if b then onto (Plain x) (marks (xs ++ bs)) else None)) (not_true (is_special x) (and_parts (not (is_special x)) (list_all (λ b. not (is_special b)) xs) e).0) ∙ none text
 
   escaped_bad : (text : List ℕ) (c : ℕ) (bs : List ℕ) → scalar c ≡ true → is_special c ≡ false → None ≡ escaped_rest (go text) (encode c ++ bs)
   escaped_bad text c bs u e = sym (first_bad text (encode c) bs (ordinary c u e) (encode_some c))

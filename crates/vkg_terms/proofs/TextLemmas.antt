@@ -14,13 +14,8 @@ use Rattle.vkg_terms.specs.declared.term.Term.{Term}
 use Rattle.vkg_terms.specs.declared.term.Term.TheVariants.{Iri, Blank, Lit}
 use Rattle.vkg_terms.specs.declared.term.Annotation.{Annotation}
 use Rattle.vkg_terms.specs.declared.term.Annotation.TheVariants.{Plain, Lang, Typed}
-use Rattle.vkg_terms.proofs.Octets.{and_true, and_parts, encode_all}
-
-head_same : (a b : ℕ) (x y : List ℕ) → a ∷ x ≡ b ∷ y → a ≡ b
-head_same a b x y e = cc e
-
-tail_same : (a b : ℕ) (x y : List ℕ) → a ∷ x ≡ b ∷ y → x ≡ y
-tail_same a b x y e = cc e
+use Rattle.vkg_lists.proofs.Bools.{and_true, and_parts}
+use Rattle.vkg_terms.proofs.Octets.{encode_all, scalar_below, head_same, tail_same}
 
 -- the character that an escape stands for
 abbrev unescaped : ℕ → ℕ
@@ -230,15 +225,12 @@ inline_written c text h (inl (e, p, _, inline)) = ap (list_all is_inline) p ∙ 
 inline_written c text h (inr (quote, back, inline, p)) =
     ap (list_all is_inline) p ∙ encode_all is_inline c h (λ b low _. grind (arith, nat_tests)) (λ _. inline)
 
-below : (c : ℕ) → scalar c ≡ true → c < 1114112
-below c e = grind arith
-
 inline_body : (cs : List ℕ) → scalars cs ≡ true → list_all is_inline (flat_map escaped cs) ≡ true
 inline_body [] e = refl
 inline_body (c ∷ cs) e =
     let parts = and_parts (scalar c) (scalars cs) e in
     list_all-append is_inline (escaped c) (flat_map escaped cs)
-    ∙ and_true _ _ (inline_written c (escaped c) (below c parts.0) (written c)) (inline_body cs parts.1)
+    ∙ and_true _ _ (inline_written c (escaped c) (scalar_below c parts.0) (written c)) (inline_body cs parts.1)
 
 inline_append : (a b : List ℕ) → list_all is_inline a ≡ true → list_all is_inline b ≡ true → list_all is_inline (a ++ b) ≡ true
 inline_append a b h g = list_all-append is_inline a b ∙ and_true _ _ h g

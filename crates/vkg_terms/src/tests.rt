@@ -1,4 +1,5 @@
 use super::*;
+use std::test::Fail;
 use vkg_base::Text;
 
 #[test]
@@ -269,4 +270,23 @@ fn names(rt: HostRuntime) {
     for text in ["", "\"", "\"\"", "\"a", "\"a\"b"] {
         assert!(rt; !is_name(text), "{text}");
     }
+}
+
+#[test]
+fn standings(rt: HostRuntime) -> Result<(), Fail> {
+    for (text, stands) in [
+        ("http://e/{a}", Standing::Absolute),
+        ("a+1.-:{a}", Standing::Absolute),
+        ("{a}:x", Standing::Doubtful),
+        ("x{a}:", Standing::Doubtful),
+        ("{a}/b:c", Standing::Relative),
+        ("1a:b", Standing::Relative),
+        (":a", Standing::Relative),
+        ("\\{:a", Standing::Relative),
+        ("", Standing::Relative),
+    ] {
+        let template = read_template(rt.alloc(), text)?;
+        assert!(rt; standing(template.as_slice()) == stands, "{text}");
+    }
+    Ok(())
 }
