@@ -2,6 +2,7 @@
 use Rattle.std.proofs.Common.{◌≡◌, ◌≢◌, Bool, true, false, cond, List, [], ◌∷◌, ◌++◌, refl, sym, subst}
 use Rattle.std.specs.Prelude.{IsUtf8}
 use Rattle.std.specs.List.{AllByRecursion}
+use Rattle.vkg_lists.proofs.Members.{recursion_push}
 use Rattle.vkg_grammar.specs.declared.note.Note.{Note}
 use Rattle.vkg_ddl.specs.declared.name.Name.{Name}
 use Rattle.vkg_ddl.specs.declared.role.Role.{Role}
@@ -18,10 +19,6 @@ unfolding on_last
 on_last_keeps P f [] k h = tt
 on_last_keeps P f (x ∷ []) k h = (k x h.0, tt)
 on_last_keeps P f (x ∷ y ∷ xs) k h = (h.0, on_last_keeps P f (y ∷ xs) k h.1)
-
-push_keeps : {A : Type 0} (P : A → Type 0) (xs : List A) (x : A) → AllByRecursion P xs → P x → AllByRecursion P (xs ++ x ∷ [])
-push_keeps P [] x h p = (p, tt)
-push_keeps P (y ∷ xs) x h p = (h.0, push_keeps P xs x h.1 p)
 
 some : {A : Type 0} (x : A) (xs : List A) → x ∷ xs ≢ []
 some x xs = λ e. cc
@@ -42,7 +39,7 @@ key_kept role.KeyColumn t k h = pushed_some k.columns t
 key_kept r t k h = h
 
 with_key_kept : (table : WrittenTable) (k : WrittenKey) → IsFormed table → HasColumns k → IsFormed (record table { keys = table.keys ++ k ∷ [] })
-with_key_kept table k f h = record { name = f.name; columns = f.columns; keys = push_keeps HasColumns table.keys k f.keys h }
+with_key_kept table k f h = record { name = f.name; columns = f.columns; keys = recursion_push HasColumns table.keys k f.keys h }
 
 columns_changed : (r : Role) (t : Name) (table : WrittenTable) → IsFormed table → IsFormed (record table { columns = on_last (edit_column r t) table.columns })
 columns_changed r t table f = record { name = f.name; columns = on_last_keeps IsNamed (edit_column r t) table.columns (column_kept r t) f.columns; keys = f.keys }
@@ -54,7 +51,7 @@ same_parts : {table next : WrittenTable} → IsFormed table → next.name ≡ ta
 same_parts f n c k = record { name = subst (λ x. IsUtf8 x.text) (sym n) f.name; columns = subst (AllByRecursion IsNamed) (sym c) f.columns; keys = subst (AllByRecursion HasColumns) (sym k) f.keys }
 
 table_kept : (r : Role) (t : Name) (table : WrittenTable) → IsWord t → IsFormed table → IsFormed (edit r t table)
-table_kept role.Column t table w f = record { name = f.name; columns = push_keeps IsNamed table.columns (new_column t) f.columns w; keys = f.keys }
+table_kept role.Column t table w f = record { name = f.name; columns = recursion_push IsNamed table.columns (new_column t) f.columns w; keys = f.keys }
 table_kept role.Kind t table w f = columns_changed role.Kind t table f
 table_kept role.Number t table w f = columns_changed role.Number t table f
 table_kept role.NotNull t table w f = columns_changed role.NotNull t table f
@@ -75,7 +72,7 @@ table_kept role.Choice t table w f = f
 table_kept role.Other t table w f = f
 
 pub act_kept : (r : Role) (t : Name) (tables : List WrittenTable) → IsWord t → AllByRecursion IsFormed tables → AllByRecursion IsFormed (act r t tables)
-act_kept role.Table t tables w f = push_keeps IsFormed tables (new_table t) f (record { name = w; columns = tt; keys = tt })
+act_kept role.Table t tables w f = recursion_push IsFormed tables (new_table t) f (record { name = w; columns = tt; keys = tt })
 act_kept role.Column t tables w f = on_last_keeps IsFormed (edit role.Column t) tables (λ x. table_kept role.Column t x w) f
 act_kept role.Kind t tables w f = on_last_keeps IsFormed (edit role.Kind t) tables (λ x. table_kept role.Kind t x w) f
 act_kept role.Number t tables w f = on_last_keeps IsFormed (edit role.Number t) tables (λ x. table_kept role.Number t x w) f
@@ -110,4 +107,4 @@ written_formed [] ts tables w f = f
 written_formed (n ∷ ns) ts tables w f = note_kept n ns (λ us next. written_formed ns us next) (is_choice (role_of n.symbol)) ts tables w f
 
 pub words_push : (ts : List Name) (t : Name) → AllByRecursion IsWord ts → IsWord t → AllByRecursion IsWord (ts ++ t ∷ [])
-words_push ts t w h = push_keeps IsWord ts t w h
+words_push ts t w h = recursion_push IsWord ts t w h

@@ -3,3 +3,5 @@ pub mod Forming
 pub mod Last
 pub mod Meaning
 pub mod Naming
+pub mod Ends
+pub mod Words

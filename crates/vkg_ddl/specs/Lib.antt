@@ -2,7 +2,6 @@ pub mod FirstFault
 pub mod Formed
 pub mod NameChecks
 pub mod Names
-pub mod Places
 pub mod Reading
 pub mod ReferenceChecks
 pub mod TypeChecks

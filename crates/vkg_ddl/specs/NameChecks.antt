@@ -7,7 +7,7 @@ use Rattle.vkg_ddl.specs.declared.written.WrittenColumn.{WrittenColumn}
 use Rattle.vkg_ddl.specs.declared.written.WrittenKey.{WrittenKey}
 use Rattle.vkg_ddl.specs.declared.written.WrittenReference.{WrittenReference}
 use Rattle.vkg_ddl.specs.declared.written.WrittenTable.{WrittenTable}
-use Rattle.vkg_ddl.specs.Places.{lesser, least_of, place_if, at_none}
+use Rattle.vkg_lists.specs.Places.{lesser, least_of, place_if}
 
 -- two names that one schema may not have both
 abbrev pub same_name : Name → Name → Bool
@@ -106,6 +106,11 @@ unknown_target tables r = place_if (not (names_table tables r.table)) r.table.at
 
 abbrev pub table_unknown : List WrittenTable → Option ℕ
 table_unknown tables = least_of (λ t. least_of (unknown_target tables) t.references) tables
+
+-- the place of this, if it is there
+abbrev pub at_none : {A : Type 0} → (A → ℕ) → Option A → Option ℕ
+at_none place None = None
+at_none place (Some x) = Some (place x)
 
 -- the 257th table, or the 129th column of a table
 abbrev pub limit_passed : List WrittenTable → Option ℕ

@@ -5,7 +5,7 @@ use Rattle.vkg_ddl.specs.declared.name.Name.{Name}
 use Rattle.vkg_ddl.specs.declared.written.WrittenColumn.{WrittenColumn}
 use Rattle.vkg_ddl.specs.declared.written.WrittenReference.{WrittenReference}
 use Rattle.vkg_ddl.specs.declared.written.WrittenTable.{WrittenTable}
-use Rattle.vkg_ddl.specs.Places.{least_of, place_if, is_nowhere}
+use Rattle.vkg_lists.specs.Places.{least_of, place_if, is_nowhere}
 use Rattle.vkg_ddl.specs.NameChecks.{matches, unknown_columns, one_column, name_twice}
 use Rattle.vkg_ddl.specs.TypeChecks.{column_kind}
 use Rattle.vkg_cells.specs.Order.{family}

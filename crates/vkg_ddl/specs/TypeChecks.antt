@@ -7,7 +7,7 @@ use Rattle.vkg_ddl.specs.declared.written.WrittenColumn.{WrittenColumn}
 use Rattle.vkg_ddl.specs.declared.written.WrittenTable.{WrittenTable}
 use Rattle.vkg_cells.specs.declared.cell.SqlType.{SqlType}
 use Rattle.vkg_cells.specs.declared.cell.SqlType.TheVariants as kind
-use Rattle.vkg_ddl.specs.Places.{least_of, place_if}
+use Rattle.vkg_lists.specs.Places.{least_of, place_if}
 
 -- the kind that a word names
 unfoldable pub kind_named : List ℕ → Option SqlType

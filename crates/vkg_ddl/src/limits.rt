@@ -1,6 +1,5 @@
 ghost use Rattle.std.specs.Prelude.{◌≡◌, slice_get};
-ghost use Rattle.vkg_ddl.specs.Places.{at_none};
-ghost use Rattle.vkg_ddl.specs.NameChecks.{limit_passed};
+ghost use Rattle.vkg_ddl.specs.NameChecks.{limit_passed, at_none};
 
 use crate::places::lesser;
 use crate::written::{WrittenColumn, WrittenTable};

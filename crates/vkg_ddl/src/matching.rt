@@ -1,7 +1,7 @@
 ghost use Rattle.std.specs.Prelude.{◌≡◌, find};
 ghost use Rattle.vkg_ddl.specs.NameChecks.{same_name, matches, names_column, unknown_column, column_place, one_column};
 ghost use Rattle.std.specs.Option.{option_copied};
-ghost use Rattle.vkg_ddl.specs.Places.{least_of};
+ghost use Rattle.vkg_lists.specs.Places.{least_of};
 ghost use Rattle.std.specs.List.{list_any};
 
 use crate::name::Name;

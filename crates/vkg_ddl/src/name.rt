@@ -1,8 +1,8 @@
-ghost use Rattle.std.specs.Prelude.{◌≡◌, ◌==◌, ◌-◌, ◌+◌, ◌≤◌, length, take, drop, IfOk};
+ghost use Rattle.std.specs.Prelude.{◌≡◌, ◌==◌, ◌-◌, ◌+◌, ◌≤◌, length, ◌<◌, take, drop, IfOk, IsUtf8};
 ghost use Rattle.std.specs.List.{AllByRecursion};
 ghost use Rattle.vkg_tokens.specs.Cut.{AreSpans};
 ghost use Rattle.vkg_ddl.specs.Formed.{IsWord};
-ghost use Rattle.vkg_ddl.specs.Names.{is_second, undoubled, undoubled_from, name_bytes, name_at, names_of};
+ghost use Rattle.vkg_ddl.specs.Names.{is_second, undoubled, undoubled_from, name_bytes, name_at, names_of, HasAsciiEnds};
 
 use std::alloc::Global;
 use vkg_base::{Memory, Text};
@@ -73,8 +73,10 @@ fn name_bytes(alloc: Global, text: &[u8], token: Token) -> Result<Vec<u8>, Memor
 }
 
 fn name_at(alloc: Global, text: &[u8], token: Token) -> Result<Name, Memory>
-    requires order { token.start ≤ token.end }
+    requires some { token.start < token.end }
     requires inside { token.end ≤ length text.now }
+    requires text { IsUtf8 text.now }
+    requires ends { HasAsciiEnds text.now token }
     ensures value { IfOk result (λ n. n ≡ name_at text.now token) }
     ensures utf8 { IfOk result IsWord }
 {
@@ -85,13 +87,14 @@ fn name_at(alloc: Global, text: &[u8], token: Token) -> Result<Name, Memory>
             delimited: token.kind == 16,
             at: token.start,
         }),
-        Err(_) => Err(Memory),
+        Err(_) => unreachable!(),
     }
 }
 
 /// What each token says.
 pub fn names_of(alloc: Global, text: &str, tokens: &[Token]) -> Result<Vec<Name>, Memory>
-    requires { AreSpans 0 tokens.now (length text.now) }
+    requires spans { AreSpans 0 tokens.now (length text.now) }
+    requires ends { AllByRecursion (HasAsciiEnds text.now) tokens.now }
     ensures value { IfOk result (λ names. names.items ≡ names_of text.now tokens.now) }
     ensures utf8 { IfOk result (λ names. AllByRecursion IsWord names.items) }
 {

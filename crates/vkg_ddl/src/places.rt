@@ -1,5 +1,5 @@
 ghost use Rattle.std.specs.Prelude.{◌≡◌};
-ghost use Rattle.vkg_ddl.specs.Places.{lesser, place_if};
+ghost use Rattle.vkg_lists.specs.Places.{lesser, place_if};
 
 pub fn lesser(a: Option<usize>, b: Option<usize>) -> Option<usize>
     ensures { result ≡ lesser a b }

@@ -1,7 +1,7 @@
 ghost use Rattle.std.specs.Prelude.{◌≡◌, Some, find, slice_get};
 ghost use Rattle.vkg_ddl.specs.ReferenceChecks.{are_columns, columns_fault, targets_in, at_target, columns_wrong, same_columns, are_key, key_fault, no_key, family_named, over_families, family_fault, family_at_target, families_differ};
 ghost use Rattle.vkg_ddl.specs.NameChecks.{matches, one_column};
-ghost use Rattle.vkg_ddl.specs.Places.{least_of};
+ghost use Rattle.vkg_lists.specs.Places.{least_of};
 ghost use Rattle.std.specs.List.{list_any, list_all};
 ghost use Rattle.vkg_cells.specs.Order.{family};
 

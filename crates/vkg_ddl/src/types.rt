@@ -1,6 +1,6 @@
 ghost use Rattle.std.specs.Prelude.{◌≡◌};
 ghost use Rattle.vkg_ddl.specs.TypeChecks.{column_kind, is_no_kind, unknown_type, type_unknown, capped, takes_one, takes_two, takes, wrong_numbers, precision_wrong};
-ghost use Rattle.vkg_ddl.specs.Places.{least_of};
+ghost use Rattle.vkg_lists.specs.Places.{least_of};
 
 use crate::name::Name;
 use crate::places::{lesser, place_if};

@@ -1,6 +1,6 @@
 ghost use Rattle.std.specs.Prelude.{◌≡◌};
 ghost use Rattle.vkg_ddl.specs.NameChecks.{unknown_in_table, key_column_unknown, names_table, unknown_target, table_unknown};
-ghost use Rattle.vkg_ddl.specs.Places.{least_of};
+ghost use Rattle.vkg_lists.specs.Places.{least_of};
 
 use crate::matching::{matches, unknown_columns};
 use crate::name::Name;

@@ -30,7 +30,7 @@ one_deep g ks m n a b = least m n (λ l. clash (b.before m l) a.deep) (λ l. cla
 alive_part : (g : List Rule) (ts : List ℕ) (n : ℕ) → IsAlive g ts → IsAlive g (take (n + 1) ts)
 alive_part g ts n a = alive_front (take (n + 1) ts) (drop (n + 1) ts) (subst (IsAlive g) (sym (take-append-drop (n + 1) ts)) a)
 
-one_dead : (g : List Rule) (ts : List ℕ) (m n : ℕ) → IsFirstDead g ts m → IsFirstDead g ts n → m ≡ n
+pub one_dead : (g : List Rule) (ts : List ℕ) (m n : ℕ) → IsFirstDead g ts m → IsFirstDead g ts n → m ≡ n
 one_dead g ts m n a b = least m n (λ l. a.dead (b.alive m l)) (λ l. b.dead (a.alive n l))
 
 text_alive : (g : List Rule) (ts : List ℕ) (ws : List Note) → IsTheText g ts ws → IsAlive g ts
