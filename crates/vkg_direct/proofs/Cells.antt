@@ -25,7 +25,7 @@ use Rattle.vkg_cells.specs.WellTyped.{is_xsd_date, is_xsd_date_time}
 use Rattle.vkg_direct.proofs.Moments.{Made, date_is, form_ascii, form_is, stamp_made}
 use Rattle.vkg_maps.specs.Terms.{literal}
 use Rattle.vkg_maps.specs.declared.data_fault.TermFault.TheVariants.{IllTyped, TooWide}
-use Rattle.vkg_terms.proofs.Octets.{and_parts}
+use Rattle.vkg_lists.proofs.Bools.{and_parts}
 use Rattle.vkg_direct.proofs.Numbers.{width_is, decimal_is, ascii_is, integer_is, decimal_parts, integer_parts, Digits, written}
 
 pub record Formed (k : SqlType) (c : Cell) : Type 0 where
@@ -84,9 +84,6 @@ formed_decimal text e n =
       spelled = ascii_spelled (canonical text) (ascii_is s (whole text) (fraction text) p.0 p.1);
       typed = typed_decimal (canonical text) (decimal_is s (whole text) (fraction text) p.0 p.1) (ap (λ k. nat_lt 38 k) (width_is s (whole text) (fraction text) p.0 p.1) ∙ n);
     }
-
-small_digit : (b : ℕ) → is_ascii_digit b ≡ true → b < 128
-small_digit b e = grind arith
 
 small_ascii : (text : List ℕ) → list_all (λ b. nat_lt b 128) text ≡ true → IsAscii text
 small_ascii [] e = IsAscii-nil

@@ -4,6 +4,7 @@ use Rattle.std.specs.Prelude.{Contains, position}
 use Rattle.std.specs.List.{enumerate_from}
 use Rattle.std.proofs.lemmas.List.Sums.{fails_before_first}
 use Rattle.std.proofs.lemmas.List.Elements.{Contains-append_cases}
+use Rattle.vkg_lists.proofs.Bools.{not_false}
 use Rattle.vkg_terms.proofs.Places.{place_none}
 use Rattle.vkg_terms.specs.Iri.{is_absolute}
 use Rattle.vkg_schema.specs.declared.table.Table.{Table}
@@ -28,11 +29,7 @@ keyed : (tables : List Table) → position (λ t. not (has_primary_key t)) table
 keyed tables e t (k, l, i) =
     let n = place_none (λ t. not (has_primary_key t)) tables e in
     let f : not (has_primary_key t) ≡ false = ap (λ x. not (has_primary_key x)) (sym i) ∙ fails_before_first (λ t. not (has_primary_key t)) tables k t (omega (arith, l, n)) in
-    back (has_primary_key t) f
-  where
-    back : (b : Bool) → not b ≡ false → b ≡ true
-    back true e = refl
-    back false e = cc
+    not_false (has_primary_key t) f
 
 flat_map_nothing : {X A : Type 0} (f : X → List A) (xs : List X) → ((x : X) → Contains xs x → f x ≡ []) → flat_map f xs ≡ []
 flat_map_nothing f [] h = refl

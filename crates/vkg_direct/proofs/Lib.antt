@@ -3,7 +3,6 @@ pub mod Tables
 pub mod Whole
 pub mod Joined
 pub mod Steps
-pub mod SafeText
 pub mod Nodes
 pub mod Numbers
 pub mod Cells

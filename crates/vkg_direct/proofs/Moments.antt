@@ -9,7 +9,7 @@ use Rattle.std.proofs.lemmas.Str.Ascii.{IsAscii-nil, IsAscii-cons}
 use Rattle.vkg_cells.specs.Number.{is_digits, after_point, without_trailing_zeros}
 use Rattle.vkg_cells.specs.Moment.{two_digits_at, day_of_text, clock_of_text, is_date, is_clock, cut, or_cut, form_if, form_at, form_of_parts, stamp_form}
 use Rattle.vkg_cells.specs.WellTyped.{is_xsd_date, is_zone, is_fraction, is_moment, is_end_of_day, zone_place, is_xsd_date_time}
-use Rattle.vkg_terms.proofs.Octets.{and_true, and_parts}
+use Rattle.vkg_lists.proofs.Bools.{and_true, and_parts}
 use Rattle.vkg_direct.proofs.Members.{some_is}
 use Rattle.vkg_direct.proofs.Numbers.{Digits, trail_digits, after_ascii}
 

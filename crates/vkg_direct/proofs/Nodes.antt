@@ -18,8 +18,8 @@ use Rattle.vkg_maps.specs.Terms.{term_of, template_value, joined, where_value, p
 use Rattle.vkg_direct.specs.DirectGraph.{primary_key, column_name, table_iri, node_part, row_node}
 use Rattle.vkg_direct.specs.DirectMapping.{node_pieces, key_pieces, direct_map}
 use Rattle.vkg_direct.proofs.Joined.{joined_is}
-use Rattle.vkg_terms.proofs.Octets.{and_true}
-use Rattle.vkg_direct.proofs.SafeText.{safe_all, absolute_more}
+use Rattle.vkg_lists.proofs.Bools.{and_true}
+use Rattle.vkg_terms.proofs.SafeText.{safe_all, absolute_more}
 
 -- a column of a row has a form, of characters
 pub record Known (row : Row) (column : ℕ) : Type 0 where

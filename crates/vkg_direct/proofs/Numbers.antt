@@ -6,7 +6,7 @@ use Rattle.std.specs.Str.{IsAscii}
 use Rattle.std.proofs.lemmas.List.Folds.{list_all-append}
 use Rattle.std.proofs.lemmas.Str.Ascii.{IsAscii-nil, IsAscii-cons}
 use Rattle.vkg_cells.specs.Number.{is_digits, is_integer, is_decimal, unsigned, whole, fraction, width, without_leading_zeros, without_trailing_zeros, or_zero, after_point, onto_unless_zero}
-use Rattle.vkg_terms.proofs.Octets.{and_true, and_parts}
+use Rattle.vkg_lists.proofs.Bools.{and_true, and_parts}
 
 abbrev pub Digits : List ℕ → Type 0
 Digits xs = list_all is_ascii_digit xs ≡ true

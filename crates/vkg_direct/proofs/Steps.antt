@@ -1,13 +1,7 @@
 -- One more element of a list that is numbered.
 use Rattle.std.proofs.Common.{◌≡◌, ℕ, zero, suc, ◌+◌, ◌<◌, sym, ◌∙◌, ap, List, [], ◌∷◌, ◌++◌, map, drop, length, get_or, arith, append_assoc}
 use Rattle.std.specs.List.{enumerate_from}
-
-opened : {X : Type 0} (xs : List X) (i : ℕ) (x : X) → i < length xs → x ≡ get_or xs i x → drop i xs ≡ x ∷ drop (i + 1) xs
-opened [] i x h e = absurd (let n : i < 0 = h in omega (arith, n))
-opened (y ∷ ys) zero x h e = ap (λ z. z ∷ ys) (sym e)
-opened (y ∷ ys) (suc i) x h e =
-    let k : suc (i + 1) ≡ suc i + 1 = omega arith in
-    opened ys i x (omega (arith, h)) e ∙ ap (λ j. x ∷ drop j (y ∷ ys)) k
+use Rattle.vkg_lists.proofs.Firsts.{opened}
 
 pub numbered_more : {X A : Type 0} (f : (ℕ × X) → A) (xs : List X) (i : ℕ) (x : X) (all done done' : List A) → i < length xs → x ≡ get_or xs i x → done' ≡ done ++ f (i, x) ∷ [] → all ≡ done ++ map f (enumerate_from i (drop i xs)) → all ≡ done' ++ map f (enumerate_from (i + 1) (drop (i + 1) xs))
 numbered_more f xs i x all done done' h e d was =

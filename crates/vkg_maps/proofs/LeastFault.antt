@@ -2,6 +2,7 @@
 use Rattle.std.proofs.Common.{◌≡◌, refl, sym, ◌∙◌, ap, subst, ℕ, ◌+◌, ◌<◌, ◌≤◌, ◌⊎◌, inl, inr, List, [], ◌∷◌, ◌++◌, map, flat_map, Option, Some, None, Ok, Err, true, false, nat_lt, arith}
 use Rattle.std.specs.Prelude.{Contains}
 use Rattle.std.specs.List.{enumerate_from}
+use Rattle.vkg_lists.specs.Firsts.{first_of}
 use Rattle.vkg_lists.proofs.Members.{Contains-none, Contains-here, Contains-there, Contains-cons_cases, Contains-flat_map}
 use Rattle.vkg_schema.specs.Rows.{Row, Database, rows_of}
 use Rattle.vkg_maps.specs.declared.term_map.TermMap.{TermMap}
@@ -10,7 +11,7 @@ use Rattle.vkg_maps.specs.declared.data_fault.DataFault.{DataFault}
 use Rattle.vkg_maps.specs.declared.mapping.Mapping.{Mapping}
 use Rattle.vkg_maps.specs.declared.mapping.TriplesMap.{TriplesMap}
 use Rattle.vkg_maps.specs.Terms.{Made, term_of}
-use Rattle.vkg_maps.specs.DataFaults.{first_of, fault_of, term_maps, fault_at, faults_at, row_faults, map_faults, data_faults, least_data_fault}
+use Rattle.vkg_maps.specs.DataFaults.{fault_of, term_maps, fault_at, faults_at, row_faults, map_faults, data_faults, least_data_fault}
 use Rattle.vkg_maps.specs.LeastFault.{IsDataFault, IsLeastFault, Precedes, FindsLeast}
 
 -- ---- numbered elements

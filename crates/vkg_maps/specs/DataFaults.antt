@@ -1,6 +1,7 @@
 -- The data errors of a mapping over a database, the least one first.
 use Rattle.std.specs.Prelude.{ℕ, List, [], ◌∷◌, ◌++◌, flat_map, map, Option, Some, None, Ok, Err}
 use Rattle.std.specs.List.{enumerate_from}
+use Rattle.vkg_lists.specs.Firsts.{first_of}
 use Rattle.vkg_schema.specs.Rows.{Row, Database, rows_of}
 use Rattle.vkg_maps.specs.declared.term_map.TermMap.{TermMap}
 use Rattle.vkg_maps.specs.declared.data_fault.TermFault.{TermFault}
@@ -51,10 +52,6 @@ map_faults base db m = flat_map (row_faults base (term_maps m.1) m.0) (enumerate
 -- each fault with its places, in the order of map, row and term map: the least is the first
 abbrev pub data_faults : Mapping → Database → List DataFault
 data_faults mapping db = flat_map (map_faults mapping.base db) (enumerate_from 1 mapping.maps)
-
-abbrev pub first_of : {A : Type 0} → List A → Option A
-first_of [] = None
-first_of (x ∷ xs) = Some x
 
 -- R2RML, 4.3, data errors: the least, if there is one
 abbrev pub least_data_fault : Mapping → Database → Option DataFault

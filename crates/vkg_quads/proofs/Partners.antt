@@ -6,6 +6,7 @@ use Rattle.std.specs.Str.{bytes_eq}
 use Rattle.std.proofs.lemmas.Slice.Eq.{bytes_eq-Decides}
 use Rattle.std.proofs.lemmas.List.Elements.{filter_map-append, filter-append}
 use Rattle.std.proofs.lemmas.List.{map-append}
+use Rattle.vkg_lists.proofs.Bools.{and_parts}
 use Rattle.vkg_lists.proofs.Walks.{filter_absorbs}
 use Rattle.vkg_terms.specs.NQuads.{Quad, line}
 use Rattle.vkg_cells.specs.declared.cell.Cell.{Cell}
@@ -15,10 +16,6 @@ use Rattle.vkg_cells.specs.Form.{bool_form}
 use Rattle.vkg_schema.specs.Rows.{Row, cell_at, is_known_true, equal_at, agree}
 use Rattle.vkg_maps.specs.Terms.{joined}
 use Rattle.vkg_quads.specs.Keys.{key_part, row_key, has_key, is_key}
-
-both : (a b : Bool) → (a && b) ≡ true → (a ≡ true) × (b ≡ true)
-both true b e = (refl, e)
-both false b e = cc
 
 abbrev Part : Cell → Cell → Type 0
 Part a b = (t : List ℕ) × (key_part a ≡ Some t) × (key_part b ≡ Some t)
@@ -123,7 +120,7 @@ known r s p e = part_same (cell_at r p.0) (cell_at s p.1) e
 pub agree_keys : (ps : List (ℕ × ℕ)) (r s : Row) → agree ps r s ≡ true → (k : List ℕ) × (row_key r (map child ps) ≡ Some k) × (row_key s (map parent ps) ≡ Some k)
 agree_keys [] r s e = ([], refl, refl)
 agree_keys (p ∷ ps) r s e =
-    let h = both (equal_at r s p) (list_all (equal_at r s) ps) e in
+    let h = and_parts (equal_at r s p) (list_all (equal_at r s) ps) e in
     let t = known r s p h.0 in
     let k = agree_keys ps r s h.1 in
     (t.0 ++ k.0, ap (λ o. joined o (row_key r (map child ps))) t.1 ∙ ap (λ o. joined (Some t.0) o) k.1, ap (λ o. joined o (row_key s (map parent ps))) t.2 ∙ ap (λ o. joined (Some t.0) o) k.2)

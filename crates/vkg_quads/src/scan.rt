@@ -2,8 +2,9 @@
 ghost use Rattle.std.specs.Prelude.{◌≡◌, ◌+◌, ◌++◌, ◌<◌, ◌^◌, map, flat_map, length, IfOk, OnOk, Option, Some, None};
 ghost use Rattle.std.specs.Option.{option_copied};
 ghost use Rattle.std.specs.List.{enumerate_from};
+ghost use Rattle.vkg_lists.specs.Firsts.{first_of};
 ghost use Rattle.vkg_schema.specs.Rows.{Row};
-ghost use Rattle.vkg_maps.specs.DataFaults.{least_data_fault, first_of, map_faults, row_faults, term_faults, term_maps, asked};
+ghost use Rattle.vkg_maps.specs.DataFaults.{least_data_fault, map_faults, row_faults, term_faults, term_maps, asked};
 ghost use Rattle.vkg_maps.specs.LeastFault.{FindsLeast};
 
 use crate::made::made_term;

@@ -2,10 +2,12 @@
 use Rattle.std.proofs.Common.{◌≡◌, ℕ, Bool, true, false, not, Option, Some, None, List, [], ◌∷◌, refl}
 use Rattle.std.specs.Prelude.{fold}
 use Rattle.std.specs.List.{AllByRecursion}
+use Rattle.vkg_lists.proofs.Places.{lesser-both_none}
+use Rattle.vkg_lists.proofs.Bools.{not_false}
 use Rattle.vkg_ddl.specs.declared.name.Name.{Name}
 use Rattle.vkg_ddl.specs.declared.written.WrittenColumn.{WrittenColumn}
 use Rattle.vkg_ddl.specs.declared.written.WrittenTable.{WrittenTable}
-use Rattle.vkg_ddl.specs.Places.{lesser, least_of, place_if}
+use Rattle.vkg_lists.specs.Places.{lesser, least_of, place_if}
 use Rattle.vkg_ddl.specs.NameChecks.{table_twice, column_twice, key_column_unknown, key_column_twice, primary_twice, table_unknown, names_column, unknown_column, unknown_columns}
 use Rattle.vkg_ddl.specs.TypeChecks.{type_unknown, precision_wrong}
 use Rattle.vkg_ddl.specs.ReferenceChecks.{columns_wrong, no_key, families_differ}
@@ -39,16 +41,11 @@ faultless tables e =
     let r13 = passed 13 (families_differ tables) _ r12.1 in
     record { columns_known = r7.0; tables_known = r10.0; columns_right = r11.0; to_keys = r12.0; comparable = r13.0 }
 
-pub neither : (a b : Option ℕ) → lesser a b ≡ None → (a ≡ None) × (b ≡ None)
-neither None b e = (refl, e)
-neither (Some a) None e = absurd (cc)
-neither (Some a) (Some b) e = absurd (cc)
-
 none_from : {A : Type 0} (place : A → Option ℕ) (xs : List A) (best : Option ℕ) → fold (λ b x. lesser b (place x)) best xs ≡ None → (best ≡ None) × AllByRecursion (λ x. place x ≡ None) xs
 none_from place [] best e = (e, tt)
 none_from place (x ∷ xs) best e =
     let r = none_from place xs (lesser best (place x)) e in
-    let l = neither best (place x) r.0 in
+    let l = lesser-both_none best (place x) r.0 in
     (l.0, (l.1, r.1))
 
 pub none_of : {A : Type 0} (place : A → Option ℕ) (xs : List A) → least_of place xs ≡ None → AllByRecursion (λ x. place x ≡ None) xs
@@ -57,10 +54,6 @@ none_of place xs e = (none_from place xs None e).1
 pub nowhere : (fails : Bool) (at : ℕ) → place_if fails at ≡ None → fails ≡ false
 nowhere true at e = absurd (cc)
 nowhere false at e = refl
-
-pub not_false : (b : Bool) → not b ≡ false → b ≡ true
-not_false true e = refl
-not_false false e = absurd (cc)
 
 -- each of the names is a column's
 abbrev pub AreKnown : List WrittenColumn → List Name → Type 0

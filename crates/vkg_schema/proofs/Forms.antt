@@ -4,6 +4,7 @@ use Rattle.std.specs.Prelude.{find, slice_get, unwrap_or, option_map, IfSome, Is
 use Rattle.std.specs.List.{list_any, AllByRecursion, Contains}
 use Rattle.std.proofs.lemmas.List.{length-map}
 use Rattle.std.proofs.lemmas.Option.{slice_get-map}
+use Rattle.vkg_lists.proofs.Bools.{or_right, and_true}
 use Rattle.vkg_cells.specs.declared.cell.SqlType.TheVariants as kind
 use Rattle.vkg_ddl.specs.declared.name.Name.{Name}
 use Rattle.vkg_ddl.specs.declared.written.WrittenColumn.{WrittenColumn}
@@ -16,7 +17,7 @@ use Rattle.vkg_lists.proofs.Members.{each_from_recursion, recursion_from_each}
 use Rattle.vkg_schema.specs.Meets.{IsColumn, IsKey}
 use Rattle.vkg_schema.specs.Resolve.{is_primary, column_at, columns_at, place_of, key_at, table_at}
 use Rattle.vkg_schema.proofs.Faultless.{AreKnown}
-use Rattle.vkg_schema.proofs.Found.{Found, found, any_from_member, all_weaken, all_map, map_none, true_both}
+use Rattle.vkg_schema.proofs.Found.{Found, found, any_from_member, all_weaken, all_map, map_none}
 
 kinds : (a b c d e f g : Bool) → unwrap_or (cond a (Some kind.Text) (cond b (Some kind.Int) (cond c (Some kind.Dec) (cond d (Some kind.Bool) (cond e (Some kind.Date) (cond f (Some kind.Stamp) (cond g (Some kind.Bin) None))))))) kind.Text ≢ kind.Term
 kinds true b c d e f g = λ q. cc
@@ -60,10 +61,6 @@ meant keys columns n e =
 pub if_some : {A : Type 0} (P : A → Type 0) (o : Option A) (x : A) → o ≡ Some x → P x → IfSome o P
 if_some P o x e p = subst (λ y. IfSome y P) (sym e) p
 
-or_true : (b c : Bool) → c ≡ true → (b || c) ≡ true
-or_true true c e = refl
-or_true false c e = e
-
 module _ (tables : List WrittenTable) (t : WrittenTable) where
   places_inside : (names : List Name) → AreKnown t.columns names → AllByRecursion (λ k. k < length (columns_at t.keys t.columns)) (map (place_of t.columns) names)
   places_inside names known = all_map (λ k. k < length (columns_at t.keys t.columns)) (place_of t.columns) names
@@ -71,8 +68,8 @@ module _ (tables : List WrittenTable) (t : WrittenTable) where
 
   primary_kept : (k : WrittenKey) (n : Name) (c : WrittenColumn) → Contains t.keys k → Contains k.columns n → k.primary ≡ true → matches n c.name ≡ true → (c.not_null || is_primary t.keys c) ≡ true
   primary_kept k n c km nm p e =
-      or_true c.not_null (is_primary t.keys c) (any_from_member (λ j. j.primary && list_any (λ m. matches m c.name) j.columns) t.keys k km
-      (true_both k.primary (list_any (λ m. matches m c.name) k.columns) p (any_from_member (λ m. matches m c.name) k.columns n nm e)))
+      or_right c.not_null (is_primary t.keys c) (any_from_member (λ j. j.primary && list_any (λ m. matches m c.name) j.columns) t.keys k km
+      (and_true k.primary (list_any (λ m. matches m c.name) k.columns) p (any_from_member (λ m. matches m c.name) k.columns n nm e)))
 
   pub key_form : (k : WrittenKey) → AreKnown t.columns k.columns → HasColumns k → Contains t.keys k → IsKey (table_at tables t) (key_at t.columns k)
   key_form k known some km = record {

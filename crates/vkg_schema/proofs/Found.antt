@@ -4,6 +4,7 @@ use Rattle.std.specs.Prelude.{find, position, slice_get}
 use Rattle.std.specs.List.{position_or_len, list_any, list_all, AllByRecursion, Contains, range_with_len}
 use Rattle.std.proofs.lemmas.Bool.{lt-ltb}
 use Rattle.std.proofs.lemmas.List.Folds.{find_at}
+use Rattle.vkg_lists.proofs.Bools.{and_true, and_parts, or_left, or_right}
 use Rattle.vkg_lists.proofs.Members.{Contains-none, Contains-here, Contains-there, Contains-cons_cases}
 
 -- the element x is the first of xs that passes
@@ -46,14 +47,7 @@ found p xs e =
 
 pub any_from_member : {A : Type 0} (p : A → Bool) (xs : List A) (x : A) → Contains xs x → p x ≡ true → list_any p xs ≡ true
 any_from_member p [] x h e = absurd (Contains-none x h)
-any_from_member p (y ∷ xs) x h e = elim (Contains-cons_cases y xs x h) [ inl q ↦ here (ap p q ∙ e) | inr c ↦ there (p y) (any_from_member p xs x c e) ]
-  where
-    here : p y ≡ true → (p y || list_any p xs) ≡ true
-    here q = ap (λ b. b || list_any p xs) q
-
-    there : (b : Bool) → list_any p xs ≡ true → (b || list_any p xs) ≡ true
-    there true q = refl
-    there false q = q
+any_from_member p (y ∷ xs) x h e = elim (Contains-cons_cases y xs x h) [ inl q ↦ or_left (p y) (list_any p xs) (ap p q ∙ e) | inr c ↦ or_right (p y) (list_any p xs) (any_from_member p xs x c e) ]
 
 pub all_weaken : {A : Type 0} (P Q : A → Type 0) (xs : List A) → ((x : A) → P x → Q x) → AllByRecursion P xs → AllByRecursion Q xs
 all_weaken P Q [] f h = tt
@@ -100,13 +94,6 @@ range_below P a (suc n) h (suc k) l = let z : a + 1 + k ≡ a + suc k = omega ar
 pub below_range : (P : ℕ → Type 0) (n : ℕ) → AllByRecursion P (range_with_len 0 n) → (k : ℕ) → k < n → P k
 below_range P n h k l = let z : 0 + k ≡ k = omega arith in subst P z (range_below P 0 n h k l)
 
-or_left : (b c : Bool) → b ≡ true → (b || c) ≡ true
-or_left b c e = ap (λ a. a || c) e
-
-or_right : (b c : Bool) → c ≡ true → (b || c) ≡ true
-or_right true c e = refl
-or_right false c e = e
-
 placed_cons : {A B : Type 0} (p : A → Bool) (q : B → Bool) (f : A → B) (x : A) (xs : List A) → ((y : A) → p y ≡ true → q (f y) ≡ true) → (b : Bool) → p x ≡ b → (b || list_any p xs) ≡ true → (list_any p xs ≡ true → list_any q (map f xs) ≡ true) → list_any q (map f (x ∷ xs)) ≡ true
 placed_cons p q f x xs h true k d more = or_left (q (f x)) (list_any q (map f xs)) (h x k)
 placed_cons p q f x xs h false k d more = or_right (q (f x)) (list_any q (map f xs)) (more d)
@@ -116,15 +103,8 @@ pub any_placed : {A B : Type 0} (p : A → Bool) (q : B → Bool) (f : A → B) 
 any_placed p q f [] h e = absurd (cc)
 any_placed p q f (x ∷ xs) h e = placed_cons p q f x xs h (p x) refl e (λ d. any_placed p q f xs h d)
 
-pub both_true : (a b : Bool) → (a && b) ≡ true → (a ≡ true) × (b ≡ true)
-both_true true b e = (refl, e)
-both_true false b e = absurd (cc)
-
-pub true_both : (a b : Bool) → a ≡ true → b ≡ true → (a && b) ≡ true
-true_both a b e f = (λ i. e i && f i)
-
 pub all_placed : {A B : Type 0} (p : A → Bool) (q : B → Bool) (f : A → B) (xs : List A) → ((x : A) → p x ≡ true → q (f x) ≡ true) → list_all p xs ≡ true → list_all q (map f xs) ≡ true
 all_placed p q f [] h e = refl
 all_placed p q f (x ∷ xs) h e =
-    let r = both_true (p x) (list_all p xs) e in
-    true_both (q (f x)) (list_all q (map f xs)) (h x r.0) (all_placed p q f xs h r.1)
+    let r = and_parts (p x) (list_all p xs) e in
+    and_true (q (f x)) (list_all q (map f xs)) (h x r.0) (all_placed p q f xs h r.1)

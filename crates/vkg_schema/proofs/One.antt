@@ -4,6 +4,7 @@ use Rattle.vkg_grammar.specs.declared.note.Note.{Note}
 use Rattle.vkg_grammar.specs.declared.rule.Rule.{Rule}
 use Rattle.vkg_grammar.specs.Grammar.{Derives}
 use Rattle.vkg_grammar.specs.Parsing.{IsFirstDead, IsCutOff}
+use Rattle.vkg_grammar.proofs.Outcomes.{one_dead}
 use Rattle.vkg_tokens.specs.declared.cutting.Token.{Token}
 use Rattle.vkg_ddl.specs.declared.grammar_table.TheConstants.{DDL}
 use Rattle.vkg_ddl.specs.declared.written.WrittenTable.{WrittenTable}
@@ -13,7 +14,8 @@ use Rattle.vkg_grammar.specs.Kinds.{kinds_of}
 use Rattle.vkg_ddl.specs.Reading.{Says, IsNoText, written_of, start_at}
 use Rattle.vkg_schema.specs.declared.reading.SchemaFault.{SchemaFault}
 use Rattle.vkg_schema.specs.declared.table.Table.{Table}
-use Rattle.vkg_schema.specs.Reading.{without_mark, IsSchemaText, IsFaultOf, fault, no_utf8, no_token, no_text, no_schema, IsDetermined}
+use Rattle.vkg_tokens.specs.Mark.{without_mark}
+use Rattle.vkg_schema.specs.Reading.{IsSchemaText, IsFaultOf, fault, no_utf8, no_token, no_text, no_schema, IsDetermined}
 use Rattle.vkg_schema.specs.Resolve.{schema_of}
 
 same_tokens : {r : Result (List Token) ℕ} {ts us : List Token} → r ≡ Ok ts → r ≡ Ok us → ts ≡ us
@@ -39,16 +41,6 @@ no_said a b =
     let t : b.tokens ≡ a.tokens = same_tokens b.cut a.cut in
     let d : Derives DDL (0 ∷ []) (kinds_of b.tokens) a.notes = subst (λ ts. Derives DDL (0 ∷ []) (kinds_of ts) a.notes) (sym t) a.derived.derives in
     elim b.place [ inl p ↦ alive_text DDL (kinds_of b.tokens) a.notes p.0 d p.1 | inr p ↦ p.0.no_text a.notes d ]
-
--- of two places that are first dead neither is before the other
-not_before : (g : List Rule) (ts : List ℕ) (m n : ℕ) → IsFirstDead g ts m → IsFirstDead g ts n → m < n → ⊥
-not_before g ts m n a b l = a.dead (b.alive m l)
-
-one_dead : (g : List Rule) (ts : List ℕ) (m n : ℕ) → IsFirstDead g ts m → IsFirstDead g ts n → m ≡ n
-one_dead g ts m n a b =
-    let left : m < n → ⊥ = not_before g ts m n a b in
-    let right : n < m → ⊥ = not_before g ts n m b a in
-    omega (arith, left, right)
 
 not_cut : (g : List Rule) (ts : List ℕ) (n : ℕ) → IsFirstDead g ts n → IsCutOff g ts → ⊥
 not_cut g ts n a b =

@@ -6,6 +6,7 @@ use Rattle.std.proofs.lemmas.Bool.{eqb-true}
 use Rattle.std.proofs.lemmas.List.{length-map}
 use Rattle.std.proofs.lemmas.List.FromFn.{length-range_with_len}
 use Rattle.std.proofs.lemmas.Option.{slice_get-map}
+use Rattle.vkg_lists.proofs.Bools.{not_false, and_parts}
 use Rattle.vkg_cells.specs.Order.{family}
 use Rattle.vkg_ddl.specs.declared.name.Name.{Name}
 use Rattle.vkg_ddl.specs.declared.written.WrittenColumn.{WrittenColumn}
@@ -13,7 +14,7 @@ use Rattle.vkg_ddl.specs.declared.written.WrittenKey.{WrittenKey}
 use Rattle.vkg_ddl.specs.declared.written.WrittenReference.{WrittenReference}
 use Rattle.vkg_ddl.specs.declared.written.WrittenTable.{WrittenTable}
 use Rattle.vkg_ddl.specs.Formed.{HasColumns}
-use Rattle.vkg_ddl.specs.Places.{is_nowhere}
+use Rattle.vkg_lists.specs.Places.{is_nowhere}
 use Rattle.vkg_ddl.specs.NameChecks.{matches, column_place, one_place, one_column, names_column, names_table, name_twice, unknown_columns}
 use Rattle.vkg_ddl.specs.TypeChecks.{column_kind}
 use Rattle.vkg_ddl.specs.ReferenceChecks.{targets_in, are_columns, columns_fault, same_columns, are_key, key_fault, at_target, family_of, family_named, over_families, family_fault, family_at_target}
@@ -21,9 +22,9 @@ use Rattle.vkg_lists.proofs.Members.{each_from_recursion}
 use Rattle.vkg_schema.specs.declared.table.Reference.{Reference}
 use Rattle.vkg_schema.specs.Meets.{same_columns as same_places, child_columns, parent_columns, RefersTo, Comparable, IsReference}
 use Rattle.vkg_schema.specs.Resolve.{column_at, columns_at, place_of, places_of, key_at, keys_at, table_place, place_at, pair_at, pairs_at, pairs_to, reference_at, table_at, schema_of}
-use Rattle.vkg_schema.proofs.Faultless.{AreKnown, known, nowhere, not_false}
+use Rattle.vkg_schema.proofs.Faultless.{AreKnown, known, nowhere}
 use Rattle.vkg_schema.proofs.Forms.{Means, meant, if_some}
-use Rattle.vkg_schema.proofs.Found.{Found, found, all_map, map_none, each_below, below_range, any_false, any_placed, all_placed, both_true, get_below}
+use Rattle.vkg_schema.proofs.Found.{Found, found, all_map, map_none, each_below, below_range, any_false, any_placed, all_placed, get_below}
 
 -- what a list says by its places
 by_place : {A B : Type 0} (g : ℕ → B) (h : A → B) (a : ℕ) (xs : List A) → ((k : ℕ) (x : A) → slice_get xs k ≡ Some x → g (a + k) ≡ h x) → map g (range_with_len a (length xs)) ≡ map h xs
@@ -48,7 +49,7 @@ one_same columns a b e = go (column_place columns a) (column_place columns b) e
 
 same_placed : (columns : List WrittenColumn) (xs ys : List Name) → same_columns columns xs ys ≡ true → same_places (places_of columns xs) (places_of columns ys) ≡ true
 same_placed columns xs ys e =
-    let r = both_true (list_all (λ x. list_any (one_column columns x) ys) xs) (list_all (λ y. list_any (one_column columns y) xs) ys) e in
+    let r = and_parts (list_all (λ x. list_any (one_column columns x) ys) xs) (list_all (λ y. list_any (one_column columns y) xs) ys) e in
     let left : list_all (λ i. list_any (nat_eq i) (places_of columns ys)) (places_of columns xs) ≡ true = all_placed (λ x. list_any (one_column columns x) ys) (λ i. list_any (nat_eq i) (places_of columns ys)) (place_of columns) xs (λ x q. any_placed (one_column columns x) (nat_eq (place_of columns x)) (place_of columns) ys (one_same columns x) q) r.0 in
     let right : list_all (λ i. list_any (nat_eq i) (places_of columns xs)) (places_of columns ys) ≡ true = all_placed (λ y. list_any (one_column columns y) xs) (λ i. list_any (nat_eq i) (places_of columns xs)) (place_of columns) ys (λ y q. any_placed (one_column columns y) (nat_eq (place_of columns y)) (place_of columns) xs (one_same columns y) q) r.1 in
     (λ i. left i && right i)
@@ -68,8 +69,8 @@ right_of : (u : WrittenTable) (r : WrittenReference) (o : Option (List Name)) �
 right_of u r None e c k = absurd (cc)
 right_of u r (Some right) e c k =
     let whole : are_columns u r.columns right ≡ true = not_false (are_columns u r.columns right) (nowhere (not (are_columns u r.columns right)) r.first.at c) in
-    let outer = both_true ((length right == length r.columns) && is_nowhere (unknown_columns u.columns right)) (is_nowhere (name_twice u.columns right)) whole in
-    let inner = both_true (length right == length r.columns) (is_nowhere (unknown_columns u.columns right)) outer.0 in (
+    let outer = and_parts ((length right == length r.columns) && is_nowhere (unknown_columns u.columns right)) (is_nowhere (name_twice u.columns right)) whole in
+    let inner = and_parts (length right == length r.columns) (is_nowhere (unknown_columns u.columns right)) outer.0 in (
       right,
       record {
         meant_so = e;

@@ -2,17 +2,19 @@
 use Rattle.std.proofs.Common.{◌≡◌, None, List}
 use Rattle.std.specs.Prelude.{find, not}
 use Rattle.std.specs.List.{AllByRecursion, Contains}
+use Rattle.vkg_lists.proofs.Places.{lesser-both_none}
+use Rattle.vkg_lists.proofs.Bools.{not_false}
 use Rattle.vkg_ddl.specs.declared.written.WrittenReference.{WrittenReference}
 use Rattle.vkg_ddl.specs.declared.written.WrittenTable.{WrittenTable}
 use Rattle.vkg_ddl.specs.FirstFault.{first_fault}
 use Rattle.vkg_ddl.specs.Formed.{IsNamed, HasColumns, IsFormed}
-use Rattle.vkg_ddl.specs.Places.{least_of}
+use Rattle.vkg_lists.specs.Places.{least_of}
 use Rattle.vkg_ddl.specs.NameChecks.{matches, names_table, unknown_columns, unknown_in_table, unknown_target}
 use Rattle.vkg_ddl.specs.ReferenceChecks.{at_target, columns_fault, key_fault, family_at_target}
 use Rattle.vkg_lists.proofs.Members.{each_from_recursion, recursion_from_each}
 use Rattle.vkg_schema.specs.Meets.{IsTable, IsColumn, IsKey, IsReference, IsWellFormed}
 use Rattle.vkg_schema.specs.Resolve.{column_at, key_at, reference_at, table_at, schema_of}
-use Rattle.vkg_schema.proofs.Faultless.{IsFaultless, faultless, neither, none_of, known, nowhere, not_false}
+use Rattle.vkg_schema.proofs.Faultless.{IsFaultless, faultless, none_of, known, nowhere}
 use Rattle.vkg_schema.proofs.Forms.{column_form, key_form}
 use Rattle.vkg_schema.proofs.Found.{all_weaken, all_map}
 use Rattle.vkg_schema.proofs.Targets.{reference_form}
@@ -28,7 +30,7 @@ module _ (tables : List WrittenTable) (fine : IsFaultless tables) (formed : AllB
   table_form : (t : WrittenTable) → Contains tables t → IsTable (schema_of tables) (table_at tables t)
   table_form t m =
       let f : IsFormed t = each_from_recursion IsFormed tables formed t m in
-      let both = neither (least_of (λ k. unknown_columns t.columns k.columns) t.keys) (least_of (λ r. unknown_columns t.columns r.columns) t.references) (each_from_recursion (λ v. unknown_in_table v ≡ None) tables (none_of unknown_in_table tables fine.columns_known) t m) in
+      let both = lesser-both_none (least_of (λ k. unknown_columns t.columns k.columns) t.keys) (least_of (λ r. unknown_columns t.columns r.columns) t.references) (each_from_recursion (λ v. unknown_in_table v ≡ None) tables (none_of unknown_in_table tables fine.columns_known) t m) in
       record {
         name = f.name;
         columns = all_map IsColumn (column_at t.keys) t.columns (all_weaken IsNamed (λ c. IsColumn (column_at t.keys c)) t.columns (column_form t.keys) f.columns);

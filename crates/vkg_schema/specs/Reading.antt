@@ -1,9 +1,9 @@
 -- Which bytes are a schema, and the first fault of others.
-use Rattle.std.specs.Prelude.{◌≡◌, ℕ, List, [], ◌∷◌, drop, IsUtf8, Some, None, Err, if◌then◌else◌, nat_eq}
-use Rattle.std.specs.List.{starts_with}
+use Rattle.std.specs.Prelude.{◌≡◌, ℕ, List, IsUtf8, Some, None, Err}
 use Rattle.std.specs.Str.Lossy.{utf8_valid_len}
 use Rattle.vkg_tokens.specs.declared.lang.Lang.TheVariants.{Ddl}
 use Rattle.vkg_tokens.specs.Cut.{tokens_of}
+use Rattle.vkg_tokens.specs.Mark.{without_mark}
 use Rattle.vkg_ddl.specs.declared.written.WrittenTable.{WrittenTable}
 use Rattle.vkg_ddl.specs.declared.reading.TextFault.{TextFault}
 use Rattle.vkg_ddl.specs.declared.reading.TextFault.TheVariants as text
@@ -14,14 +14,6 @@ use Rattle.vkg_schema.specs.declared.reading.SchemaError.TheVariants.{Fault, Mem
 use Rattle.vkg_schema.specs.declared.reading.SchemaFault.{SchemaFault}
 use Rattle.vkg_schema.specs.declared.table.Table.{Table}
 use Rattle.vkg_schema.specs.Resolve.{schema_of}
-
--- Unicode 23.8: the UTF-8 of U+FEFF
-abbrev pub byte_order_mark : List ℕ
-byte_order_mark = 239 ∷ 187 ∷ 191 ∷ []
-
--- one byte order mark at the front is no part of the text
-abbrev pub without_mark : List ℕ → List ℕ
-without_mark bytes = if starts_with nat_eq bytes byte_order_mark then drop 3 bytes else bytes
 
 -- The text says these tables, no check fails of it, and the schema is those tables with each name resolved.
 pub record IsSchemaText (text : List ℕ) (tables : List Table) : Type 0 where

@@ -1,5 +1,5 @@
-ghost use Rattle.std.specs.Prelude.{◌≡◌, ◌≤◌, length, drop, IfOk, IfErr, IsUtf8};
-ghost use Rattle.vkg_schema.specs.Reading.{IsSchemaOf, IsSchemaText, Fails, TextFails, IsDetermined, of_text, without_mark};
+ghost use Rattle.std.specs.Prelude.{◌≡◌, IfOk, IfErr, IsUtf8};
+ghost use Rattle.vkg_schema.specs.Reading.{IsSchemaOf, IsSchemaText, Fails, TextFails, IsDetermined, of_text};
 ghost use Rattle.vkg_schema.specs.declared.reading.SchemaError.TheVariants.{Memory as OutOfMemory};
 
 use crate::resolve::resolve;
@@ -8,6 +8,7 @@ use std::alloc::Global;
 use std::str;
 use vkg_base::Memory;
 use vkg_ddl::{TextFault, first_fault, read_written};
+use vkg_tokens::without_mark;
 
 /// The first fault of a schema's text: the number of its check, and the byte at which it stands, counted behind a
 /// byte order mark.
@@ -29,24 +30,6 @@ impl From<Memory> for SchemaError {
 
     fn from(_: Memory) -> SchemaError {
         SchemaError::Memory
-    }
-}
-
-fn behind(bytes: &[u8], at: usize) -> &[u8]
-    requires { at ≤ length bytes.now }
-    ensures { result.now ≡ drop at bytes.now }
-{
-    &bytes[at..]
-}
-
-// The bytes without a byte order mark at the front.
-fn without_mark(bytes: &[u8]) -> &[u8]
-    ensures { result.now ≡ without_mark bytes.now }
-{
-    if bytes.starts_with(&[239, 187, 191]) {
-        behind(bytes, 3)
-    } else {
-        bytes
     }
 }
 

@@ -2,16 +2,12 @@
 use Rattle.std.proofs.Common.{◌≡◌, ◌∙◌, ◌+◌, ◌<◌, ◌++◌, ℕ, zero, suc, Bool, true, false, not, List, [], ◌∷◌, Option, Some, None, if◌then◌else◌, refl, sym, ap, ap₂, subst, arith, length, get_or, take, drop, add-one, drop-cons, map, string_bytes, String, Vec}
 use Rattle.std.proofs.lemmas.List.{take_more, length-take-le, map-append}
 use Rattle.std.specs.List.{AllByRecursion, list_any}
+use Rattle.vkg_lists.proofs.Members.{recursion_at, recursion_push}
 use Rattle.vkg_schema.specs.Rows.{Row}
 use Rattle.vkg_tables.specs.Checks.{is_orphan, repeats}
 use Rattle.vkg_tables.specs.Firsts.{first_after}
 use Rattle.vkg_tables.specs.Parts.{HasNoTerm, all_parts, is_missing, one_or_none, parts, texts_eq, texts_of}
 use Rattle.vkg_tables.proofs.PartsLemmas.{all_parts-more, found, orphan-missing, repeats-found}
-
-pub all-at : {A : Type 0} (P : A → Type 0) (xs : List A) (i : ℕ) (d : A) → AllByRecursion P xs → i < length xs → P (get_or xs i d)
-all-at P [] i d a h = absurd (omega (arith, h))
-all-at P (x ∷ xs) zero d a h = a.0
-all-at P (x ∷ xs) (suc i) d a h = all-at P xs i d a.1 (omega (arith, h))
 
 module _ {A : Type 0} (p : List A → A → Bool) (xs : List A) (i : ℕ) (x : A) (whole : Option ℕ) (h : i < length xs) (e : x ≡ get_or xs i x) where
   pub take-next : take (i + 1) xs ≡ take i xs ++ x ∷ []
@@ -38,13 +34,13 @@ pub repeats-known : (key : List ℕ) (rows : List Row) (i : ℕ) (row : Row) (o 
     → AllByRecursion HasNoTerm rows → i < length rows → row ≡ get_or rows i row → o ≡ parts key row → known ≡ all_parts key (take i rows)
     → repeats key (take i rows) row ≡ found o known
 repeats-known key rows i row o known a h e f s =
-    let n : HasNoTerm row = subst HasNoTerm (sym e) (all-at HasNoTerm rows i row a h) in
+    let n : HasNoTerm row = subst HasNoTerm (sym e) (recursion_at HasNoTerm rows i row a h) in
     repeats-found key (take i rows) row n ∙ ap₂ found (sym f) (sym s)
 
 pub orphan-known : (pairs : List (ℕ × ℕ)) (targets rows : List Row) (i : ℕ) (row : Row)
     → AllByRecursion HasNoTerm rows → i < length rows → row ≡ get_or rows i row
     → is_orphan pairs targets row ≡ is_missing (parts (map (λ p. p.0) pairs) row) (all_parts (map (λ p. p.1) pairs) targets)
-orphan-known pairs targets rows i row a h e = orphan-missing pairs targets row (subst HasNoTerm (sym e) (all-at HasNoTerm rows i row a h))
+orphan-known pairs targets rows i row a h e = orphan-missing pairs targets row (subst HasNoTerm (sym e) (recursion_at HasNoTerm rows i row a h))
 
 -- the parts of one row more
 pub parts-next : (columns : List ℕ) (rows : List Row) (i : ℕ) (row : Row) → i < length rows → row ≡ get_or rows i row
@@ -59,9 +55,5 @@ pub missing-same : (o : Option (List (List ℕ))) (xs ys : List (List (List ℕ)
 missing-same None xs ys h = refl
 missing-same (Some f) xs ys h = ap not (h f)
 
-all-push : {A : Type 0} (P : A → Type 0) (xs : List A) (x : A) → AllByRecursion P xs → P x → AllByRecursion P (xs ++ x ∷ [])
-all-push P [] x h p = (p, tt)
-all-push P (y ∷ xs) x h p = (h.0, all-push P xs x h.1 p)
-
 pub all-next : {A : Type 0} (P : A → Type 0) (xs : List A) (i : ℕ) (x : A) → i < length xs → x ≡ get_or xs i x → AllByRecursion P (take i xs) → P x → AllByRecursion P (take (i + 1) xs)
-all-next P xs i x h e a p = subst (AllByRecursion P) (sym (take_more xs i x h ∙ ap (λ y. take i xs ++ y ∷ []) (sym e))) (all-push P (take i xs) x a p)
+all-next P xs i x h e a p = subst (AllByRecursion P) (sym (take_more xs i x h ∙ ap (λ y. take i xs ++ y ∷ []) (sym e))) (recursion_push P (take i xs) x a p)

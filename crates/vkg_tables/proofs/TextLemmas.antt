@@ -13,6 +13,7 @@ use Rattle.csv.specs.declared.parser.State.{State}
 use Rattle.csv.specs.declared.parser.State.TheVariants as st
 use Rattle.csv.proofs.RecordFacts.{text-more}
 use Rattle.csv.proofs.ReadFacts.{run-copies}
+use Rattle.vkg_lists.proofs.Bools.{and_parts}
 use Rattle.vkg_tables.specs.Texts.{AreTexts}
 
 -- each byte lies past ASCII
@@ -123,16 +124,12 @@ field-text act.Skip c field uc u = u
 field-text act.Copy c field uc u = IsUtf8-append field (c ∷ []) u uc
 field-text act.EndRecord c field uc u = IsUtf8-nil
 
-both : (a b : Bool) → (a && b) ≡ true → (a ≡ true) × (b ≡ true)
-both true b e = (refl, e)
-both false b e = absurd (true≢false (sym e))
-
 text-next : (cs : List ℕ) → scalars cs ≡ true → (s : State) (fields : List (List ℕ)) (field : List ℕ) → AllText fields → IsUtf8 field
     → Textual (next_record default_config s fields field (encodes cs))
 unfolding next_record
 text-next [] e s fields field t u = either (ends_at_end s) _ None (text-more fields field t u, IsUtf8-nil) tt
 text-next (c ∷ cs) e s fields field t u =
-    let parts = both (scalar c) (scalars cs) e in
+    let parts = and_parts (scalar c) (scalars cs) e in
     let uc = IsUtf8-encode c parts.0 in
     elim (dec_lt c 128) [
       | yes low ↦
@@ -171,14 +168,14 @@ stripped : (cs : List ℕ) → scalars cs ≡ true → (a b c : ℕ) (rest : Lis
 stripped cs e a b c rest is false m = (cs, (e, is))
 stripped [] e a b c rest is true m = cc is
 stripped (d ∷ cs) e a b c rest is true m =
-    let two = both (a == 0xEF && b == 0xBB) (c == 0xBF) m in
-    let one = both (a == 0xEF) (b == 0xBB) two.0 in
+    let two = and_parts (a == 0xEF && b == 0xBB) (c == 0xBF) m in
+    let one = and_parts (a == 0xEF) (b == 0xBB) two.0 in
     let ea : a ≡ 0xEF = eqb-true a 0xEF one.0 in
     let eb : b ≡ 0xBB = eqb-true b 0xBB one.1 in
     let ec : c ≡ 0xBF = eqb-true c 0xBF two.1 in
     let joined : encode d ++ encodes cs ≡ encode 0xFEFF ++ rest = rw mark (is ∙ (λ i. ea i ∷ eb i ∷ ec i ∷ rest)) in
     let same = encode_same d 0xFEFF (encodes cs) rest joined in
-    (cs, ((both (scalar d) (scalars cs) e).1, same.1))
+    (cs, ((and_parts (scalar d) (scalars cs) e).1, same.1))
 
 pub IsUtf8-strip_bom : (xs : List ℕ) → IsUtf8 xs → IsUtf8 (strip_bom xs)
 unfolding strip_bom

@@ -1,7 +1,8 @@
 use Rattle.std.proofs.Common.{◌≡◌, sym, ◌∙◌, ap, subst, Ok, Err, Option, Result, IfOk, flat_map}
 use Rattle.std.specs.List.{enumerate_from}
+use Rattle.vkg_lists.specs.Firsts.{first_of}
 use Rattle.vkg_maps.specs.declared.data_fault.DataFault.{DataFault}
-use Rattle.vkg_maps.specs.DataFaults.{first_of, map_faults, least_data_fault}
+use Rattle.vkg_maps.specs.DataFaults.{map_faults, least_data_fault}
 use Rattle.vkg_maps.specs.LeastFault.{FindsLeast}
 use Rattle.vkg_maps.proofs.LeastFault.{finds_least}
 use Rattle.vkg_quads.proofs.scan.scan_data.Goals as goal

@@ -1,9 +1,10 @@
 use Rattle.std.proofs.Common.{◌≡◌, ◌<◌, ◌+◌, ◌∙◌, sym, ap, map, flat_map, length, Some, None, arith}
-use Rattle.vkg_maps.specs.DataFaults.{first_of, map_faults, row_faults}
+use Rattle.vkg_lists.specs.Firsts.{first_of}
+use Rattle.vkg_maps.specs.DataFaults.{map_faults, row_faults}
 use Rattle.std.specs.Option.{option_copied}
 use Rattle.std.specs.List.{enumerate_from}
 use Rattle.vkg_schema.specs.Rows.{rows_of}
-use Rattle.vkg_quads.proofs.Firsts.{scan_some, scan_none}
+use Rattle.vkg_lists.proofs.Firsts.{scan_some, scan_none}
 use Rattle.vkg_quads.proofs.scan.scan_maps.Goals as goal
 
 pub returns-in-Some : goal.returns-in-Some

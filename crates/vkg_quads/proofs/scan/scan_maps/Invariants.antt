@@ -1,6 +1,7 @@
 use Rattle.std.proofs.Common.{◌≡◌, ◌+◌, flat_map, drop}
 use Rattle.std.specs.List.{enumerate_from}
-use Rattle.vkg_maps.specs.DataFaults.{first_of, map_faults}
+use Rattle.vkg_lists.specs.Firsts.{first_of}
+use Rattle.vkg_maps.specs.DataFaults.{map_faults}
 use Rattle.vkg_quads.proofs.scan.scan_maps.Given as goal
 
 abbrev pub invariant-loop-k : goal.invariant-loop-k

@@ -1,7 +1,8 @@
 use Rattle.std.proofs.Common.{◌≡◌, ◌<◌, ◌+◌, ◌∙◌, sym, ap, map, length, Some, None, arith}
 use Rattle.std.specs.Option.{option_copied}
-use Rattle.vkg_maps.specs.DataFaults.{first_of, row_faults}
-use Rattle.vkg_quads.proofs.Firsts.{scan_some, scan_none}
+use Rattle.vkg_lists.specs.Firsts.{first_of}
+use Rattle.vkg_maps.specs.DataFaults.{row_faults}
+use Rattle.vkg_lists.proofs.Firsts.{scan_some, scan_none}
 use Rattle.vkg_quads.proofs.scan.scan_rows.Goals as goal
 
 pub returns-in-Some : goal.returns-in-Some

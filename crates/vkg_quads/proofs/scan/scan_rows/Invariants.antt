@@ -1,7 +1,8 @@
 use Rattle.std.proofs.Common.{◌≡◌, ◌+◌, map, flat_map, drop}
 use Rattle.std.specs.Option.{option_copied}
 use Rattle.std.specs.List.{enumerate_from}
-use Rattle.vkg_maps.specs.DataFaults.{first_of, row_faults}
+use Rattle.vkg_lists.specs.Firsts.{first_of}
+use Rattle.vkg_maps.specs.DataFaults.{row_faults}
 use Rattle.vkg_quads.proofs.scan.scan_rows.Given as goal
 
 abbrev pub invariant-loop-k : goal.invariant-loop-k
