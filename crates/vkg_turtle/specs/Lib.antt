@@ -1,0 +1,6 @@
+pub mod Entries
+pub mod Escapes
+pub mod Words
+pub mod SameTriple
+pub mod Document
+pub mod Reading

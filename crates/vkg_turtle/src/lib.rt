@@ -1,8 +1,30 @@
-//! The triples of a Turtle document (RDF 1.1 Turtle).
+//! The triples of a Turtle document (RDF 1.1 Turtle), without collections.
 //!
-//! Stands on `vkg_terms` for terms and `vkg_base` for texts and want of memory.
+//! `read_turtle` gives exactly the triples of a document, in the order in which their objects begin, or names the first
+//! fault. The grammar is LL(1), by a certificate; what a token means is noted while it is parsed, and the tokens change the
+//! state of the standard's section 7, one after another. So nothing here recurses, however deep a document nests.
+//!
+//! Stands on `vkg_tokens` and `vkg_grammar` for tokens and derivations, on `vkg_terms` for terms and IRIs, on `indexmap`
+//! for prefixes and for repeated triples, on `itoa` for the labels of brackets.
 #![tactic(auto)]
 
+mod document;
+mod escape;
+mod grammar_table;
+mod lexeme;
+mod parsing;
+mod prefixes;
+mod reading;
+mod repeats;
+mod role;
 mod triple;
 
+pub use grammar_table::{ROLES, TURTLE};
+pub use lexeme::{Word, between, word_of};
+pub use prefixes::Prefixes;
+pub use reading::{TurtleError, TurtleFault, is_determined, read_turtle};
+pub use role::Role;
 pub use triple::Triple;
+
+#[cfg(test)]
+mod tests;

@@ -1,10 +1,54 @@
+ghost use Rattle.std.specs.Prelude.{◌≡◌};
+ghost use Rattle.std.specs.Cmp.{partial_equiv_from_equiv};
+ghost use Rattle.vkg_terms.specs.Same.{term_name};
+ghost use Rattle.vkg_turtle.specs.SameTriple.{triple_eq, triple_equiv, triple_hash, triple_alike};
+
+use std::hash::{Hash, Hasher};
 use vkg_terms::Term;
 
-/// A triple of a document, and the byte at which its object begins.
+/// A triple of a document, and the byte at which its object begins. `==` compares its terms, wherever it stands.
 #[derive(Drop)]
 pub struct Triple {
     pub subject: Term,
     pub predicate: Term,
     pub object: Term,
     pub at: usize,
+}
+
+fn name_of(term: &Term) -> &str
+    ensures { result.now ≡ term_name term.now }
+{
+    match term {
+        Term::Iri(iri) => iri.as_str(),
+        Term::Blank(label) => label.as_str(),
+        Term::Lit(text, _) => text.as_str(),
+    }
+}
+
+impl PartialEq for Triple {
+    ghost eq = { triple_eq };
+
+    ghost laws = { partial_equiv_from_equiv triple_equiv };
+
+    fn eq(&self, other: &Triple) -> bool {
+        self.subject.same(&other.subject)
+            && self.predicate.same(&other.predicate)
+            && self.object.same(&other.object)
+    }
+}
+
+impl Eq for Triple {
+    ghost laws = { triple_equiv };
+}
+
+impl Hash for Triple {
+    ghost hash_input = { triple_hash };
+
+    ghost respects_eq = { triple_alike.fed };
+
+    fn hash<H: Hasher>(&self, state: &mut H) {
+        name_of(&self.subject).hash(state);
+        name_of(&self.predicate).hash(state);
+        name_of(&self.object).hash(state);
+    }
 }

@@ -1,0 +1,9 @@
+pub mod Certificate
+pub mod Declared
+pub mod Escaping
+pub mod Examples
+pub mod Failing
+pub mod Lasts
+pub mod Meaning
+pub mod One
+pub mod Steps

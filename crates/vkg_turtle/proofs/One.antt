@@ -1,0 +1,148 @@
+-- There is one answer.
+use Rattle.std.proofs.Common.{◌≡◌, ℕ, ◌+◌, ◌<◌, ◌⊎◌, inl, inr, List, [], ◌∷◌, ◌++◌, Result, Ok, Err, Option, Some, None, take, drop, length, true, false, ap, sym, ◌∙◌, subst, take-append-drop, append_assoc, arith}
+use Rattle.vkg_grammar.specs.declared.note.Note.{Note}
+use Rattle.vkg_grammar.specs.declared.rule.Rule.{Rule}
+use Rattle.vkg_grammar.specs.Form.{Form, IsTooDeep, IsShallow}
+use Rattle.vkg_grammar.specs.Grammar.{Derives}
+use Rattle.vkg_grammar.specs.Kinds.{kinds_of}
+use Rattle.vkg_grammar.specs.Parsing.{IsFirstDead, IsCutOff}
+use Rattle.vkg_tokens.specs.declared.cutting.Token.{Token}
+use Rattle.vkg_turtle.specs.declared.document.Document.{Document}
+use Rattle.vkg_turtle.specs.declared.grammar_table.TheConstants.{TURTLE}
+use Rattle.vkg_turtle.specs.declared.reading.TurtleFault.{TurtleFault}
+use Rattle.vkg_turtle.specs.declared.triple.Triple.{Triple}
+use Rattle.vkg_turtle.specs.Document.{document_of, begun, triples_of}
+use Rattle.vkg_turtle.specs.Words.{lexemes_of}
+use Rattle.vkg_tokens.specs.Mark.{without_mark}
+use Rattle.vkg_turtle.specs.Reading.{turtle, start_at, fault, fault_of, Says, IsTooDeepText, IsNoText, IsDocumentText, IsFaultOf, no_utf8, no_token, too_deep, no_text, no_document, IsDetermined}
+
+same_tokens : {r : Result (List Token) ℕ} {ts us : List Token} → r ≡ Ok ts → r ≡ Ok us → ts ≡ us
+same_tokens e f = cc
+
+same_place : {r : Result (List Token) ℕ} {a b : ℕ} → r ≡ Err a → r ≡ Err b → a ≡ b
+same_place e f = cc
+
+not_tokens : {r : Result (List Token) ℕ} {ts : List Token} {a : ℕ} → r ≡ Ok ts → r ≡ Err a → ⊥
+not_tokens e f = cc
+
+one_said : {text base : List ℕ} {d e : Document} → Says text base d → Says text base e → d ≡ e
+one_said {text = text} {base = base} a b =
+    let t : b.tokens ≡ a.tokens = same_tokens b.cut a.cut in
+    let n : b.notes ≡ a.notes = a.derived.only b.notes (subst (λ ts. Derives TURTLE (0 ∷ []) (kinds_of ts) b.notes) t b.derived.derives) in
+    a.said ∙ (λ i. document_of (sym n i) (lexemes_of text (sym t i)) (begun base)) ∙ sym b.said
+
+-- ---- too many brackets
+
+not_deep : (g : Form) (ks : List ℕ) (n : ℕ) → IsShallow g ks → IsTooDeep g ks n → ⊥
+not_deep g ks n s d = absurd (let e : true ≡ false = sym (s n d.inside) ∙ d.deep in cc)
+
+deep_before : (g : Form) (ks : List ℕ) (m n : ℕ) → IsTooDeep g ks m → IsTooDeep g ks n → m < n → ⊥
+deep_before g ks m n a b l = absurd (let e : true ≡ false = sym (b.before m l) ∙ a.deep in cc)
+
+one_deep : (g : Form) (ks : List ℕ) (m n : ℕ) → IsTooDeep g ks m → IsTooDeep g ks n → m ≡ n
+one_deep g ks m n a b =
+    let left : m < n → ⊥ = deep_before g ks m n a b in
+    let right : n < m → ⊥ = deep_before g ks n m b a in
+    omega (arith, left, right)
+
+one_too_deep : {text : List ℕ} {a b : ℕ} → IsTooDeepText text a → IsTooDeepText text b → a ≡ b
+one_too_deep {text = text} x y =
+    let t : y.tokens ≡ x.tokens = same_tokens y.cut x.cut in
+    let d : IsTooDeep turtle (kinds_of x.tokens) y.bracket = subst (λ ts. IsTooDeep turtle (kinds_of ts) y.bracket) t y.deep in
+    x.place ∙ (λ i. start_at (sym t i) (one_deep turtle (kinds_of x.tokens) x.bracket y.bracket x.deep d i)) ∙ sym y.place
+
+deep_or_shallow : {text : List ℕ} {a : ℕ} (ts : List Token) (x : IsTooDeepText text a) → x.tokens ≡ ts → IsShallow turtle (kinds_of ts) → ⊥
+deep_or_shallow ts x t s = not_deep turtle (kinds_of ts) x.bracket s (subst (λ us. IsTooDeep turtle (kinds_of us) x.bracket) t x.deep)
+
+no_said_deep : {text base : List ℕ} {d : Document} {at : ℕ} → Says text base d → IsTooDeepText text at → ⊥
+no_said_deep a x = deep_or_shallow a.tokens x (same_tokens x.cut a.cut) a.shallow
+
+no_text_deep : {text : List ℕ} {a b : ℕ} → IsNoText text a → IsTooDeepText text b → ⊥
+no_text_deep a x = deep_or_shallow a.tokens x (same_tokens x.cut a.cut) a.shallow
+
+-- ---- no text of the grammar
+
+alive_text : (g : List Rule) (ts : List ℕ) (ws : List Note) (n : ℕ) → Derives g (0 ∷ []) ts ws → IsFirstDead g ts n → ⊥
+alive_text g ts ws n d dead = dead.dead (drop (n + 1) ts, ws, subst (λ y. Derives g (0 ∷ []) y ws) (sym (take-append-drop (n + 1) ts)) d)
+
+no_said : {text base : List ℕ} {d : Document} {at : ℕ} → Says text base d → IsNoText text at → ⊥
+no_said a b =
+    let t : b.tokens ≡ a.tokens = same_tokens b.cut a.cut in
+    let d : Derives TURTLE (0 ∷ []) (kinds_of b.tokens) a.notes = subst (λ ts. Derives TURTLE (0 ∷ []) (kinds_of ts) a.notes) (sym t) a.derived.derives in
+    elim b.place [ inl p ↦ alive_text TURTLE (kinds_of b.tokens) a.notes p.0 d p.1 | inr p ↦ p.0.no_text a.notes d ]
+
+-- of two places that are first dead neither is before the other
+not_before : (g : List Rule) (ts : List ℕ) (m n : ℕ) → IsFirstDead g ts m → IsFirstDead g ts n → m < n → ⊥
+not_before g ts m n a b l = a.dead (b.alive m l)
+
+one_dead : (g : List Rule) (ts : List ℕ) (m n : ℕ) → IsFirstDead g ts m → IsFirstDead g ts n → m ≡ n
+one_dead g ts m n a b =
+    let left : m < n → ⊥ = not_before g ts m n a b in
+    let right : n < m → ⊥ = not_before g ts n m b a in
+    omega (arith, left, right)
+
+not_cut : (g : List Rule) (ts : List ℕ) (n : ℕ) → IsFirstDead g ts n → IsCutOff g ts → ⊥
+not_cut g ts n a b =
+    let w = b.alive in
+    a.dead (drop (n + 1) ts ++ w.0, w.1, subst (λ y. Derives g (0 ∷ []) y w.1) (ap (λ y. y ++ w.0) (sym (take-append-drop (n + 1) ts)) ∙ append_assoc (take (n + 1) ts) (drop (n + 1) ts) w.0) w.2)
+
+abbrev NoTextAt : List ℕ → List Token → ℕ → Type 0
+NoTextAt text ts at = ((i : ℕ) × IsFirstDead TURTLE (kinds_of ts) i × (at ≡ start_at ts i)) ⊎ (IsCutOff TURTLE (kinds_of ts) × (at ≡ length text))
+
+one_place : (text : List ℕ) (ts : List Token) (a b : ℕ) → NoTextAt text ts a → NoTextAt text ts b → a ≡ b
+one_place text ts a b (inl p) (inl q) = p.2 ∙ ap (start_at ts) (one_dead TURTLE (kinds_of ts) p.0 q.0 p.1 q.1) ∙ sym q.2
+one_place text ts a b (inl p) (inr q) = absurd (not_cut TURTLE (kinds_of ts) p.0 p.1 q.0)
+one_place text ts a b (inr p) (inl q) = absurd (not_cut TURTLE (kinds_of ts) q.0 q.1 p.0)
+one_place text ts a b (inr p) (inr q) = p.1 ∙ sym q.1
+
+one_no_text : {text : List ℕ} {a b : ℕ} → IsNoText text a → IsNoText text b → a ≡ b
+one_no_text {text = text} {a = a} {b = b} x y = one_place text x.tokens a b x.place (subst (λ ts. NoTextAt text ts b) (same_tokens y.cut x.cut) y.place)
+
+-- ---- one answer
+
+one_check : {o : Option TurtleFault} {f g : TurtleFault} → o ≡ Some f → o ≡ Some g → f ≡ g
+one_check e f = cc
+
+one_value : (text base : List ℕ) (triples others : List Triple) → IsDocumentText text base triples → IsDocumentText text base others → triples ≡ others
+one_value text base triples others a b = a.are ∙ ap triples_of (one_said a.says b.says) ∙ sym b.are
+
+not_both : (text base : List ℕ) (triples : List Triple) (f : TurtleFault) → IsDocumentText text base triples → IsFaultOf text base f → ⊥
+not_both text base triples f a (no_utf8 n e) = n a.utf8
+not_both text base triples f a (no_token u e) = not_tokens a.says.cut e
+not_both text base triples f a (too_deep u d) = no_said_deep a.says d
+not_both text base triples f a (no_text u n) = no_said a.says n
+not_both text base triples f a (no_document d u s e) = absurd (let g : ◌≡◌ {A = Option TurtleFault} None (Some f) = sym a.fine ∙ ap fault_of (one_said a.says s) ∙ e in cc)
+
+one_fault : (text base : List ℕ) (f g : TurtleFault) → IsFaultOf text base f → IsFaultOf text base g → f ≡ g
+one_fault text base f g (no_utf8 n e) (no_utf8 m d) = ap (fault 1) (e ∙ sym d)
+one_fault text base f g (no_utf8 n e) (no_token u d) = absurd (n u)
+one_fault text base f g (no_utf8 n e) (too_deep u d) = absurd (n u)
+one_fault text base f g (no_utf8 n e) (no_text u d) = absurd (n u)
+one_fault text base f g (no_utf8 n e) (no_document w u d q) = absurd (n u)
+one_fault text base f g (no_token u e) (no_utf8 m d) = absurd (m u)
+one_fault text base f g (no_token u e) (no_token v d) = ap (fault 1) (same_place e d)
+one_fault text base f g (no_token u e) (too_deep v d) = absurd (not_tokens d.cut e)
+one_fault text base f g (no_token u e) (no_text v d) = absurd (not_tokens d.cut e)
+one_fault text base f g (no_token u e) (no_document w v d q) = absurd (not_tokens d.cut e)
+one_fault text base f g (too_deep u e) (no_utf8 m d) = absurd (m u)
+one_fault text base f g (too_deep u e) (no_token v d) = absurd (not_tokens e.cut d)
+one_fault text base f g (too_deep u e) (too_deep v d) = ap (fault 3) (one_too_deep e d)
+one_fault text base f g (too_deep u e) (no_text v d) = absurd (no_text_deep d e)
+one_fault text base f g (too_deep u e) (no_document w v d q) = absurd (no_said_deep d e)
+one_fault text base f g (no_text u e) (no_utf8 m d) = absurd (m u)
+one_fault text base f g (no_text u e) (no_token v d) = absurd (not_tokens e.cut d)
+one_fault text base f g (no_text u e) (too_deep v d) = absurd (no_text_deep e d)
+one_fault text base f g (no_text u e) (no_text v d) = ap (fault 2) (one_no_text e d)
+one_fault text base f g (no_text u e) (no_document w v d q) = absurd (no_said d e)
+one_fault text base f g (no_document x u e p) (no_utf8 m d) = absurd (m u)
+one_fault text base f g (no_document x u e p) (no_token v d) = absurd (not_tokens e.cut d)
+one_fault text base f g (no_document x u e p) (too_deep v d) = absurd (no_said_deep e d)
+one_fault text base f g (no_document x u e p) (no_text v d) = absurd (no_said e d)
+one_fault text base f g (no_document x u e p) (no_document w v d q) = one_check p (ap fault_of (one_said e d) ∙ q)
+
+pub determined : IsDetermined
+determined = record {
+  one_value = λ bytes. one_value (without_mark bytes);
+  one_fault = λ bytes. one_fault (without_mark bytes);
+  not_both = λ bytes. not_both (without_mark bytes);
+}

@@ -1,0 +1,370 @@
+ghost use Rattle.std.specs.Prelude.{◌≡◌, ◌++◌, codes, IfOk, OnOk, option_map, unwrap_or, []};
+ghost use Rattle.std.specs.Option.{option_copied};
+ghost use Rattle.vkg_terms.specs.declared.term.Term.TheVariants.{Iri};
+ghost use Rattle.vkg_turtle.specs.Document.{begun, annotation_of_type, iri_of, iri_text, typed, term_of, earlier, noted_iri, noted, node_at, with_object, annotated, annotated_triple, with_annotation, outer_of, opened, restored, last_of, prefix_of, text_of_tag, with_subject, with_outer, act};
+ghost use Rattle.vkg_turtle.specs.declared.role.Role.TheVariants.{PrefixName, PrefixIri, BaseIri, Subject, Verb, Object, Datatype, Language};
+
+use crate::lexeme::{Lexeme, Word};
+use crate::prefixes::Prefixes;
+use crate::role::Role;
+use crate::triple::Triple;
+use itoa::Buffer;
+use std::alloc::Global;
+use vkg_base::{Items, Memory, Text};
+use vkg_terms::{Annotation, Term, is_absolute, resolve};
+
+/// A subject and a predicate, kept while the node of a bracket is the subject.
+#[derive(Drop)]
+pub struct Outer {
+    pub subject: Term,
+    pub predicate: Term,
+}
+
+/// What was read of a document (RDF 1.1 Turtle, 7.1), with the places of its first faults.
+#[derive(Drop)]
+pub struct Document {
+    pub base: Text,
+    pub prefixes: Prefixes,
+    /// The prefix that is being declared.
+    pub prefix: Text,
+    pub subject: Term,
+    pub predicate: Term,
+    pub outer: Items<Outer>,
+    pub triples: Items<Triple>,
+    /// The first name whose prefix is not declared.
+    pub unknown: Option<usize>,
+    /// The first IRI that is not absolute.
+    pub relative: Option<usize>,
+}
+
+const XSD_INTEGER: &str = "http://www.w3.org/2001/XMLSchema#integer";
+
+const XSD_DECIMAL: &str = "http://www.w3.org/2001/XMLSchema#decimal";
+
+const XSD_DOUBLE: &str = "http://www.w3.org/2001/XMLSchema#double";
+
+const XSD_BOOLEAN: &str = "http://www.w3.org/2001/XMLSchema#boolean";
+
+const RDF_TYPE: &str = "http://www.w3.org/1999/02/22-rdf-syntax-ns#type";
+
+fn no_iri(alloc: Global) -> Result<Term, Memory>
+    ensures { IfOk result (λ t. t ≡ Iri []) }
+{
+    Ok(Term::Iri(Text::new(alloc, "")?))
+}
+
+// What a prefix stands for, and a local part.
+fn joined(alloc: Global, namespace: Option<&Text>, local: &Text) -> Result<Option<Text>, Memory>
+    ensures { IfOk result (λ o. o ≡ option_map (λ iri. iri ++ local.now) (option_copied namespace.entry)) }
+{
+    let Some(namespace) = namespace else {
+        return Ok(None);
+    };
+    let mut iri = String::from_str(alloc, namespace.as_str())?;
+    iri.push_str(local.as_str())?;
+    Ok(Some(Text::from_string(iri)))
+}
+
+fn or_empty(alloc: Global, iri: Option<Text>) -> Result<Text, Memory>
+    ensures { IfOk result (λ t. t ≡ unwrap_or iri []) }
+{
+    match iri {
+        Some(iri) => Ok(iri),
+        None => Text::new(alloc, ""),
+    }
+}
+
+fn earlier(first: Option<usize>, at: usize) -> Option<usize>
+    ensures { result ≡ earlier first at }
+{
+    match first {
+        Some(first) => Some(first),
+        None => Some(at),
+    }
+}
+
+// A literal of a datatype.
+fn typed(alloc: Global, text: &Text, datatype: &str) -> Result<Term, Memory>
+    ensures { IfOk result (λ t. t ≡ Term.Lit text.now (annotation_of_type datatype.now)) }
+{
+    let datatype = Text::new(alloc, datatype)?;
+    Ok(Term::Lit(text.copy()?, Annotation::typed(datatype)))
+}
+
+// The node of the bracket at a place.
+fn node_at(alloc: Global, at: usize) -> Result<Term, Memory>
+    ensures { IfOk result (λ t. t ≡ node_at at) }
+{
+    let mut buffer = Buffer::new();
+    let mut label = String::from_str(alloc, ".")?;
+    label.push_str(buffer.format(at))?;
+    Ok(Term::Blank(Text::from_string(label)))
+}
+
+fn prefix_of(alloc: Global, word: &Word) -> Result<Text, Memory>
+    ensures { IfOk result (λ t. t ≡ prefix_of word.now) }
+{
+    match word {
+        Word::Name(prefix, _) => prefix.copy(),
+        _ => Text::new(alloc, ""),
+    }
+}
+
+fn tag_of(alloc: Global, word: &Word) -> Result<Text, Memory>
+    ensures { IfOk result (λ t. t ≡ text_of_tag word.now) }
+{
+    match word {
+        Word::Tag(text) => text.copy(),
+        _ => Text::new(alloc, ""),
+    }
+}
+
+fn annotated(term: Term, annotation: Annotation) -> Term
+    ensures { result ≡ annotated annotation term }
+{
+    match term {
+        Term::Lit(text, _) => Term::Lit(text, annotation),
+        other => other,
+    }
+}
+
+fn annotated_triple(triple: Triple, annotation: Annotation) -> Triple
+    ensures { result ≡ annotated_triple annotation triple }
+{
+    let Triple {
+        subject,
+        predicate,
+        object,
+        at,
+    } = triple;
+    Triple {
+        subject,
+        predicate,
+        object: annotated(object, annotation),
+        at,
+    }
+}
+
+impl Document {
+    /// The state before the first token.
+    pub fn new(alloc: Global, base: &str) -> Result<Document, Memory>
+        ensures { IfOk result (λ d. d ≡ begun base.now) }
+    {
+        let base = Text::new(alloc, base)?;
+        let prefix = Text::new(alloc, "")?;
+        let subject = no_iri(alloc)?;
+        let predicate = no_iri(alloc)?;
+        Ok(Document {
+            base,
+            prefixes: Prefixes::new(alloc),
+            prefix,
+            subject,
+            predicate,
+            outer: Items::new(alloc),
+            triples: Items::new(alloc),
+            unknown: None,
+            relative: None,
+        })
+    }
+
+    // The IRI of a reference or of a name.
+    fn iri_of(&self, alloc: Global, word: &Word) -> Result<Option<Text>, Memory>
+        ensures { IfOk result (λ o. o ≡ iri_of word.now self.now) }
+    {
+        match word {
+            Word::Reference(text) => {
+                let iri = resolve(alloc, self.base.as_str(), text.as_str())?;
+                Ok(Some(Text::from_string(iri)))
+            }
+            Word::Name(prefix, local) => {
+                joined(alloc, self.prefixes.namespace(prefix.as_str()), local)
+            }
+            _ => Ok(None),
+        }
+    }
+
+    fn note_iri(&mut self, iri: &Option<Text>, at: usize)
+        ensures { self.new ≡ noted_iri iri.now at self.old }
+    {
+        match iri {
+            None => self.unknown = earlier(self.unknown, at),
+            Some(iri) => if !is_absolute(iri.as_str()) {
+                self.relative = earlier(self.relative, at);
+            },
+        }
+    }
+
+    // The IRI of a token, whose place is noted where there is none or it is not absolute.
+    fn iri(&mut self, alloc: Global, lexeme: &Lexeme) -> Result<Text, Memory>
+        ensures value { IfOk result (λ t. t ≡ iri_text lexeme.now self.old) }
+        ensures noted { OnOk result (self.new ≡ noted lexeme.now self.old) }
+    {
+        match &lexeme.word {
+            Word::Reference(_) | Word::Name(_, _) => {
+                let iri = self.iri_of(alloc, &lexeme.word)?;
+                self.note_iri(&iri, lexeme.at);
+                or_empty(alloc, iri)
+            }
+            _ => Text::new(alloc, ""),
+        }
+    }
+
+    // The term of a token. What is wrong with an IRI is noted.
+    fn term(&mut self, alloc: Global, lexeme: &Lexeme) -> Result<Term, Memory>
+        ensures value { IfOk result (λ t. t ≡ term_of lexeme.now.word self.old) }
+        ensures noted { OnOk result (self.new ≡ noted lexeme.now self.old) }
+    {
+        match &lexeme.word {
+            Word::Label(text) => Ok(Term::Blank(text.copy()?)),
+            Word::Quoted(text) => Ok(Term::Lit(text.copy()?, Annotation::Plain)),
+            Word::Integer(text) => typed(alloc, text, XSD_INTEGER),
+            Word::Decimal(text) => typed(alloc, text, XSD_DECIMAL),
+            Word::Double(text) => typed(alloc, text, XSD_DOUBLE),
+            Word::Boolean(text) => typed(alloc, text, XSD_BOOLEAN),
+            Word::IsA => Ok(Term::Iri(Text::new(alloc, RDF_TYPE)?)),
+            _ => Ok(Term::Iri(self.iri(alloc, lexeme)?)),
+        }
+    }
+
+    fn set_base(&mut self, alloc: Global, lexeme: &Lexeme) -> Result<(), Memory>
+        ensures { OnOk result (self.new ≡ act BaseIri lexeme.now self.old) }
+    {
+        let iri = self.iri(alloc, lexeme)?;
+        self.base = iri;
+        Ok(())
+    }
+
+    fn set_prefix(&mut self, alloc: Global, lexeme: &Lexeme) -> Result<(), Memory>
+        ensures { OnOk result (self.new ≡ act PrefixName lexeme.now self.old) }
+    {
+        let prefix = prefix_of(alloc, &lexeme.word)?;
+        self.prefix = prefix;
+        Ok(())
+    }
+
+    fn declare(&mut self, alloc: Global, lexeme: &Lexeme) -> Result<(), Memory>
+        ensures { OnOk result (self.new ≡ act PrefixIri lexeme.now self.old) }
+    {
+        let iri = self.iri(alloc, lexeme)?;
+        self.prefixes.declare(alloc, self.prefix.as_str(), iri)
+    }
+
+    fn set_subject(&mut self, alloc: Global, lexeme: &Lexeme) -> Result<(), Memory>
+        ensures { OnOk result (self.new ≡ act Subject lexeme.now self.old) }
+    {
+        let term = self.term(alloc, lexeme)?;
+        self.subject = term;
+        Ok(())
+    }
+
+    fn set_predicate(&mut self, alloc: Global, lexeme: &Lexeme) -> Result<(), Memory>
+        ensures { OnOk result (self.new ≡ act Verb lexeme.now self.old) }
+    {
+        let term = self.term(alloc, lexeme)?;
+        self.predicate = term;
+        Ok(())
+    }
+
+    fn push_triple(&mut self, object: Term, at: usize) -> Result<(), Memory>
+        ensures { OnOk result (self.new ≡ with_object object at self.old) }
+    {
+        let subject = self.subject.copy()?;
+        let predicate = self.predicate.copy()?;
+        self.triples.push(Triple {
+            subject,
+            predicate,
+            object,
+            at,
+        })
+    }
+
+    fn add_object(&mut self, alloc: Global, lexeme: &Lexeme) -> Result<(), Memory>
+        ensures { OnOk result (self.new ≡ act Object lexeme.now self.old) }
+    {
+        let term = self.term(alloc, lexeme)?;
+        self.push_triple(term, lexeme.at)
+    }
+
+    fn annotate(&mut self, annotation: Annotation) -> Result<(), Memory>
+        ensures { OnOk result (self.new ≡ with_annotation annotation self.old) }
+    {
+        match self.triples.pop() {
+            Some(last) => self.triples.push(annotated_triple(last, annotation)),
+            None => Ok(()),
+        }
+    }
+
+    fn set_datatype(&mut self, alloc: Global, lexeme: &Lexeme) -> Result<(), Memory>
+        ensures { OnOk result (self.new ≡ act Datatype lexeme.now self.old) }
+    {
+        let iri = self.iri(alloc, lexeme)?;
+        self.annotate(Annotation::typed(iri))
+    }
+
+    fn set_language(&mut self, alloc: Global, lexeme: &Lexeme) -> Result<(), Memory>
+        ensures { OnOk result (self.new ≡ act Language lexeme.now self.old) }
+    {
+        let tag = tag_of(alloc, &lexeme.word)?;
+        self.annotate(Annotation::Lang(tag))
+    }
+
+    fn open_subject(&mut self, alloc: Global, at: usize) -> Result<(), Memory>
+        ensures { OnOk result (self.new ≡ with_subject (node_at at) self.old) }
+    {
+        let node = node_at(alloc, at)?;
+        self.subject = node;
+        Ok(())
+    }
+
+    fn push_outer(&mut self) -> Result<(), Memory>
+        ensures { OnOk result (self.new ≡ with_outer self.old) }
+    {
+        let subject = self.subject.copy()?;
+        let predicate = self.predicate.copy()?;
+        self.outer.push(Outer { subject, predicate })
+    }
+
+    fn open_object(&mut self, alloc: Global, at: usize) -> Result<(), Memory>
+        ensures { OnOk result (self.new ≡ opened at self.old) }
+    {
+        let node = node_at(alloc, at)?;
+        self.push_triple(node, at)?;
+        self.push_outer()?;
+        self.open_subject(alloc, at)
+    }
+
+    fn close_object(&mut self)
+        ensures { self.new ≡ restored (last_of self.old.outer) self.old }
+    {
+        match self.outer.pop() {
+            Some(Outer { subject, predicate }) => {
+                self.subject = subject;
+                self.predicate = predicate;
+            }
+            None => {}
+        }
+    }
+
+    /// What a token that means this does.
+    pub fn act(&mut self, alloc: Global, role: Role, lexeme: &Lexeme) -> Result<(), Memory>
+        ensures { OnOk result (self.new ≡ act role lexeme.now self.old) }
+    {
+        match role {
+            Role::PrefixName => self.set_prefix(alloc, lexeme),
+            Role::PrefixIri => self.declare(alloc, lexeme),
+            Role::BaseIri => self.set_base(alloc, lexeme),
+            Role::Subject => self.set_subject(alloc, lexeme),
+            Role::Verb => self.set_predicate(alloc, lexeme),
+            Role::Object => self.add_object(alloc, lexeme),
+            Role::Datatype => self.set_datatype(alloc, lexeme),
+            Role::Language => self.set_language(alloc, lexeme),
+            Role::OpenSubject => self.open_subject(alloc, lexeme.at),
+            Role::OpenObject => self.open_object(alloc, lexeme.at),
+            Role::CloseObject => {
+                self.close_object();
+                Ok(())
+            }
+            Role::Choice | Role::Other => Ok(()),
+        }
+    }
+}

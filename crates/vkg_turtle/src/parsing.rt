@@ -1,0 +1,133 @@
+ghost use Rattle.std.specs.Prelude.{◌≡◌, ◌<◌, length, map, slice_get, slice_index_or, unwrap_or, IfOk, IfErr, OnOk};
+ghost use Rattle.vkg_grammar.specs.Form.{IsShallow};
+ghost use Rattle.vkg_grammar.specs.Kinds.{kinds_of, AreBelow};
+ghost use Rattle.vkg_grammar.specs.Parsing.{IsTheText, Fails};
+ghost use Rattle.vkg_turtle.specs.Document.{begun, document_of, is_choice, role_of};
+ghost use Rattle.vkg_turtle.specs.Reading.{Says, TextFails as Refuses, turtle};
+ghost use Rattle.vkg_turtle.specs.declared.role.Role.TheVariants.{Choice};
+
+use crate::document::Document;
+use crate::grammar_table::{ROLES, TURTLE};
+use crate::lexeme::{Lexeme, lexemes_of};
+use crate::reading::{TurtleError, fault};
+use crate::role::Role;
+use std::alloc::Global;
+use vkg_base::Memory;
+use vkg_grammar::{Grammar, Note, ParseFault, Rule, parse};
+use vkg_tokens::{Lang, Token, TokensError, tokens};
+
+fn meanings() -> &'static [Role]
+    ensures { result.now ≡ ROLES }
+{
+    &ROLES
+}
+
+fn role_in(roles: &[Role], symbol: usize) -> Role
+    ensures { result ≡ unwrap_or (slice_get roles.now symbol) Choice }
+{
+    match roles.get(symbol) {
+        None => Role::Choice,
+        Some(role) => *role,
+    }
+}
+
+fn role_of(symbol: usize) -> Role
+    ensures { result ≡ role_of symbol }
+{
+    role_in(meanings(), symbol)
+}
+
+fn is_choice(role: Role) -> bool
+    ensures { result ≡ is_choice role }
+{
+    match role {
+        Role::Choice => true,
+        _ => false,
+    }
+}
+
+// What the tokens make of a document, by the notes of their derivation.
+fn document_of(
+    alloc: Global,
+    base: &str,
+    notes: &[Note],
+    lexemes: &[Lexeme],
+) -> Result<Document, Memory>
+    ensures { IfOk result (λ d. d ≡ document_of notes.now lexemes.now (begun base.now)) }
+{
+    let mut document = Document::new(alloc, base)?;
+    let mut rest = lexemes;
+    for note in notes {
+        let role = role_of(note.symbol);
+        if !is_choice(role) {
+            let Some((lexeme, after)) = rest.split_first() else {
+                return Ok(document);
+            };
+            document.act(alloc, role, lexeme)?;
+            rest = after;
+        }
+    }
+    Ok(document)
+}
+
+fn start_of(tokens: &[Token], index: usize) -> usize
+    requires { index < length tokens.now }
+    ensures { result ≡ slice_index_or (map (λ t. t.start) tokens.now) index 0 }
+{
+    tokens[index].start
+}
+
+fn rules() -> &'static [Rule]
+    ensures { result.now ≡ TURTLE }
+{
+    &TURTLE
+}
+
+const OPENERS: [usize; 2] = [5, 13];
+
+const CLOSERS: [usize; 2] = [6, 14];
+
+fn openers() -> &'static [usize]
+    ensures { result.now ≡ OPENERS }
+{
+    &OPENERS
+}
+
+fn closers() -> &'static [usize]
+    ensures { result.now ≡ CLOSERS }
+{
+    &CLOSERS
+}
+
+// The notes of the derivation of these tokens.
+fn notes_of(alloc: Global, tokens: &[Token]) -> Result<Vec<Note>, ParseFault>
+    requires { AreBelow 25 tokens.now }
+    ensures shallow { OnOk result (IsShallow turtle (kinds_of tokens.now)) }
+    ensures text { IfOk result (λ notes. IsTheText TURTLE (kinds_of tokens.now) notes.items) }
+    ensures fails { IfErr result (Fails turtle (kinds_of tokens.now)) }
+{
+    let grammar = Grammar::with_limit(rules(), 25, openers(), closers(), 64);
+    parse(alloc, &grammar, tokens)
+}
+
+/// What is read of a text, or its first fault, the checks of names and IRIs left aside.
+pub(crate) fn read_document(alloc: Global, text: &str, base: &str) -> Result<Document, TurtleError>
+    ensures ok { IfOk result (Says text.now base.now) }
+    ensures err { IfErr result (Refuses text.now base.now) }
+{
+    let tokens = match tokens(alloc, Lang::Turtle, text) {
+        Ok(tokens) => tokens,
+        Err(TokensError::Memory) => return Err(TurtleError::Memory),
+        Err(TokensError::LexFault { at }) => return Err(fault(1, at)),
+    };
+    match notes_of(alloc, &tokens) {
+        Ok(notes) => {
+            let lexemes = lexemes_of(alloc, text, &tokens)?;
+            Ok(document_of(alloc, base, &notes, &lexemes)?)
+        }
+        Err(ParseFault::Memory) => Err(TurtleError::Memory),
+        Err(ParseFault::TooDeep { index }) => Err(fault(3, start_of(&tokens, index))),
+        Err(ParseFault::Dead { index }) => Err(fault(2, start_of(&tokens, index))),
+        Err(ParseFault::Ended) => Err(fault(2, text.len())),
+    }
+}

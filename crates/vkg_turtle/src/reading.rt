@@ -1,0 +1,86 @@
+ghost use Rattle.std.specs.Prelude.{◌≡◌, IfOk, IfErr};
+ghost use Rattle.vkg_turtle.specs.Reading.{IsDocumentOf, IsDocumentText, Fails, TextFails, IsDetermined, fault, fault_of};
+ghost use Rattle.vkg_turtle.specs.declared.reading.TurtleError.TheVariants.{Fault, Memory as OutOfMemory};
+
+use crate::document::Document;
+use crate::parsing::read_document;
+use crate::repeats::without_repeats;
+use crate::triple::Triple;
+use std::alloc::Global;
+use std::str;
+use vkg_base::{Items, Memory};
+use vkg_tokens::without_mark;
+
+/// The first fault of a document: the number of its check, and the byte at which it stands, counted behind a byte
+/// order mark.
+#[derive(Clone, Copy, Debug, PartialEq, Eq)]
+pub struct TurtleFault {
+    pub check: u8,
+    pub at: usize,
+}
+
+/// Why bytes are no document.
+#[derive(Clone, Copy, Debug, PartialEq, Eq)]
+pub enum TurtleError {
+    Fault(TurtleFault),
+    Memory,
+}
+
+impl From<Memory> for TurtleError {
+    ghost from_gives = { λ _ e. e ≡ OutOfMemory };
+
+    fn from(_: Memory) -> TurtleError {
+        TurtleError::Memory
+    }
+}
+
+pub(crate) fn fault(check: u8, at: usize) -> TurtleError
+    ensures { result ≡ Fault (fault check at) }
+{
+    TurtleError::Fault(TurtleFault { check, at })
+}
+
+fn fault_of(document: &Document) -> Option<TurtleFault>
+    ensures { result ≡ fault_of document.now }
+{
+    match (document.unknown, document.relative) {
+        (Some(at), _) => Some(TurtleFault { check: 4, at }),
+        (None, Some(at)) => Some(TurtleFault { check: 5, at }),
+        (None, None) => None,
+    }
+}
+
+fn read_text(alloc: Global, bytes: &[u8], base: &str) -> Result<Items<Triple>, TurtleError>
+    ensures ok { IfOk result (IsDocumentText bytes.now base.now) }
+    ensures err { IfErr result (TextFails bytes.now base.now) }
+{
+    let text = match str::from_utf8(bytes) {
+        Ok(text) => text,
+        Err(e) => return Err(fault(1, e.valid_up_to())),
+    };
+    let document = read_document(alloc, text, base)?;
+    if let Some(found) = fault_of(&document) {
+        return Err(TurtleError::Fault(found));
+    }
+    Ok(without_repeats(alloc, document.triples)?)
+}
+
+/// The triples of a document (RDF 1.1 Turtle), whose IRI references are resolved against `base` where it gives no other.
+///
+/// They stand in the order in which their objects begin, a repeated triple once. One byte order mark at the front is
+/// passed over. Collections are no part of the grammar, and at most 64 brackets may be open at once.
+///
+/// Faults, the first of which is named: 1, no token begins here, or the bytes are not UTF-8 from here; 3, the bracket that
+/// makes depth 65; 2, the first token that no document goes on with, or the length of a text that ends too early; 4, a
+/// name whose prefix is not declared; 5, an IRI that is not absolute.
+pub fn read_turtle(alloc: Global, bytes: &[u8], base: &str) -> Result<Items<Triple>, TurtleError>
+    ensures ok { IfOk result (λ triples. IsDocumentOf bytes.now base.now triples) }
+    ensures err { IfErr result (Fails bytes.now base.now) }
+{
+    read_text(alloc, without_mark(bytes), base)
+}
+
+/// What `read_turtle` answers is determined by the bytes and the base, but for want of memory.
+pub fn is_determined()
+    ensures { IsDetermined }
+{}
