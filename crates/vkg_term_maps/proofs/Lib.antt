@@ -1,0 +1,3 @@
+pub mod IndexLemmas
+pub mod Counting
+pub mod FirstCheckLemmas

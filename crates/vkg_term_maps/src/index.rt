@@ -1,0 +1,42 @@
+// The places of the triples of a graph, by the texts of their subjects.
+ghost use Rattle.std.specs.Prelude.{◌≡◌, ◌++◌, ◌∷◌, [], ℕ, List, IfOk, OnOk, if◌then◌else◌};
+ghost use Rattle.std.specs.Str.{bytes_eq};
+ghost use Rattle.vkg_terms.specs.Same.{term_name};
+ghost use Rattle.vkg_term_maps.specs.Index.{IsIndexOf, group};
+
+use std::alloc::Global;
+use std::collections::HashMap;
+use vkg_base::Memory;
+use vkg_terms::Term;
+use vkg_turtle::Triple;
+
+pub(crate) type Index = HashMap<String, Vec<usize>>;
+
+pub(crate) fn index_of(alloc: Global, triples: &[Triple]) -> Result<Index, Memory>
+    ensures { IfOk result (λ index. IsIndexOf triples.now index) }
+{
+    let mut index = HashMap::new(alloc);
+    for (k, triple) in triples.iter().enumerate() {
+        add(alloc, &mut index, text_of(&triple.subject), k)?;
+    }
+    Ok(index)
+}
+
+fn add(alloc: Global, index: &mut Index, name: &str, k: usize) -> Result<(), Memory>
+    ensures { OnOk result ((q : List ℕ) → group index.new q ≡ group index.old q ++ (if bytes_eq q name.now then k ∷ [] else [])) }
+{
+    let key = String::from_str(alloc, name)?;
+    index.entry(key)?.or_default().push(k)?;
+    Ok(())
+}
+
+/// The IRI of a term, its label or its lexical form.
+pub(crate) fn text_of(term: &Term) -> &str
+    ensures { result.now ≡ term_name term.now }
+{
+    match term {
+        Term::Iri(text) => text.as_str(),
+        Term::Blank(text) => text.as_str(),
+        Term::Lit(text, _) => text.as_str(),
+    }
+}

@@ -1,0 +1,140 @@
+ghost use Rattle.std.specs.Prelude.{◌≡◌, ◌&&◌, IfOk};
+ghost use Rattle.vkg_cells.specs.WellTyped.{is_too_wide as too_wide, is_well_typed as well_typed};
+ghost use Rattle.vkg_term_maps.specs.FirstCheck.{IsFirst, failing_checks};
+ghost use Rattle.vkg_term_maps.specs.TermMaps.{Gives, column_map as map_of_column, constant_map as map_of_constant, is_wide_number as wide_number, natural_at as natural_of_column, of_kind as map_of_kind, term_map_of};
+
+use crate::columns::column_of;
+use crate::error::{TermMapError, TermMapFault};
+use crate::graph::Graph;
+use crate::kind::{Kind, constant, read_kind};
+use crate::place::{Place, Role};
+use crate::template_map::template_map;
+use crate::term_type::{Properties, sort_of, type_of};
+use std::alloc::Global;
+use vkg_base::Memory;
+use vkg_cells::{is_too_wide, is_well_typed, natural};
+use vkg_maps::TermMap;
+use vkg_schema::Column;
+use vkg_terms::{Annotation, Term};
+
+/// The term map that stands at a place, over a table with these columns and under a base, which is an absolute IRI (R2RML,
+/// 7). The fault is the first check that fails. It is asked of a graph that holds no triple twice.
+pub fn read_term_map(
+    alloc: Global,
+    graph: &Graph<'_>,
+    role: Role,
+    place: &Place,
+    columns: &[Column],
+    base: &str,
+) -> Result<TermMap, TermMapError>
+    ensures value { Gives (term_map_of graph.now columns.now base.now role place.now) result }
+    ensures first { IsFirst (failing_checks graph.now columns.now role place.now) result }
+{
+    term_map_at(alloc, graph, role, place, columns, base)
+}
+
+fn term_map_at(
+    alloc: Global,
+    graph: &Graph<'_>,
+    role: Role,
+    place: &Place,
+    columns: &[Column],
+    base: &str,
+) -> Result<TermMap, TermMapError>
+    ensures { Gives (term_map_of graph.now columns.now base.now role place.now) result }
+{
+    match place {
+        Place::Constant(term) => {
+            let kind = constant(role, term.copy()?);
+            of_kind(alloc, role, &Properties::none(), columns, base, kind)
+        }
+        Place::Node(node) => {
+            let kind = read_kind(alloc, graph, role, node)?;
+            let properties = Properties::read(alloc, graph, node)?;
+            of_kind(alloc, role, &properties, columns, base, kind)
+        }
+    }
+}
+
+fn of_kind(
+    alloc: Global,
+    role: Role,
+    properties: &Properties,
+    columns: &[Column],
+    base: &str,
+    kind: Option<Kind>,
+) -> Result<TermMap, TermMapError>
+    ensures { Gives (map_of_kind role properties.now columns.now base.now kind) result }
+{
+    match kind {
+        None => Err(TermMapError::Fault(TermMapFault::Kind)),
+        Some(Kind::Constant(term)) => constant_map(term),
+        Some(Kind::Column(text)) => column_map(
+            alloc,
+            role,
+            properties,
+            columns,
+            column_of(columns, text.as_str()),
+        ),
+        Some(Kind::Template(text)) => {
+            template_map(alloc, role, properties, columns, base, text.as_str())
+        }
+    }
+}
+
+/// A constant-valued term map (R2RML, 7.1).
+fn constant_map(term: Term) -> Result<TermMap, TermMapError>
+    ensures { Gives (map_of_constant term) result }
+{
+    if is_wide_number(&term) {
+        Err(TermMapError::Fault(TermMapFault::WideNumber))
+    } else {
+        Ok(TermMap::Constant(term))
+    }
+}
+
+fn is_wide_number(term: &Term) -> bool
+    ensures { result ≡ wide_number term.now }
+{
+    match term {
+        Term::Lit(text, Annotation::Typed(datatype)) => {
+            is_wide(datatype.iri().as_str(), text.as_str())
+        }
+        _ => false,
+    }
+}
+
+fn is_wide(datatype: &str, text: &str) -> bool
+    ensures { result ≡ (well_typed datatype.now text.now && too_wide datatype.now text.now) }
+{
+    is_well_typed(datatype, text) && is_too_wide(datatype, text)
+}
+
+/// A column-valued term map (R2RML, 7.2).
+fn column_map(
+    alloc: Global,
+    role: Role,
+    properties: &Properties,
+    columns: &[Column],
+    column: Option<usize>,
+) -> Result<TermMap, TermMapError>
+    ensures { Gives (map_of_column role properties.now columns.now column) result }
+{
+    let Some(at) = column else {
+        return Err(TermMapError::Fault(TermMapFault::UnknownColumn));
+    };
+    let natural = natural_at(alloc, columns, at)?;
+    let sort = sort_of(role, true, &properties.types);
+    let term_type = type_of(alloc, natural, properties, sort)?;
+    Ok(TermMap::Column(at, term_type))
+}
+
+/// The natural datatype of the column at a place (R2RML, 10.2).
+fn natural_at(alloc: Global, columns: &[Column], at: usize) -> Result<Annotation, Memory>
+    ensures { IfOk result (λ annotation. annotation ≡ natural_of_column columns.now at) }
+{
+    match columns.get(at) {
+        None => Ok(Annotation::Plain),
+        Some(column) => natural(alloc, column.kind),
+    }
+}
