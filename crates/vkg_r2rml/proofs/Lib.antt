@@ -1,0 +1,10 @@
+mod Examples
+pub mod FirstFault
+pub mod GatheredLemmas
+pub mod IndexLemmas
+pub mod Least
+pub mod LeastFault
+pub mod MappingLemmas
+pub mod Positions
+pub mod RuleCount
+pub mod Terms

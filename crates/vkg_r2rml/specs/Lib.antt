@@ -1,0 +1,10 @@
+pub mod Checked
+pub mod Gathered
+pub mod LogicalTable
+pub mod TriplesMaps
+pub mod ReferencingMap
+pub mod TriplesMap
+pub mod RuleCount
+pub mod Index
+pub mod Mapping
+pub mod Faults
