@@ -7,7 +7,7 @@ use Rattle.vkg_base.specs.Outside.{Files, SinkState, StoreState}
 use Rattle.vkg_base.specs.declared.status.Status.{Status}
 use Rattle.vkg_base.specs.declared.status.Status.TheVariants.{ReadFault, Memory}
 use Rattle.vkg_cli.specs.declared.stops.Fault.{Fault}
-use Rattle.vkg_cli.specs.declared.stops.Fault.TheVariants.{Schema, Table, Keyless, TooManyRules}
+use Rattle.vkg_cli.specs.declared.stops.Fault.TheVariants.{Schema, Table, Keyless, Mapping, Data}
 use Rattle.vkg_cli.specs.declared.stops.Stop.{Stop}
 use Rattle.vkg_cli.specs.declared.stops.Stop.TheVariants as stop
 use Rattle.vkg_cli.specs.FaultLine.{status_of}
@@ -36,7 +36,8 @@ module _ (options : Options) (old new : World) where
   refusal (Schema check at) is = is
   refusal (Table check table row column) is = is
   refusal (Keyless table) is = is
-  refusal TooManyRules is = is
+  refusal (Mapping check at) is = is
+  refusal (Data check map row term) is = is
 
   ended : (made : Result (List (List ℕ)) Stop) (status : Status) → Ran (Works options) old.store new.store made → Delivers made old.out new.out old.err new.err status → Ends options old new status
   ended (Ok lines) status ran (inl (is, took, quiet)) =

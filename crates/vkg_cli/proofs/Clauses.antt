@@ -46,7 +46,7 @@ module _ (options : Options) (old new : World) where
   untouched_by BadSchema ends a b = ends.out
   untouched_by BadTable ends a b = ends.out
   untouched_by BadMapping ends a b = ends.out
-  untouched_by BadData ends a b = absurd ends
+  untouched_by BadData ends a b = ends.out
   untouched_by BadQuery ends a b = absurd ends
   untouched_by ReadFault ends a b = ends.out
   untouched_by WriteFault ends a b = absurd (b refl)
@@ -64,7 +64,7 @@ module _ (options : Options) (old new : World) where
       refused_by BadSchema ends = of_fault BadSchema ends
       refused_by BadTable ends = of_fault BadTable ends
       refused_by BadMapping ends = of_fault BadMapping ends
-      refused_by BadData ends = absurd ends
+      refused_by BadData ends = of_fault BadData ends
       refused_by BadQuery ends = absurd ends
       refused_by ReadFault ends = inr (inl (refl, ends.rose))
       refused_by WriteFault ends = absurd (text_or_fault options files ends.lines fault (ends.defined files told) has)
@@ -77,7 +77,7 @@ module _ (options : Options) (old new : World) where
       complete_by BadSchema ends = absurd (text_or_fault options files lines ends.fault text (ends.defined files told))
       complete_by BadTable ends = absurd (text_or_fault options files lines ends.fault text (ends.defined files told))
       complete_by BadMapping ends = absurd (text_or_fault options files lines ends.fault text (ends.defined files told))
-      complete_by BadData ends = absurd ends
+      complete_by BadData ends = absurd (text_or_fault options files lines ends.fault text (ends.defined files told))
       complete_by BadQuery ends = absurd ends
       complete_by ReadFault ends = absurd (read ends.rose)
       complete_by WriteFault ends = absurd (write ends.taken.faults)
@@ -126,11 +126,11 @@ module _ (old new : World) (status : Status) where
   usage_exactly (dump options) is = (λ bad. absurd (subst (Ends options old new) bad is.ends), λ usage e. absurd (no_dump_refused options usage e))
 
   pub no_other : (asked : Asked) → IsAnswer asked old new status → IsNoOther status
-  no_other help (same, inl (is, took, quiet)) = (λ bad. not_twice status BadData Done bad is (λ e. cc e), λ bad. not_twice status BadQuery Done bad is (λ e. cc e))
-  no_other help (same, inr (is, broke, told)) = (λ bad. not_twice status BadData WriteFault bad is (λ e. cc e), λ bad. not_twice status BadQuery WriteFault bad is (λ e. cc e))
-  no_other (refused usage) (same, inl (is, why)) = (λ bad. not_twice status BadData BadWords bad is (λ e. cc e), λ bad. not_twice status BadQuery BadWords bad is (λ e. cc e))
-  no_other (refused usage) (same, inr (is, why)) = (λ bad. not_twice status BadData Memory bad is (λ e. cc e), λ bad. not_twice status BadQuery Memory bad is (λ e. cc e))
-  no_other (dump options) is = (λ bad. subst (Ends options old new) bad is.ends, λ bad. subst (Ends options old new) bad is.ends)
+  no_other help (same, inl (is, took, quiet)) bad = not_twice status BadQuery Done bad is (λ e. cc e)
+  no_other help (same, inr (is, broke, told)) bad = not_twice status BadQuery WriteFault bad is (λ e. cc e)
+  no_other (refused usage) (same, inl (is, why)) bad = not_twice status BadQuery BadWords bad is (λ e. cc e)
+  no_other (refused usage) (same, inr (is, why)) bad = not_twice status BadQuery Memory bad is (λ e. cc e)
+  no_other (dump options) is bad = subst (Ends options old new) bad is.ends
 
   pub memory_told : (asked : Asked) → IsAnswer asked old new status → IsMemoryTold old new status
   memory_told help (same, inl (is, took, quiet)) short = absurd (not_twice status Memory Done short is (λ e. cc e))
@@ -200,3 +200,6 @@ module _ (old new : World) (status : Status) where
 
   pub bad_mapping : (asked : Asked) → IsAnswer asked old new status → IsRefusedExactly BadMapping asked old new status
   bad_mapping asked is = refused_exactly BadMapping (λ options ends. ends) (λ e. cc e) (λ e. cc e) (λ e. cc e) (λ e. cc e) asked is
+
+  pub bad_data : (asked : Asked) → IsAnswer asked old new status → IsRefusedExactly BadData asked old new status
+  bad_data asked is = refused_exactly BadData (λ options ends. ends) (λ e. cc e) (λ e. cc e) (λ e. cc e) (λ e. cc e) asked is

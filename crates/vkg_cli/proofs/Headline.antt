@@ -1,4 +1,4 @@
--- The lines of `dump` are those of the direct graph of the database that the files hold.
+-- The lines of `dump` are those of the dataset that the files hold.
 use Rattle.std.proofs.Common.{◌≡◌, ◌∙◌, ℕ, ◌+◌, ◌≤◌, Bool, true, false, List, [], ◌∷◌, ◌++◌, length, nat_lt, take, map, min, refl, sym, ap, ap₂, subst, arith, append_assoc, length-append, Ok, Err, Some, if◌then◌else◌}
 use Rattle.std.proofs.lemmas.List.{append-nil, length-map, length-take, take_all}
 use Rattle.std.proofs.lemmas.Bool.{ltb-false}
@@ -9,7 +9,20 @@ use Rattle.std.specs.Prelude.{Option, None, Result}
 use Rattle.vkg_base.specs.Outside.{Files, held}
 use Rattle.vkg_schema.specs.declared.table.Table.{Table}
 use Rattle.vkg_schema.specs.declared.table.Column.{Column}
-use Rattle.vkg_schema.specs.Rows.{Row}
+use Rattle.vkg_schema.specs.Rows.{Database, Row}
+use Rattle.vkg_schema.specs.Meets.{MeetsSchema}
+use Rattle.vkg_maps.specs.declared.mapping.Mapping.{Mapping}
+use Rattle.vkg_maps.specs.declared.data_fault.DataFault.{DataFault}
+use Rattle.vkg_lists.specs.Firsts.{first_of}
+use Rattle.vkg_maps.specs.DataFaults.{data_faults, least_data_fault}
+use Rattle.vkg_maps.specs.Dataset.{dataset}
+use Rattle.vkg_direct.specs.declared.direct_error.DirectError.{DirectError}
+use Rattle.vkg_direct.specs.DirectMapping.{direct_result}
+use Rattle.vkg_quads.specs.Dump.{IsDump as IsLinesOf, dump}
+use Rattle.vkg_turtle.specs.declared.triple.Triple.{Triple}
+use Rattle.vkg_turtle.specs.Reading.{IsDocumentOf}
+use Rattle.vkg_r2rml.specs.declared.map_error.MapFault.{MapFault}
+use Rattle.vkg_r2rml.specs.Mapping.{mapping_of}
 use Rattle.vkg_cli.specs.declared.load.TheConstants.{LIMIT}
 use Rattle.vkg_tables.specs.declared.fault.TableFault.{TableFault}
 use Rattle.vkg_cli.specs.declared.stops.Fault.TheVariants.{Schema}
@@ -20,9 +33,9 @@ use Rattle.vkg_tables.specs.Seen.{Seen, columns_at, columns_of, loaded, with_rea
 use Rattle.vkg_tables.specs.TableFile.{table_of_bytes, unless_fault}
 use Rattle.vkg_cli.specs.Stages.{Loads, Settles, Then, found, goes_on, stops}
 use Rattle.vkg_cli.specs.Words.{Options}
-use Rattle.vkg_cli.specs.Work.{Dumps, IsDirectDump, LoadsTable, LoadsTables, ReadsSchema, UnlessLong, Works, loaded_or, table_file, table_stop}
+use Rattle.vkg_cli.specs.Work.{Checks, Dumps, LoadsMapping, LoadsTable, LoadsTables, LoadsText, MapsDirectly, MapsTriples, ReadsSchema, ReadsTriples, SaysUnlessLong, UnlessLong, Works, WorksOn, direct_or, loaded_or, mapping_or, table_file, table_stop, unless_data}
 use Rattle.vkg_cli.specs.Answer.{HasText}
-use Rattle.vkg_cli.specs.Headline.{HoldDatabase, HoldsTable, IsDump}
+use Rattle.vkg_cli.specs.Headline.{HoldDatabase, HoldsMapping, HoldsTable, HoldsText, IsDump}
 
 -- a file within a limit is not cut
 uncut : (limit m : ℕ) (file : List ℕ) → limit ≡ m + 1 → nat_lt m (length (take limit file)) ≡ false → take limit file ≡ file
@@ -108,21 +121,82 @@ module _ (files : Files) (folder : List ℕ) where
       )
   all_tables (t ∷ ts) db final k names before done rest (stops stop first is) schema place tables behind same = absurd (no_value final stop is)
 
+given_direct : (made : Result Mapping DirectError) (mapping : Mapping) → (let one : Result Mapping Stop = Ok mapping in one ≡ direct_or made) → made ≡ Ok mapping
+given_direct (Ok other) mapping e = cc
+given_direct (Err e) mapping is = cc is
+
+given_mapping : (made : Result Mapping MapFault) (mapping : Mapping) → (let one : Result Mapping Stop = Ok mapping in one ≡ mapping_or made) → made ≡ Ok mapping
+given_mapping (Ok other) mapping e = cc
+given_mapping (Err e) mapping is = cc is
+
+triples_of : (long : Bool) (bytes base : List ℕ) (triples : List Triple) → SaysUnlessLong long bytes base (Ok triples) → (long ≡ false) × IsDocumentOf bytes base triples
+triples_of true bytes base triples is = absurd (no_value triples _ is)
+triples_of false bytes base triples is = (refl, is)
+
+none_first : {A : Type 0} (xs : List A) → first_of xs ≡ None → xs ≡ []
+none_first [] e = refl
+none_first (x ∷ xs) e = cc e
+
+no_data : (found : Option DataFault) (lines others : List (List ℕ)) → (let one : Result (List (List ℕ)) Stop = Ok lines in one ≡ unless_data found (Ok others)) → found ≡ None
+no_data None lines others e = refl
+no_data (Some f) lines others e = cc e
+
+module _ (files : Files) (schema : List Table) (base : List ℕ) (mapping : Mapping) where
+  -- what a document's triples say
+  read_text : (bytes : List ℕ) (names : List (List ℕ)) → Then (Settles (ReadsTriples bytes base)) (λ triples. Settles (MapsTriples triples schema base)) names (Ok mapping)
+      → (nat_lt 2147483647 (length bytes) ≡ false) × ((triples : List Triple) × IsDocumentOf bytes base triples × (mapping_of triples schema base ≡ Ok mapping))
+  unfolding ReadsTriples Settles
+  read_text bytes names (goes_on triples head tail settled maps is) =
+      let says = triples_of (nat_lt 2147483647 (length bytes)) bytes base triples (settled.1) in
+      (says.0, (triples, says.1, given_mapping (mapping_of triples schema base) mapping (maps.1)))
+  read_text bytes names (stops stop settled is) = absurd (no_value mapping stop is)
+
+  text_holds : (name : List ℕ) (names : List (List ℕ)) → LoadsText files name schema base names (Ok mapping) → HoldsText files name schema base mapping
+  unfolding Loads
+  text_holds name names (goes_on bytes head tail load later is) =
+      let file = given LIMIT (held files name) bytes (load.1) in
+      let read = read_text bytes tail later in
+      let whole = uncut LIMIT 2147483647 file.0 refl (ap (λ b. nat_lt 2147483647 (length b)) (sym file.2) ∙ read.0) in
+      record { bytes = file.0; file = file.1; triples = read.1.0; says = subst (λ b. IsDocumentOf b base read.1.0) (file.2 ∙ whole) read.1.1; reads = read.1.2 }
+  text_holds name names (stops stop load is) = absurd (no_value mapping stop is)
+
+  holds : (db : Database) → MeetsSchema schema db → (file : Option (List ℕ)) (names : List (List ℕ)) → LoadsMapping files file schema base names (Ok mapping) → HoldsMapping files file schema base db mapping
+  unfolding MapsDirectly Settles
+  holds db meets None names is = (given_direct (direct_result schema base) mapping (is.1.0), is.1.1.0 db meets)
+  holds db meets (Some name) names is = text_holds name names is
+
 module _ (options : Options) (files : Files) (lines : List (List ℕ)) where
-  -- the lines of a database that is loaded for a schema
-  loaded_dump : (schema : List Table) (names : List (List ℕ)) → Then (LoadsTables files options.folder (without_rows schema) 0 schema) (λ db. Settles (Dumps db options.base)) names (Ok lines)
-      → (db : List (List Row)) × AllZip (HoldsTable files options.folder) schema db × IsDirectDump schema db options.base lines
+  -- what the lines of a database are
+  abbrev IsText : List Table → Database → Type 0
+  IsText schema db = MeetsSchema schema db
+      × ((mapping : Mapping) × HoldsMapping files options.mapping schema options.base db mapping × (data_faults mapping db ≡ []) × IsLinesOf lines (dataset mapping db))
+
+  on_mapping : (db : Seen) (names : List (List ℕ)) → MeetsSchema db.schema db.tables
+      → Then (LoadsMapping files options.mapping db.schema options.base) (λ mapping. Settles (Dumps db.tables mapping)) names (Ok lines) → IsText db.schema db.tables
   unfolding Dumps Settles
+  on_mapping db names meets (goes_on mapping head tail load dumps is) =
+      let none = no_data (least_data_fault mapping db.tables) lines (dump (dataset mapping db.tables)) (dumps.1.0) in
+      (meets, (mapping, holds files db.schema options.base mapping db.tables meets options.mapping head load, none_first (data_faults mapping db.tables) none, dumps.1.1))
+  on_mapping db names meets (stops stop load is) = absurd (no_value lines stop is)
+
+  on_database : (db : Seen) (names : List (List ℕ)) → WorksOn options files db names (Ok lines) → IsText db.schema db.tables
+  unfolding Checks Settles
+  on_database db names (goes_on met head tail checked later is) = on_mapping db tail (checked.1.1) later
+  on_database db names (stops stop checked is) = absurd (no_value lines stop is)
+
+  -- the lines of a database that is loaded for a schema
+  loaded_dump : (schema : List Table) (names : List (List ℕ)) → Then (LoadsTables files options.folder (without_rows schema) 0 schema) (λ db. WorksOn options files db) names (Ok lines)
+      → (db : List (List Row)) × AllZip (HoldsTable files options.folder) schema db × IsText schema db
   loaded_dump schema names (goes_on db head tail tables dumps is) =
       let all = all_tables files options.folder schema (without_rows schema) db 0 head [] [] (map (λ t. []) schema) tables refl refl refl refl (length-map schema _) in
-      (all.0, all.2, subst (λ (d : Seen). IsDirectDump d.schema d.tables options.base lines) (all.1) (dumps.1.1))
+      (all.0, all.2, subst (λ (d : Seen). IsText d.schema d.tables) (all.1) (on_database db tail dumps))
   loaded_dump schema names (stops stop tables is) = absurd (no_value lines stop is)
 
   -- the schema that the bytes of a file say, and the lines of its database
   read_dump : (bytes : List ℕ) (names : List (List ℕ))
-      → Then (Settles (ReadsSchema bytes)) (λ schema. Then (LoadsTables files options.folder (without_rows schema) 0 schema) (λ db. Settles (Dumps db options.base))) names (Ok lines)
+      → Then (Settles (ReadsSchema bytes)) (λ schema. Then (LoadsTables files options.folder (without_rows schema) 0 schema) (λ db. WorksOn options files db)) names (Ok lines)
       → (schema : List Table) × (nat_lt 2147483647 (length bytes) ≡ false) × IsSchemaOf bytes schema
-      × ((db : List (List Row)) × AllZip (HoldsTable files options.folder) schema db × IsDirectDump schema db options.base lines)
+      × ((db : List (List Row)) × AllZip (HoldsTable files options.folder) schema db × IsText schema db)
   unfolding ReadsSchema Settles
   read_dump bytes names (goes_on schema head tail settled later is) =
       let says = schema_of (nat_lt 2147483647 (length bytes)) bytes schema (settled.1) in
@@ -139,7 +213,11 @@ module _ (options : Options) (files : Files) (lines : List (List ℕ)) where
         schema = read.0;
         db = read.3.0;
         hold = record { text = file.0; file = file.1; says = subst (λ b. IsSchemaOf b read.0) (file.2 ∙ whole) read.2; tables = read.3.1 };
-        dump = read.3.2;
+        meets = read.3.2.0;
+        mapping = read.3.2.1.0;
+        mapped = read.3.2.1.1;
+        faultless = read.3.2.1.2;
+        lines_are = read.3.2.1.3;
       }
   headline_of names (stops stop load is) = absurd (no_value lines stop is)
 

@@ -1,7 +1,7 @@
 pub mod Answers
 pub mod AskedLemmas
 pub mod Clauses
-pub mod DirectLemmas
+pub mod DumpLemmas
 pub mod FilledLemmas
 pub mod Headline
 pub mod Ran

@@ -8,7 +8,7 @@ use Rattle.clap.specs.Faults.{entered_fault, level_fault}
 use Rattle.clap.specs.Simple.{argument_words, built_leaf, entered, filled, inherited, marked_built, names_of, rows_at, with_index, with_leaf_noted}
 use Rattle.vkg_cli.specs.Words.{Options, named_options, options_unless, options_seen, taken_options}
 use Rattle.vkg_cli.specs.declared.words.DumpOptions.{DumpOptions}
-use Rattle.vkg_cli.specs.CommandLine.{dump_app, option_rule, vkg_app}
+use Rattle.vkg_cli.specs.CommandLine.{dump_app, option_rule, optional_rule, vkg_app}
 use Rattle.vkg_cli.proofs.AskedLemmas.{asked-taken}
 use Rattle.vkg_cli.proofs.FilledLemmas.{IsOption, argument-check, given-first, level-filled, level-parts, or-false, subcommand-check}
 
@@ -18,6 +18,9 @@ leaf a = built_leaf (inherited (with_leaf_noted (marked_built vkg_app.top)) a.to
 
 fits : (name : Text) → IsOption (with_index 1 (filled (option_rule name)))
 fits name = record { action = refl; range = refl; short = refl; short_aliases = refl; defaults = refl }
+
+fits-optional : (name : Text) → IsOption (with_index 1 (filled (optional_rule name)))
+fits-optional name = record { action = refl; range = refl; short = refl; short_aliases = refl; defaults = refl }
 
 not-false : (b : Bool) → not b ≡ false → b ≡ true
 not-false true e = refl
@@ -33,7 +36,7 @@ Gives o = is_some (option_and_then (λ p. named_options p.0 p.1) o) ≡ true
 dump-gives : (words : List Text) → level_fault (leaf dump_app) [] nothing_held words false [] ≡ [] → Gives (Some (rows_at (leaf dump_app) words))
 dump-gives words e =
     let rows = rows_after (leaf dump_app).rules [] words in
-    let level = level-filled (leaf dump_app) (fits (codes "schema"), (fits (codes "data"), (fits (codes "base"), tt))) words e in
+    let level = level-filled (leaf dump_app) (fits (codes "schema"), (fits (codes "data"), (fits (codes "base"), (fits-optional (codes "mapping"), tt)))) words e in
     let schema = or-false _ _ (argument-check (leaf dump_app) rows false level.1) in
     let folder = or-false _ _ schema.1 in
     let base = or-false _ _ folder.1 in

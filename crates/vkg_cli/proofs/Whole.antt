@@ -1,41 +1,49 @@
 -- The work of `dump` is determined by the files.
-use Rattle.std.proofs.Common.{◌≡◌, ◌∙◌, ℕ, Bool, true, false, List, ap, sym, Ok, Err, length, nat_lt, refl}
-use Rattle.std.specs.Prelude.{Result}
+use Rattle.std.proofs.Common.{◌≡◌, ◌∙◌, ℕ, Bool, true, false, List, ap, sym, Ok, Err, length, nat_lt, refl, Some, None}
+use Rattle.std.specs.Prelude.{Option, Result}
 use Rattle.vkg_base.specs.Outside.{Files}
 use Rattle.vkg_schema.specs.declared.table.Table.{Table}
+use Rattle.vkg_schema.specs.Rows.{Database}
+use Rattle.vkg_maps.specs.declared.mapping.Mapping.{Mapping as Maps}
+use Rattle.vkg_turtle.specs.declared.triple.Triple.{Triple}
+use Rattle.vkg_turtle.specs.declared.reading.TurtleFault.{TurtleFault}
 use Rattle.vkg_cli.specs.declared.load.TheConstants.{LIMIT}
 use Rattle.vkg_schema.specs.declared.reading.SchemaFault.{SchemaFault}
-use Rattle.vkg_cli.specs.declared.stops.Fault.TheVariants.{Schema, Table as AtTable, Keyless, TooManyRules}
+use Rattle.vkg_cli.specs.declared.stops.Fault.TheVariants.{Schema, Table as AtTable, Keyless, Mapping, Data}
 use Rattle.vkg_cli.specs.declared.stops.Stop.{Stop}
 use Rattle.vkg_cli.specs.declared.stops.Stop.TheVariants.{Refused, Read, Memory}
 use Rattle.vkg_tables.specs.Seen.{Seen, without_rows}
 use Rattle.vkg_schema.proofs.One.{determined}
+use Rattle.vkg_turtle.proofs.One.{determined as determined_triples}
 use Rattle.vkg_cli.specs.Stages.{IsDetermined, IsOneOutcome}
 use Rattle.vkg_cli.specs.Words.{Options}
-use Rattle.vkg_cli.specs.Work.{Dumps, Reads, ReadsSchema, UnlessLong, Works}
+use Rattle.vkg_cli.specs.Work.{Checks, Dumps, LoadsMapping, LoadsText, MapsDirectly, MapsTriples, Reads, ReadsSchema, ReadsTriples, SaysTriples, SaysUnlessLong, UnlessLong, Works, WorksOn}
 use Rattle.vkg_cli.proofs.Ran.{determined_loads, determined_settles, determined_then}
 use Rattle.vkg_cli.proofs.Tables.{determined_tables}
 
 one_reading : (bytes : List ℕ) → IsOneOutcome (Reads bytes)
-one_reading bytes (Ok tables) (Ok others) first second = ap (λ (t : List Table). Ok t) (determined.one_value bytes tables others first second)
-one_reading bytes (Ok tables) (Err (Refused (Schema check at))) first second = absurd (determined.not_both bytes tables (record { check = check; at = at }) first second)
-one_reading bytes (Ok tables) (Err (Refused (AtTable check table row column))) first second = absurd second
-one_reading bytes (Ok tables) (Err (Refused (Keyless table))) first second = absurd second
-one_reading bytes (Ok tables) (Err (Refused TooManyRules)) first second = absurd second
-one_reading bytes (Ok tables) (Err Read) first second = absurd second
-one_reading bytes (Ok tables) (Err Memory) first second = absurd second
-one_reading bytes (Err (Refused (Schema check at))) (Ok tables) first second = absurd (determined.not_both bytes tables (record { check = check; at = at }) second first)
+one_reading bytes (Ok v) (Ok w) first second = ap (λ (t : List Table). Ok t) (determined.one_value bytes v w first second)
+one_reading bytes (Ok v) (Err (Refused (Schema check at))) first second = absurd (determined.not_both bytes v (record { check = check; at = at }) first second)
+one_reading bytes (Ok v) (Err (Refused (AtTable check table row column))) first second = absurd second
+one_reading bytes (Ok v) (Err (Refused (Keyless table))) first second = absurd second
+one_reading bytes (Ok v) (Err (Refused (Mapping check at))) first second = absurd second
+one_reading bytes (Ok v) (Err (Refused (Data check map row term))) first second = absurd second
+one_reading bytes (Ok v) (Err Read) first second = absurd second
+one_reading bytes (Ok v) (Err Memory) first second = absurd second
+one_reading bytes (Err (Refused (Schema check at))) (Ok v) first second = absurd (determined.not_both bytes v (record { check = check; at = at }) second first)
 one_reading bytes (Err (Refused (Schema check at))) (Err (Refused (Schema other place))) first second =
     let e = determined.one_fault bytes (record { check = check; at = at }) (record { check = other; at = place }) first second in
     ap (λ (f : SchemaFault). Err (Refused (Schema f.check f.at))) e
 one_reading bytes (Err (Refused (Schema check at))) (Err (Refused (AtTable other table row column))) first second = absurd second
 one_reading bytes (Err (Refused (Schema check at))) (Err (Refused (Keyless table))) first second = absurd second
-one_reading bytes (Err (Refused (Schema check at))) (Err (Refused TooManyRules)) first second = absurd second
+one_reading bytes (Err (Refused (Schema check at))) (Err (Refused (Mapping other place))) first second = absurd second
+one_reading bytes (Err (Refused (Schema check at))) (Err (Refused (Data other map row term))) first second = absurd second
 one_reading bytes (Err (Refused (Schema check at))) (Err Read) first second = absurd second
 one_reading bytes (Err (Refused (Schema check at))) (Err Memory) first second = absurd second
 one_reading bytes (Err (Refused (AtTable check table row column))) p first second = absurd first
 one_reading bytes (Err (Refused (Keyless table))) p first second = absurd first
-one_reading bytes (Err (Refused TooManyRules)) p first second = absurd first
+one_reading bytes (Err (Refused (Mapping check at))) p first second = absurd first
+one_reading bytes (Err (Refused (Data check map row term))) p first second = absurd first
 one_reading bytes (Err Read) p first second = absurd first
 one_reading bytes (Err Memory) p first second = absurd first
 
@@ -47,12 +55,71 @@ pub one_schema : (bytes : List ℕ) → IsOneOutcome (ReadsSchema bytes)
 unfolding ReadsSchema
 one_schema bytes = one_unless (nat_lt 2147483647 (length bytes)) bytes
 
-pub one_dump : (db : Seen) (base : List ℕ) → IsOneOutcome (Dumps db base)
+one_saying : (bytes : List ℕ) → (base : List ℕ) → IsOneOutcome (SaysTriples bytes base)
+one_saying bytes base (Ok v) (Ok w) first second = ap (λ (t : List Triple). Ok t) (determined_triples.one_value bytes base v w first second)
+one_saying bytes base (Ok v) (Err (Refused (Schema check at))) first second = absurd second
+one_saying bytes base (Ok v) (Err (Refused (AtTable check table row column))) first second = absurd second
+one_saying bytes base (Ok v) (Err (Refused (Keyless table))) first second = absurd second
+one_saying bytes base (Ok v) (Err (Refused (Mapping check at))) first second = absurd (determined_triples.not_both bytes base v (record { check = check; at = at }) first second)
+one_saying bytes base (Ok v) (Err (Refused (Data check map row term))) first second = absurd second
+one_saying bytes base (Ok v) (Err Read) first second = absurd second
+one_saying bytes base (Ok v) (Err Memory) first second = absurd second
+one_saying bytes base (Err (Refused (Mapping check at))) (Ok v) first second = absurd (determined_triples.not_both bytes base v (record { check = check; at = at }) second first)
+one_saying bytes base (Err (Refused (Mapping check at))) (Err (Refused (Schema other place))) first second = absurd second
+one_saying bytes base (Err (Refused (Mapping check at))) (Err (Refused (AtTable other table row column))) first second = absurd second
+one_saying bytes base (Err (Refused (Mapping check at))) (Err (Refused (Keyless table))) first second = absurd second
+one_saying bytes base (Err (Refused (Mapping check at))) (Err (Refused (Mapping other place))) first second =
+    let e = determined_triples.one_fault bytes base (record { check = check; at = at }) (record { check = other; at = place }) first second in
+    ap (λ (f : TurtleFault). Err (Refused (Mapping f.check f.at))) e
+one_saying bytes base (Err (Refused (Mapping check at))) (Err (Refused (Data other map row term))) first second = absurd second
+one_saying bytes base (Err (Refused (Mapping check at))) (Err Read) first second = absurd second
+one_saying bytes base (Err (Refused (Mapping check at))) (Err Memory) first second = absurd second
+one_saying bytes base (Err (Refused (Schema check at))) p first second = absurd first
+one_saying bytes base (Err (Refused (AtTable check table row column))) p first second = absurd first
+one_saying bytes base (Err (Refused (Keyless table))) p first second = absurd first
+one_saying bytes base (Err (Refused (Data check map row term))) p first second = absurd first
+one_saying bytes base (Err Read) p first second = absurd first
+one_saying bytes base (Err Memory) p first second = absurd first
+
+says_unless : (long : Bool) (bytes base : List ℕ) → IsOneOutcome (SaysUnlessLong long bytes base)
+says_unless true bytes base = λ o p first second. first ∙ sym second
+says_unless false bytes base = one_saying bytes base
+
+pub one_document : (bytes base : List ℕ) → IsOneOutcome (ReadsTriples bytes base)
+unfolding ReadsTriples
+one_document bytes base = says_unless (nat_lt 2147483647 (length bytes)) bytes base
+
+pub one_mapping : (triples : List Triple) (schema : List Table) (base : List ℕ) → IsOneOutcome (MapsTriples triples schema base)
+one_mapping triples schema base o p first second = first ∙ sym second
+
+one_direct : (schema : List Table) (base : List ℕ) → IsOneOutcome (MapsDirectly schema base)
+unfolding MapsDirectly
+one_direct schema base o p first second = first.0 ∙ sym second.0
+
+pub one_check : (db : Seen) → IsOneOutcome (Checks db)
+unfolding Checks
+one_check db o p first second = first.0 ∙ sym second.0
+
+pub one_dump : (db : Database) (mapping : Maps) → IsOneOutcome (Dumps db mapping)
 unfolding Dumps
-one_dump db base o p first second = first.0 ∙ sym second.0
+one_dump db mapping o p first second = first.0 ∙ sym second.0
+
+pub determined_text : (files : Files) (name : List ℕ) (schema : List Table) (base : List ℕ) → IsDetermined (LoadsText files name schema base)
+determined_text files name schema base =
+    determined_then _ _ (determined_loads LIMIT files name) (λ bytes.
+    determined_then _ _ (determined_settles _ (one_document bytes base)) (λ triples. determined_settles _ (one_mapping triples schema base)))
+
+pub determined_mapping : (files : Files) (file : Option (List ℕ)) (schema : List Table) (base : List ℕ) → IsDetermined (LoadsMapping files file schema base)
+determined_mapping files None schema base = determined_settles _ (one_direct schema base)
+determined_mapping files (Some name) schema base = determined_text files name schema base
+
+pub determined_on : (options : Options) (files : Files) (db : Seen) → IsDetermined (WorksOn options files db)
+determined_on options files db =
+    determined_then _ _ (determined_settles _ (one_check db)) (λ met.
+    determined_then _ _ (determined_mapping files options.mapping db.schema options.base) (λ mapping. determined_settles _ (one_dump db.tables mapping)))
 
 pub determined_work : (options : Options) (files : Files) → IsDetermined (Works options files)
 determined_work options files =
     determined_then _ _ (determined_loads LIMIT files options.schema) (λ bytes.
     determined_then _ _ (determined_settles _ (one_schema bytes)) (λ schema.
-    determined_then _ _ (determined_tables files options.folder (without_rows schema) 0 schema) (λ db. determined_settles _ (one_dump db options.base))))
+    determined_then _ _ (determined_tables files options.folder (without_rows schema) 0 schema) (λ db. determined_on options files db)))

@@ -1,5 +1,5 @@
 -- How a call ends: the status with its cause, the bytes of the output and the line of the standard error.
-use Rattle.std.specs.Prelude.{◌≡◌, ◌⊎◌, ◌↔◌, ℕ, List, ◌++◌, take, codes, Option, Some, Result, Ok, Err}
+use Rattle.std.specs.Prelude.{◌≡◌, ◌⊎◌, ℕ, List, codes, Some, Result, Ok, Err}
 use Rattle.vkg_base.specs.Outside.{Files, StoreState, SinkState, Rose, Took, Broke}
 use Rattle.vkg_base.specs.Written.{written}
 use Rattle.vkg_base.specs.declared.status.Status.{Status}
@@ -78,7 +78,7 @@ Ends options old new BadWords = ⊥
 Ends options old new BadSchema = IsRefused options old new BadSchema
 Ends options old new BadTable = IsRefused options old new BadTable
 Ends options old new BadMapping = IsRefused options old new BadMapping
-Ends options old new BadData = ⊥
+Ends options old new BadData = IsRefused options old new BadData
 Ends options old new BadQuery = ⊥
 Ends options old new ReadFault = IsUnread old new
 Ends options old new WriteFault = IsUnwritten options old new
@@ -91,7 +91,7 @@ pub record IsDumpAnswer (options : Options) (old new : World) (status : Status) 
 
 -- a line for each command, with its options
 abbrev pub help_text : List ℕ
-help_text = codes "vkg dump --schema F --data DIR --base IRI\n"
+help_text = codes "vkg dump --schema F --data DIR --base IRI [--mapping F]\n"
 
 -- help is written, or a write failed
 abbrev pub WritesHelp : SinkState → SinkState → SinkState → SinkState → Status → Type 0

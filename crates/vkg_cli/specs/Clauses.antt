@@ -1,9 +1,9 @@
 -- The clauses of the top call, one for each answer, over the worlds before and after it.
-use Rattle.std.specs.Prelude.{◌≡◌, ◌⊎◌, ◌↔◌, ℕ, List, ◌++◌, take, codes, Some}
+use Rattle.std.specs.Prelude.{◌≡◌, ◌⊎◌, ℕ, List, codes, Some}
 use Rattle.vkg_base.specs.Outside.{Files, Rose, Took, Broke}
 use Rattle.vkg_base.specs.Written.{written}
 use Rattle.vkg_base.specs.declared.status.Status.{Status}
-use Rattle.vkg_base.specs.declared.status.Status.TheVariants.{Done, Usage as BadWords, BadData, BadQuery, ReadFault, WriteFault, Memory}
+use Rattle.vkg_base.specs.declared.status.Status.TheVariants.{Done, Usage as BadWords, BadQuery, ReadFault, WriteFault, Memory}
 use Rattle.vkg_cli.specs.declared.stops.Fault.{Fault}
 use Rattle.vkg_cli.specs.declared.stops.Usage.{Usage}
 use Rattle.vkg_cli.specs.FaultLine.{status_of, usage_line}
@@ -51,9 +51,9 @@ IsWriteFaultOnly asked old new status = status ≡ WriteFault →
     ((asked ≡ help) × Broke old.out new.out help_text × Tells old.err new.err (codes "vkg: write fault\n"))
     ⊎ ((options : Options) × (asked ≡ dump options) × IsUnwritten options old new)
 
--- No data error and no fault of a query is answered: no command reads a mapping or a query.
+-- No fault of a query is answered: no command reads one.
 abbrev pub IsNoOther : Status → Type 0
-IsNoOther status = ¬ (status ≡ BadData) × ¬ (status ≡ BadQuery)
+IsNoOther status = ¬ (status ≡ BadQuery)
 
 -- Memory: it is told.
 abbrev pub IsMemoryTold : World → World → Status → Type 0

@@ -12,9 +12,17 @@ option_rule name = record (new_rule name) {
   action = Some Set;
 }
 
+-- an option with one value, which may be left out
+abbrev pub optional_rule : Text → Rule
+optional_rule name = record (new_rule name) {
+  long = Some name;
+  action = Some Set;
+}
+
 abbrev pub dump_app : App
 dump_app =
-    with_rule (with_rule (with_rule (new_app (codes "dump")) (option_rule (codes "schema"))) (option_rule (codes "data"))) (option_rule (codes "base"))
+    with_rule (with_rule (with_rule (with_rule (new_app (codes "dump")) (option_rule (codes "schema"))) (option_rule (codes "data"))) (option_rule (codes "base")))
+    (optional_rule (codes "mapping"))
 
 -- no flag or command asks for help or a version, and a command has to be named
 abbrev pub vkg_alone : App

@@ -1,7 +1,6 @@
 -- Work over a store, in stages: which files it asks for, and what it comes to.
 use Rattle.std.specs.Prelude.{◌≡◌, ℕ, ◌≤◌, List, [], ◌∷◌, ◌++◌, take, Option, Some, None, Result, Ok, Err}
 use Rattle.vkg_base.specs.Outside.{Files, held, StoreState, Rose}
-use Rattle.vkg_cli.specs.declared.stops.Fault.{Fault}
 use Rattle.vkg_cli.specs.declared.stops.Stop.{Stop}
 use Rattle.vkg_cli.specs.declared.stops.Stop.TheVariants.{Refused, Read, Memory}
 

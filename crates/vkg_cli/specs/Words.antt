@@ -1,5 +1,5 @@
 -- What the words of the command line ask for.
-use Rattle.std.specs.Prelude.{◌≡◌, ℕ, Bool, true, false, List, [], ◌∷◌, Option, Some, None, if◌then◌else◌, codes, option_and_then, option_map}
+use Rattle.std.specs.Prelude.{◌≡◌, Bool, true, false, List, [], ◌∷◌, Option, Some, None, if◌then◌else◌, codes, option_and_then, option_map}
 use Rattle.std.specs.Str.{bytes_eq}
 use Rattle.clap.specs.Words.{Kinds, Row, Text, fault_of, first_of, subcommand_of}
 use Rattle.vkg_terms.specs.Iri.{is_absolute}
@@ -15,6 +15,7 @@ pub record Options : Type 0 where
   pub schema : Text
   pub folder : Text
   pub base : Text
+  pub mapping : Option Text
 
 -- what words ask for
 pub data Asked : Type 0 where
@@ -25,7 +26,7 @@ pub data Asked : Type 0 where
 abbrev pub dump_options : List Row → Option Options
 dump_options rows =
     option_and_then (λ schema. option_and_then (λ folder. option_map (λ base.
-    record { schema = schema; folder = folder; base = base })
+    record { schema = schema; folder = folder; base = base; mapping = first_of (codes "mapping") rows })
     (first_of (codes "base") rows)) (first_of (codes "data") rows)) (first_of (codes "schema") rows)
 
 -- the options of a command, by its name and its matches
@@ -55,7 +56,12 @@ asked_of words = if is_help words then help else with_base (taken_options words)
 
 -- the values of the options, as the program has them
 abbrev pub options_seen : DumpOptions → Options
-options_seen options = record { schema = options.schema.now; folder = options.data.now; base = options.base.now }
+options_seen options = record {
+  schema = options.schema.now;
+  folder = options.data.now;
+  base = options.base.now;
+  mapping = option_map (λ s. s.now) options.mapping;
+}
 
 abbrev pub request_seen : Request → Asked
 request_seen request.Help = help

@@ -1,11 +1,10 @@
 -- What the program does for `dump`, over known files.
-use Rattle.std.specs.Prelude.{◌≡◌, ℕ, ◌+◌, Bool, true, false, List, [], ◌∷◌, ◌++◌, codes, length, nat_lt, Option, Some, None, Result, Ok, Err, IfOk}
+use Rattle.std.specs.Prelude.{◌≡◌, ℕ, ◌+◌, Bool, true, false, List, ◌∷◌, [], ◌++◌, codes, length, nat_lt, Option, Some, None, Result, Ok, Err, IfOk}
 use Rattle.vkg_base.specs.Outside.{Files}
 use Rattle.vkg_terms.specs.Safe.{safe}
 use Rattle.vkg_schema.specs.declared.table.Table.{Table}
 use Rattle.vkg_schema.specs.Meets.{MeetsSchema}
-use Rattle.vkg_schema.specs.Rows.{Database, Row}
-use Rattle.vkg_cli.specs.declared.stops.Fault.{Fault}
+use Rattle.vkg_schema.specs.Rows.{Database}
 use Rattle.vkg_cli.specs.declared.stops.Fault.TheVariants as fault
 use Rattle.vkg_cli.specs.declared.stops.Stop.{Stop}
 use Rattle.vkg_cli.specs.declared.stops.Stop.TheVariants as stop
@@ -13,14 +12,19 @@ use Rattle.vkg_cli.specs.declared.load.TheConstants.{LIMIT}
 use Rattle.vkg_tables.specs.declared.fault.TableFault.{TableFault}
 use Rattle.vkg_direct.specs.declared.direct_error.DirectError.{DirectError}
 use Rattle.vkg_direct.specs.declared.direct_error.DirectError.TheVariants as direct_error
+use Rattle.vkg_direct.specs.DirectMapping.{direct_result}
+use Rattle.vkg_direct.specs.Laws.{GivesDirectGraph, MakesEachTerm}
 use Rattle.vkg_maps.specs.declared.mapping.Mapping.{Mapping}
+use Rattle.vkg_maps.specs.declared.data_fault.DataFault.{DataFault}
+use Rattle.vkg_maps.specs.DataFaults.{check_of, least_data_fault}
+use Rattle.vkg_maps.specs.Dataset.{dataset}
 use Rattle.vkg_tables.specs.Seen.{Seen, without_rows, loaded}
 use Rattle.vkg_tables.specs.Checks.{key_fault, reference_fault}
 use Rattle.vkg_schema.specs.Reading.{IsSchemaOf, IsFirstFault}
-use Rattle.vkg_direct.specs.DirectMapping.{direct_result}
-use Rattle.vkg_direct.specs.DirectGraph.{direct_graph}
-use Rattle.vkg_lists.specs.Sets.{HasSameMembers}
-use Rattle.vkg_maps.specs.Dataset.{dataset}
+use Rattle.vkg_turtle.specs.declared.triple.Triple.{Triple}
+use Rattle.vkg_turtle.specs.Reading.{IsDocumentOf, IsFirstFault as IsTurtleFault}
+use Rattle.vkg_r2rml.specs.declared.map_error.MapFault.{MapFault}
+use Rattle.vkg_r2rml.specs.Mapping.{mapping_of}
 use Rattle.vkg_quads.specs.Dump.{IsDump, dump}
 use Rattle.vkg_cli.specs.Stages.{Stage, Settles, Loads, Then}
 use Rattle.vkg_cli.specs.Words.{Options}
@@ -31,7 +35,8 @@ Reads bytes (Ok tables) = IsSchemaOf bytes tables
 Reads bytes (Err (stop.Refused (fault.Schema check at))) = IsFirstFault bytes (record { check = check; at = at })
 Reads bytes (Err (stop.Refused (fault.Table check table row column))) = ⊥
 Reads bytes (Err (stop.Refused (fault.Keyless table))) = ⊥
-Reads bytes (Err (stop.Refused fault.TooManyRules)) = ⊥
+Reads bytes (Err (stop.Refused (fault.Mapping check at))) = ⊥
+Reads bytes (Err (stop.Refused (fault.Data check map row term))) = ⊥
 Reads bytes (Err stop.Read) = ⊥
 Reads bytes (Err stop.Memory) = ⊥
 
@@ -72,43 +77,88 @@ abbrev pub checked : Option TableFault → Result (Unit {0}) Stop
 checked None = Ok tt
 checked (Some f) = Err (table_stop f)
 
+-- of a loaded database: the first repeated key, else the first reference without a target
+abbrev pub checks : Seen → Result (Unit {0}) Stop
+checks db = unless_fault (key_fault db.schema db.tables) (checked (reference_fault db.schema db.tables))
+
+-- where neither stands, the database meets its schema
+unfoldable pub Checks : Seen → Result (Unit {0}) Stop → Type 0
+Checks db outcome = (outcome ≡ checks db) × IfOk outcome (λ _. MeetsSchema db.schema db.tables)
+
 abbrev pub direct_stop : DirectError → Stop
 direct_stop (direct_error.NoPrimaryKey table) = stop.Refused (fault.Keyless table)
-direct_stop direct_error.TooManyRules = stop.Refused fault.TooManyRules
+direct_stop direct_error.TooManyRules = stop.Refused (fault.Mapping 22 0)
 direct_stop direct_error.Memory = stop.Memory
 
-abbrev pub mapping_or : Result Mapping DirectError → Result Mapping Stop
+abbrev pub direct_or : Result Mapping DirectError → Result Mapping Stop
+direct_or (Ok mapping) = Ok mapping
+direct_or (Err e) = Err (direct_stop e)
+
+-- the direct mapping of the schema, which makes each of its terms and whose dataset is the direct graph, or why there is none
+unfoldable pub MapsDirectly : List Table → List ℕ → Result Mapping Stop → Type 0
+MapsDirectly schema base outcome =
+    (outcome ≡ direct_or (direct_result schema base)) × IfOk outcome (λ mapping. GivesDirectGraph schema base mapping × MakesEachTerm schema mapping)
+
+-- the bytes are triples, or their first fault stands
+abbrev pub SaysTriples : List ℕ → List ℕ → Result (List Triple) Stop → Type 0
+SaysTriples bytes base (Ok triples) = IsDocumentOf bytes base triples
+SaysTriples bytes base (Err (stop.Refused (fault.Schema check at))) = ⊥
+SaysTriples bytes base (Err (stop.Refused (fault.Table check table row column))) = ⊥
+SaysTriples bytes base (Err (stop.Refused (fault.Keyless table))) = ⊥
+SaysTriples bytes base (Err (stop.Refused (fault.Mapping check at))) = IsTurtleFault bytes base (record { check = check; at = at })
+SaysTriples bytes base (Err (stop.Refused (fault.Data check map row term))) = ⊥
+SaysTriples bytes base (Err stop.Read) = ⊥
+SaysTriples bytes base (Err stop.Memory) = ⊥
+
+-- own: a mapping of 2147483648 bytes is past the limit (M22), before any other fault of it
+abbrev pub SaysUnlessLong : Bool → List ℕ → List ℕ → Result (List Triple) Stop → Type 0
+SaysUnlessLong true bytes base outcome = outcome ≡ Err (stop.Refused (fault.Mapping 22 2147483647))
+SaysUnlessLong false bytes base outcome = SaysTriples bytes base outcome
+
+unfoldable pub ReadsTriples : List ℕ → List ℕ → Result (List Triple) Stop → Type 0
+ReadsTriples bytes base outcome = SaysUnlessLong (nat_lt 2147483647 (length bytes)) bytes base outcome
+
+abbrev pub mapping_or : Result Mapping MapFault → Result Mapping Stop
 mapping_or (Ok mapping) = Ok mapping
-mapping_or (Err e) = Err (direct_stop e)
+mapping_or (Err f) = Err (stop.Refused (fault.Mapping f.check f.map))
 
-abbrev pub lines_or : List (List Row) → Result Mapping Stop → Result (List (List ℕ)) Stop
-lines_or db (Ok mapping) = Ok (dump (dataset mapping db))
-lines_or db (Err stop) = Err stop
+-- the triples are a mapping of the schema, or their least fault stands
+abbrev pub MapsTriples : List Triple → List Table → List ℕ → Result Mapping Stop → Type 0
+MapsTriples triples schema base outcome = outcome ≡ mapping_or (mapping_of triples schema base)
 
--- A Direct Mapping of Relational Data to RDF, 2: the database meets its schema, the dataset of the direct mapping over it
--- is its direct graph, and the lines are those of that dataset.
-pub record IsDirectDump (schema : List Table) (db : Database) (base : List ℕ) (lines : List (List ℕ)) : Type 0 where
-  pub meets : MeetsSchema schema db
-  pub mapping : Mapping
-  pub direct : direct_result schema base ≡ Ok mapping
-  pub graph : HasSameMembers (dataset mapping db) (direct_graph schema base db)
-  pub lines_are : lines ≡ dump (dataset mapping db)
-  pub ascending : IsDump lines (dataset mapping db)
+-- the mapping of a file
+abbrev pub LoadsText : Files → List ℕ → List Table → List ℕ → Stage Mapping
+LoadsText files name schema base =
+    Then (Loads LIMIT files name) (λ bytes. Then (Settles (ReadsTriples bytes base)) (λ triples. Settles (MapsTriples triples schema base)))
 
--- of a database that meets its schema: the direct mapping, or its first fault, and the lines
-abbrev pub DumpsDirect : Seen → List ℕ → Result (List (List ℕ)) Stop → Type 0
-DumpsDirect db base outcome = (outcome ≡ lines_or db.tables (mapping_or (direct_result db.schema base))) × IfOk outcome (IsDirectDump db.schema db.tables base)
+-- the mapping of the file where one is named, else the direct mapping
+abbrev pub LoadsMapping : Files → Option (List ℕ) → List Table → List ℕ → Stage Mapping
+LoadsMapping files None schema base = Settles (MapsDirectly schema base)
+LoadsMapping files (Some name) schema base = LoadsText files name schema base
 
--- of a loaded database: the first repeated key, the first reference without a target, and else its lines
-abbrev pub dumped : Seen → List ℕ → Result (List (List ℕ)) Stop
-dumped db base = unless_fault (key_fault db.schema db.tables) (unless_fault (reference_fault db.schema db.tables) (lines_or db.tables (mapping_or (direct_result db.schema base))))
+abbrev pub data_stop : DataFault → Stop
+data_stop f = stop.Refused (fault.Data (check_of f.fault) f.map f.row f.term)
 
-unfoldable pub Dumps : Seen → List ℕ → Result (List (List ℕ)) Stop → Type 0
-Dumps db base outcome = (outcome ≡ dumped db base) × IfOk outcome (IsDirectDump db.schema db.tables base)
+abbrev pub unless_data : Option DataFault → Result (List (List ℕ)) Stop → Result (List (List ℕ)) Stop
+unless_data None later = later
+unless_data (Some f) later = Err (data_stop f)
 
--- `dump`: the schema, then the tables in its order, then the text
+-- of a database that meets its schema and a mapping: the least data error, or the lines of the dataset
+abbrev pub dumped : Database → Mapping → Result (List (List ℕ)) Stop
+dumped db mapping = unless_data (least_data_fault mapping db) (Ok (dump (dataset mapping db)))
+
+-- the lines ascend and stand once each
+unfoldable pub Dumps : Database → Mapping → Result (List (List ℕ)) Stop → Type 0
+Dumps db mapping outcome = (outcome ≡ dumped db mapping) × IfOk outcome (λ lines. IsDump lines (dataset mapping db))
+
+-- the text of a loaded database: its keys and references are checked, the mapping is loaded, and the dataset is written
+abbrev pub WorksOn : Options → Files → Seen → Stage (List (List ℕ))
+WorksOn options files db =
+    Then (Settles (Checks db)) (λ met. Then (LoadsMapping files options.mapping db.schema options.base) (λ mapping. Settles (Dumps db.tables mapping)))
+
+-- `dump`: the schema, then the tables in its order, then the mapping and the text
 abbrev pub Works : Options → Files → Stage (List (List ℕ))
 Works options files =
     Then (Loads LIMIT files options.schema) (λ bytes.
     Then (Settles (ReadsSchema bytes)) (λ schema.
-    Then (LoadsTables files options.folder (without_rows schema) 0 schema) (λ db. Settles (Dumps db options.base))))
+    Then (LoadsTables files options.folder (without_rows schema) 0 schema) (λ db. WorksOn options files db)))

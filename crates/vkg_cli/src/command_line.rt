@@ -2,7 +2,7 @@
 ghost use Rattle.std.specs.Prelude.{◌≡◌, IfOk, false};
 ghost use Rattle.clap.specs.Words.{app_of, rule_of};
 ghost use Rattle.clap.specs.declared.builder.Command.TheViews.{out-Command};
-ghost use Rattle.vkg_cli.specs.CommandLine.{dump_app, option_rule, vkg_app};
+ghost use Rattle.vkg_cli.specs.CommandLine.{dump_app, option_rule, optional_rule, vkg_app};
 
 use clap::{Arg, ArgAction, Command};
 use std::alloc::{AllocError, Global};
@@ -18,6 +18,14 @@ fn option<'a>(alloc: Global, name: &'a str) -> Arg<'a>
         .action(ArgAction::Set)
 }
 
+/// An option with one value, which may be left out.
+fn optional<'a>(alloc: Global, name: &'a str) -> Arg<'a>
+    ensures rule { rule_of result ≡ optional_rule name.entry.now }
+    ensures local { result.global ≡ false }
+{
+    Arg::new(alloc, name).long(name).action(ArgAction::Set)
+}
+
 fn dump<'a>(alloc: Global) -> Result<Command<'a>, AllocError>
     ensures app { IfOk result (λ c. app_of c ≡ dump_app) }
     ensures local { IfOk result (λ c. (out-Command c).has_globals ≡ false) }
@@ -25,7 +33,8 @@ fn dump<'a>(alloc: Global) -> Result<Command<'a>, AllocError>
     Command::new(alloc, "dump")
         .arg(option(alloc, "schema"))?
         .arg(option(alloc, "data"))?
-        .arg(option(alloc, "base"))
+        .arg(option(alloc, "base"))?
+        .arg(optional(alloc, "mapping"))
 }
 
 /// The whole command line. No flag or command asks for help or a version, and a command has to be named.

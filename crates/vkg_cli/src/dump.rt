@@ -1,24 +1,21 @@
 // The text of `dump`.
-ghost use Rattle.std.specs.Prelude.{◌≡◌, None, Ok, IfOk, OnOk, true};
+ghost use Rattle.std.specs.Prelude.{◌≡◌, None, OnOk, option_map, true};
 ghost use Rattle.vkg_terms.specs.Iri.{is_absolute};
 ghost use Rattle.vkg_schema.specs.Meets.{MeetsSchema};
-ghost use Rattle.vkg_direct.specs.Laws.{GivesDirectGraph};
-ghost use Rattle.vkg_direct.specs.DirectMapping.{direct_result};
+ghost use Rattle.vkg_maps.specs.DataFaults.{least_data_fault};
 ghost use Rattle.vkg_tables.specs.Checks.{key_fault, reference_fault};
 ghost use Rattle.vkg_cli.specs.Stages.{Answers, Ran, done_or};
 ghost use Rattle.vkg_cli.specs.Words.{options_seen};
-ghost use Rattle.vkg_cli.specs.Work.{Dumps, DumpsDirect, Works, checked, mapping_or};
+ghost use Rattle.vkg_cli.specs.Work.{Checks, Dumps, Works, WorksOn, checked, data_stop as stop_of};
 
-use crate::Stop;
 use crate::load::{load_file, load_tables, schema_of, table_stop};
-use crate::stops::Fault;
+use crate::mapping::load_mapping;
 use crate::words::DumpOptions;
+use crate::{Fault, Stop};
 use std::alloc::Global;
 use vkg_base::{Lines, Memory, Store};
-use vkg_direct::{DirectError, direct};
-use vkg_maps::Mapping;
-use vkg_quads::dump_lines;
-use vkg_schema::Schema;
+use vkg_maps::{DataFault, Mapping};
+use vkg_quads::{dump_lines, scan_data};
 use vkg_tables::{Database, TableError};
 
 fn check_keys(alloc: Global, db: &Database) -> Result<(), Stop>
@@ -43,50 +40,82 @@ fn check_references(alloc: Global, db: &Database) -> Result<(), Stop>
     }
 }
 
-/// The direct mapping of the schema.
-fn direct_mapping(alloc: Global, schema: &Schema, base: &str) -> Result<Mapping, Stop>
-    requires { is_absolute base.now ≡ true }
-    ensures value { Answers (λ outcome. outcome ≡ mapping_or (direct_result schema.now base.now)) result }
-    ensures graph { IfOk result (GivesDirectGraph schema.now base.now) }
-{
-    match direct(alloc, schema, base) {
-        Ok(mapping) => Ok(mapping),
-        Err(DirectError::NoPrimaryKey(table)) => Err(Stop::Refused(Fault::Keyless { table })),
-        Err(DirectError::TooManyRules) => Err(Stop::Refused(Fault::TooManyRules)),
-        Err(DirectError::Memory) => Err(Stop::Memory),
-    }
-}
-
-/// The lines of a database that meets its schema.
-fn direct_lines(alloc: Global, db: &Database, base: &str) -> Result<Lines, Stop>
-    requires meets { MeetsSchema db.now.schema db.now.tables }
-    requires absolute { is_absolute base.now ≡ true }
-    ensures { Answers (DumpsDirect db.now base.now) result }
-{
-    match direct_mapping(alloc, db.schema(), base) {
-        Err(stop) => Err(stop),
-        Ok(mapping) => match dump_lines(alloc, &mapping, db) {
-            Ok(lines) => Ok(lines),
-            Err(Memory) => Err(Stop::Memory),
-        },
-    }
-}
-
-/// The lines of a loaded database, or the first fault of its rows or of its direct mapping.
-fn database_lines(alloc: Global, db: &Database, base: &str) -> Result<Lines, Stop>
-    requires { is_absolute base.now ≡ true }
-    ensures { Answers (Dumps db.now base.now) result }
+/// The first repeated key, else the first reference without a target.
+fn check(alloc: Global, db: &Database) -> Result<(), Stop>
+    ensures { Answers (Checks db.now) (done_or result) }
 {
     match check_keys(alloc, db) {
         Err(stop) => Err(stop),
-        Ok(()) => match check_references(alloc, db) {
-            Err(stop) => Err(stop),
-            Ok(()) => direct_lines(alloc, db, base),
-        },
+        Ok(()) => check_references(alloc, db),
     }
 }
 
-/// The text of `dump`: the schema, the tables in its order, and the lines.
+fn data_stop(fault: DataFault) -> Stop
+    ensures { result ≡ stop_of fault }
+{
+    Stop::Refused(Fault::Data {
+        check: fault.fault.check(),
+        map: fault.map,
+        row: fault.row,
+        term: fault.term,
+    })
+}
+
+/// The lines of the dataset of a mapping that makes each of its terms.
+fn faultless_lines(alloc: Global, mapping: &Mapping, db: &Database) -> Result<Lines, Stop>
+    requires { least_data_fault mapping.now db.now.tables ≡ None }
+    ensures { Answers (Dumps db.now.tables mapping.now) result }
+{
+    match dump_lines(alloc, mapping, db) {
+        Ok(lines) => Ok(lines),
+        Err(Memory) => Err(Stop::Memory),
+    }
+}
+
+/// The lines of the dataset, or the least data error.
+fn scanned_lines(alloc: Global, mapping: &Mapping, db: &Database) -> Result<Lines, Stop>
+    ensures { Answers (Dumps db.now.tables mapping.now) result }
+{
+    match scan_data(alloc, mapping, db) {
+        Err(Memory) => Err(Stop::Memory),
+        Ok(Some(fault)) => Err(data_stop(fault)),
+        Ok(None) => faultless_lines(alloc, mapping, db),
+    }
+}
+
+/// The lines of the dataset, or the least data error. The direct mapping has none, and its rows are not scanned for one.
+fn lines(alloc: Global, file: Option<&str>, mapping: &Mapping, db: &Database) -> Result<Lines, Stop>
+    requires { file ≡ None → least_data_fault mapping.now db.now.tables ≡ None }
+    ensures { Answers (Dumps db.now.tables mapping.now) result }
+{
+    match file {
+        None => faultless_lines(alloc, mapping, db),
+        Some(_) => scanned_lines(alloc, mapping, db),
+    }
+}
+
+/// The text of a loaded database: its keys and references, then the mapping, then the lines.
+fn database_lines<S: Store>(
+    alloc: Global,
+    store: &mut S,
+    options: &DumpOptions<'_>,
+    db: &Database,
+) -> Result<Lines, Stop>
+    requires { is_absolute options.now.base.now ≡ true }
+    ensures { Ran (λ files. WorksOn (options_seen options.now) files db.now) (S.state store.old) (S.state store.new) result }
+{
+    match check(alloc, db) {
+        Ok(()) => {}
+        Err(stop) => return Err(stop),
+    }
+    let mapping = match load_mapping(alloc, store, options.mapping, db.schema(), options.base) {
+        Ok(mapping) => mapping,
+        Err(stop) => return Err(stop),
+    };
+    lines(alloc, options.mapping, &mapping, db)
+}
+
+/// The text of `dump`: the schema, the tables in its order, the mapping, and the lines.
 pub fn dump<S: Store>(
     alloc: Global,
     store: &mut S,
@@ -107,5 +136,5 @@ pub fn dump<S: Store>(
         Ok(db) => db,
         Err(stop) => return Err(stop),
     };
-    database_lines(alloc, &db, options.base)
+    database_lines(alloc, store, options, &db)
 }

@@ -1,6 +1,6 @@
 // The lines of the standard error that name a fault. They take no memory.
-ghost use Rattle.std.specs.Prelude.{◌≡◌, ◌+◌, ◌≤◌, ◌++◌, codes, length, map};
-ghost use Rattle.vkg_cli.specs.FaultLine.{direct_words as direct_words_of, fault_line as line_of, schema_words as schema_words_of, status_of, table_words as table_words_of, usage_line as usage_line_of, words_at as words_in};
+ghost use Rattle.std.specs.Prelude.{◌≡◌, ◌≤◌, ◌++◌, codes, length, map};
+ghost use Rattle.vkg_cli.specs.FaultLine.{data_words as data_words_of, fault_line as line_of, mapping_words as mapping_words_of, place_line as place_line_of, places_line as places_line_of, schema_words as schema_words_of, status_of, table_words as table_words_of, usage_line as usage_line_of, words_at as words_in};
 
 use crate::{Fault, Usage};
 use vkg_base::{FixedLine, Status};
@@ -41,6 +41,36 @@ pub const TABLE_CHECKS: [&str; 12] = [
     "T11 limit",
 ];
 
+/// The checks of a mapping, by their number.
+pub const MAPPING_CHECKS: [&str; 23] = [
+    "",
+    "M01 lexical",
+    "M02 grammar",
+    "M03 too deep",
+    "M04 prefix unknown",
+    "M05 bad IRI",
+    "M06 logical table",
+    "M07 table name",
+    "M08 view",
+    "M09 table unknown",
+    "M10 subject map",
+    "M11 term map kind",
+    "M12 column unknown",
+    "M13 bad template",
+    "M14 doubtful template",
+    "M15 term type",
+    "M16 language or datatype",
+    "M17 predicate or object missing",
+    "M18 parent unknown",
+    "M19 condition missing",
+    "M20 incomparable columns",
+    "M21 no triples map",
+    "M22 limit",
+];
+
+/// The checks of the terms that a mapping makes of rows, by their number.
+pub const DATA_CHECKS: [&str; 4] = ["", "X01 not an IRI", "X02 ill-typed", "X03 number too wide"];
+
 fn words_at(checks: &[&'static str], check: u8) -> &'static str
     ensures { result.now ≡ words_in (map (λ words. words.now) checks.entry.now) check }
 {
@@ -64,6 +94,20 @@ fn table_words(check: u8) -> &'static str
     words_at(&TABLE_CHECKS, check)
 }
 
+fn mapping_words(check: u8) -> &'static str
+    ensures words { result.now ≡ mapping_words_of check }
+    ensures short { length result.now ≤ 32 }
+{
+    words_at(&MAPPING_CHECKS, check)
+}
+
+fn data_words(check: u8) -> &'static str
+    ensures words { result.now ≡ data_words_of check }
+    ensures short { length result.now ≤ 32 }
+{
+    words_at(&DATA_CHECKS, check)
+}
+
 /// The line up to its places.
 fn start(words: &str) -> FixedLine
     requires { length words.now ≤ 32 }
@@ -77,34 +121,28 @@ fn start(words: &str) -> FixedLine
     line
 }
 
-fn schema_line(check: u8, at: usize) -> FixedLine
-    ensures { result ≡ line_of (Fault.Schema check at) }
-{
-    let mut line = start(schema_words(check));
-    line.push_number(at as u64);
-    line.push_str("\n");
-    line
-}
-
-fn table_line(check: u8, table: usize, row: usize, column: usize) -> FixedLine
-    ensures { result ≡ line_of (Fault.Table check table row column) }
-{
-    let mut line = start(table_words(check));
-    line.push_number(table as u64);
-    line.push_str(":");
-    line.push_number(row as u64);
-    line.push_str(":");
-    line.push_number(column as u64);
-    line.push_str("\n");
-    line
-}
-
-fn direct_line(words: &str, at: usize) -> FixedLine
+/// The line of a fault with one place.
+fn place_line(words: &str, at: usize) -> FixedLine
     requires { length words.now ≤ 32 }
-    ensures { result ≡ direct_words_of words.now at }
+    ensures { result ≡ place_line_of words.now at }
 {
     let mut line = start(words);
     line.push_number(at as u64);
+    line.push_str("\n");
+    line
+}
+
+/// The line of a fault with three places.
+fn places_line(words: &str, first: usize, second: usize, third: usize) -> FixedLine
+    requires { length words.now ≤ 32 }
+    ensures { result ≡ places_line_of words.now first second third }
+{
+    let mut line = start(words);
+    line.push_number(first as u64);
+    line.push_str(":");
+    line.push_number(second as u64);
+    line.push_str(":");
+    line.push_number(third as u64);
     line.push_str("\n");
     line
 }
@@ -114,15 +152,21 @@ pub fn fault_line(fault: Fault) -> FixedLine
     ensures { result ≡ line_of fault }
 {
     match fault {
-        Fault::Schema { check, at } => schema_line(check, at),
+        Fault::Schema { check, at } => place_line(schema_words(check), at),
         Fault::Table {
             check,
             table,
             row,
             column,
-        } => table_line(check, table, row, column),
-        Fault::Keyless { table } => direct_line("D01 no primary key", table),
-        Fault::TooManyRules => direct_line("M22 limit", 0),
+        } => places_line(table_words(check), table, row, column),
+        Fault::Keyless { table } => place_line("D01 no primary key", table),
+        Fault::Mapping { check, at } => place_line(mapping_words(check), at),
+        Fault::Data {
+            check,
+            map,
+            row,
+            term,
+        } => places_line(data_words(check), map, row, term),
     }
 }
 
@@ -133,7 +177,8 @@ pub fn fault_status(fault: Fault) -> Status
     match fault {
         Fault::Schema { .. } => Status::BadSchema,
         Fault::Table { .. } => Status::BadTable,
-        Fault::Keyless { .. } | Fault::TooManyRules => Status::BadMapping,
+        Fault::Keyless { .. } | Fault::Mapping { .. } => Status::BadMapping,
+        Fault::Data { .. } => Status::BadData,
     }
 }
 

@@ -6,6 +6,7 @@ mod command_line;
 mod dump;
 mod fault_line;
 mod load;
+mod mapping;
 mod stops;
 mod top;
 mod words;

@@ -33,8 +33,19 @@ pub enum Fault {
     Keyless {
         table: usize,
     },
-    /// The direct mapping has more quad rules than a mapping may have.
-    TooManyRules,
+    /// A check of the mapping fails: of its text at a byte, else at a triples map, which count from 1, or at 0 for all
+    /// of it.
+    Mapping {
+        check: u8,
+        at: usize,
+    },
+    /// A term map makes no term of a row. Triples maps and rows count from 1, the term maps of a triples map from 0.
+    Data {
+        check: u8,
+        map: usize,
+        row: usize,
+        term: usize,
+    },
 }
 
 /// Why a text is not made.

@@ -35,7 +35,7 @@ fn help_is_written(rt: HostRuntime) -> Result<(), Fail> {
     assert!(rt; ended.status == Status::Done);
     assert_eq!(rt;
         ended.out.as_slice(),
-        b"vkg dump --schema F --data DIR --base IRI\n".as_slice()
+        b"vkg dump --schema F --data DIR --base IRI [--mapping F]\n".as_slice()
     );
     assert_eq!(rt; ended.err.as_slice(), b"".as_slice());
     Ok(())
@@ -287,5 +287,101 @@ fn tables_without_rows_dump_nothing(rt: HostRuntime) -> Result<(), Fail> {
         Vec::new(alloc),
     )?;
     writes_nothing(&rt, ended, Status::Done, b"");
+    Ok(())
+}
+
+/// `dump` of one table by a mapping, both in memory.
+fn mapped(alloc: Global, schema: &str, table: (&str, &str), mapping: &str) -> Result<Ended, Fail> {
+    let mut all = Vec::new(alloc);
+    for word in [
+        "vkg",
+        "dump",
+        "--schema=s",
+        "--data=d",
+        "--mapping=m",
+        "--base=http://e/",
+    ] {
+        all.push(String::from_str(alloc, word)?)?;
+    }
+    let mut files = Vec::new(alloc);
+    files.push(file(alloc, "s", schema)?)?;
+    files.push(file(alloc, table.0, table.1)?)?;
+    files.push(file(alloc, "m", mapping)?)?;
+    let mut store = MemStore::new(files, Vec::new(alloc));
+    let mut out = MemSink::with_room(alloc, 4000, Vec::new(alloc))?;
+    let mut err = MemSink::with_room(alloc, 200, Vec::new(alloc))?;
+    let status = vkg(alloc, &all, &mut store, &mut out, &mut err);
+    Ok(Ended {
+        status,
+        out: out.taken().to_vec(alloc)?,
+        err: err.taken().to_vec(alloc)?,
+    })
+}
+
+const PAIRS: &str = "CREATE TABLE p (a VARCHAR(9), b VARCHAR(9), PRIMARY KEY (a, b));";
+
+const LINKS: &str = "CREATE TABLE t (k INTEGER PRIMARY KEY, u VARCHAR(30));";
+
+const KEYED: &str =
+    "<#m> <http://www.w3.org/ns/r2rml#logicalTable> [ <http://www.w3.org/ns/r2rml#tableName> \"t\" ] ; <http://www.w3.org/ns/r2rml#subjectMap> [ <http://www.w3.org/ns/r2rml#column> \"u\" ] ; <http://www.w3.org/ns/r2rml#predicateObjectMap> [ <http://www.w3.org/ns/r2rml#predicate> <http://e/k> ; <http://www.w3.org/ns/r2rml#objectMap> [ <http://www.w3.org/ns/r2rml#column> \"k\" ] ] .";
+
+/// Two rows that make one quad give one line.
+#[test]
+fn a_mapping_gives_a_set(rt: HostRuntime) -> Result<(), Fail> {
+    let ended = mapped(
+        rt.alloc(),
+        PAIRS,
+        ("d/p.csv", "a,b\nx-y,z\nx,y-z\n"),
+        "@prefix rr: <http://www.w3.org/ns/r2rml#> . <#m> rr:logicalTable [ rr:tableName \"p\" ] ; rr:subjectMap [ rr:template \"http://e/{a}-{b}\" ; rr:class <http://e/C> ] .",
+    )?;
+    assert!(rt; ended.status == Status::Done);
+    assert_eq!(rt;
+        ended.out.as_slice(),
+        b"<http://e/x-y-z> <http://www.w3.org/1999/02/22-rdf-syntax-ns#type> <http://e/C> .\n".as_slice()
+    );
+    Ok(())
+}
+
+#[test]
+fn a_column_gives_absolute_and_relative_iris(rt: HostRuntime) -> Result<(), Fail> {
+    let ended = mapped(
+        rt.alloc(),
+        LINKS,
+        ("d/t.csv", "k,u\n1,q\n2,http://e/q\n"),
+        KEYED,
+    )?;
+    assert!(rt; ended.status == Status::Done);
+    assert_eq!(rt;
+        ended.out.as_slice(),
+        b"<http://e/q> <http://e/k> \"1\"^^<http://www.w3.org/2001/XMLSchema#integer> .\n<http://e/q> <http://e/k> \"2\"^^<http://www.w3.org/2001/XMLSchema#integer> .\n".as_slice()
+    );
+    Ok(())
+}
+
+#[test]
+fn a_term_is_not_made(rt: HostRuntime) -> Result<(), Fail> {
+    let ended = mapped(rt.alloc(), LINKS, ("d/t.csv", "k,u\n1,q\n2,a b\n"), KEYED)?;
+    writes_nothing(
+        &rt,
+        ended,
+        Status::BadData,
+        b"vkg: X01 not an IRI at 1:2:0\n",
+    );
+    Ok(())
+}
+
+#[test]
+fn a_mapping_is_refused(rt: HostRuntime) -> Result<(), Fail> {
+    for (mapping, line) in [
+        ("", "vkg: M21 no triples map at 0\n"),
+        ("<#m> a:b \"c\" .", "vkg: M04 prefix unknown at 5\n"),
+        (
+            "@prefix rr: <http://www.w3.org/ns/r2rml#> . <#m> rr:logicalTable [ rr:tableName \"t\" ] ; rr:subjectMap [ rr:template \"http://e/{nope}\" ] .",
+            "vkg: M12 column unknown at 1\n",
+        ),
+    ] {
+        let ended = mapped(rt.alloc(), LINKS, ("d/t.csv", "k,u\n1,q\n"), mapping)?;
+        writes_nothing(&rt, ended, Status::BadMapping, line.as_bytes());
+    }
     Ok(())
 }

@@ -11,7 +11,7 @@ use crate::words::{Request, read_request};
 use std::alloc::Global;
 use vkg_base::{Lines, Memory, Sink, Status, Store};
 
-const HELP: &str = "vkg dump --schema F --data DIR --base IRI\n";
+const HELP: &str = "vkg dump --schema F --data DIR --base IRI [--mapping F]\n";
 
 /// Tells one line. A sink that fails changes nothing else.
 fn tell<E: Sink>(err: &mut E, line: &str)
@@ -105,7 +105,7 @@ fn run<S: Store, O: Sink, E: Sink>(
 
 /// Does what the words ask for, of which the first is the program's name: loads files from the store, writes to `out`, and
 /// tells one line of `err` where it stops.
-#[tactic(auto, using(crate::proofs::Clauses::done_only, crate::proofs::Clauses::usage_exactly, crate::proofs::Clauses::bad_schema, crate::proofs::Clauses::bad_table, crate::proofs::Clauses::bad_mapping, crate::proofs::Clauses::read_only, crate::proofs::Clauses::write_only, crate::proofs::Clauses::memory_told, crate::proofs::Clauses::no_other, crate::proofs::Clauses::complete, crate::proofs::Clauses::help_given, crate::proofs::Clauses::untouched, crate::proofs::Clauses::in_order))]
+#[tactic(auto, using(crate::proofs::Clauses::done_only, crate::proofs::Clauses::usage_exactly, crate::proofs::Clauses::bad_schema, crate::proofs::Clauses::bad_table, crate::proofs::Clauses::bad_mapping, crate::proofs::Clauses::bad_data, crate::proofs::Clauses::read_only, crate::proofs::Clauses::write_only, crate::proofs::Clauses::memory_told, crate::proofs::Clauses::no_other, crate::proofs::Clauses::complete, crate::proofs::Clauses::help_given, crate::proofs::Clauses::untouched, crate::proofs::Clauses::in_order))]
 pub fn vkg<S: Store, O: Sink, E: Sink>(
     alloc: Global,
     words: &Vec<String>,
@@ -126,6 +126,9 @@ pub fn vkg<S: Store, O: Sink, E: Sink>(
         (record { store = S.state store.old; out = O.state out.old; err = E.state err.old })
         (record { store = S.state store.new; out = O.state out.new; err = E.state err.new }) result }
     ensures bad_mapping { IsRefusedExactly Status.BadMapping (asked_of (map string_bytes words.now.items))
+        (record { store = S.state store.old; out = O.state out.old; err = E.state err.old })
+        (record { store = S.state store.new; out = O.state out.new; err = E.state err.new }) result }
+    ensures bad_data { IsRefusedExactly Status.BadData (asked_of (map string_bytes words.now.items))
         (record { store = S.state store.old; out = O.state out.old; err = E.state err.old })
         (record { store = S.state store.new; out = O.state out.new; err = E.state err.new }) result }
     ensures read_fault { IsReadFaultOnly

@@ -21,6 +21,8 @@ pub struct DumpOptions<'w> {
     pub data: &'w str,
     /// The base IRI.
     pub base: &'w str,
+    /// The file of the mapping; without one it is the direct mapping.
+    pub mapping: Option<&'w str>,
 }
 
 /// What the words ask for.
@@ -45,6 +47,7 @@ fn read_dump<'w>(matches: &ArgMatches<'w>) -> Option<DumpOptions<'w>>
         schema: value(matches, "schema")?,
         data: value(matches, "data")?,
         base: value(matches, "base")?,
+        mapping: value(matches, "mapping"),
     })
 }
 

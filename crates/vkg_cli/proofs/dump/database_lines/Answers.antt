@@ -1,13 +1,23 @@
-use Rattle.vkg_cli.proofs.DirectLemmas.{dumps_keys, dumps_lines, dumps_references, none_found}
+use Rattle.std.proofs.Common.{Ok, Err}
+use Rattle.vkg_cli.proofs.DumpLemmas.{meets_of, none_of}
+use Rattle.vkg_cli.proofs.Ran.{determined_settles, ran_settle, ran_stop, ran_then}
+use Rattle.vkg_cli.proofs.Whole.{determined_mapping, one_check}
 use Rattle.vkg_cli.proofs.dump.database_lines.Goals as goal
 
 pub returns-in-Err : goal.returns-in-Err
-returns-in-Err c = dumps_keys c.args.db.now c.args.base.now c.in-Err.stop c.in-Err.ensures
+returns-in-Err g c = ran_stop _ _ _ _ _ (ran_settle _ _ (Err c.in-Err.stop) c.in-Err.ensures)
 
-pub returns-in-Err-check_references : goal.returns-in-Err-check_references
-returns-in-Err-check_references c =
-    dumps_references c.args.db.now c.args.base.now (none_found _ c.in-Ok.ensures) c.in-Err-check_references.stop c.in-Err-check_references.ensures.value
+pub returns-in-Err-load_mapping : goal.returns-in-Err-load_mapping
+returns-in-Err-load_mapping g c =
+    ran_then _ _ tt _ _ _ _ (λ files. determined_settles _ (one_check _)) (ran_settle _ _ (Ok tt) c.in-Ok.ensures)
+    (ran_stop _ _ _ _ _ (rw c.schema.ensures at c.in-Err-load_mapping.ensures.ran))
 
-pub returns-in-Ok-check_references : goal.returns-in-Ok-check_references
-returns-in-Ok-check_references c =
-    dumps_lines c.args.db.now c.args.base.now (none_found _ c.in-Ok.ensures) (none_found _ c.in-Ok-check_references.ensures.value) _ c.direct_lines.ensures
+pub lines-requires : goal.lines-requires
+lines-requires g c =
+    λ none. none_of c.args.db.now.tables c.in-Ok-load_mapping.mapping ((rw c.schema.ensures at c.in-Ok-load_mapping.ensures.faultless none) _ (meets_of _ c.in-Ok.ensures))
+
+pub returns : goal.returns
+returns g c =
+    ran_then _ _ tt _ _ _ _ (λ files. determined_settles _ (one_check _)) (ran_settle _ _ (Ok tt) c.in-Ok.ensures)
+    (ran_then _ _ _ _ _ _ _ (λ files. determined_mapping files _ _ _) (rw c.schema.ensures at c.in-Ok-load_mapping.ensures.ran)
+    (ran_settle _ _ c.lines.result c.lines.ensures))

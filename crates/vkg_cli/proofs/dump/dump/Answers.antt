@@ -28,5 +28,4 @@ returns g c =
     let is = subst (λ b. Answers {A = List Table} (ReadsSchema b) (Ok c.in-Ok-schema_of.schema)) c.deref.ensures.value c.in-Ok-schema_of.ensures in
     ran_then _ _ _ _ _ _ _ (λ files. determined_loads LIMIT files _) c.in-Ok.ensures
     (ran_then _ _ _ _ _ _ _ (λ files. determined_settles _ (one_schema _)) (ran_settle _ _ (Ok c.in-Ok-schema_of.schema) is)
-    (ran_then _ _ _ _ _ _ _ (λ files. determined_tables files _ _ 0 _) c.in-Ok-load_tables.ensures
-    (ran_settle _ _ c.database_lines.result c.database_lines.ensures)))
+    (ran_then _ _ _ _ _ _ _ (λ files. determined_tables files _ _ 0 _) c.in-Ok-load_tables.ensures c.database_lines.ensures))

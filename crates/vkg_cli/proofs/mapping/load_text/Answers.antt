@@ -1,0 +1,23 @@
+use Rattle.std.proofs.Common.{List, Ok, Err, subst}
+use Rattle.vkg_turtle.specs.declared.triple.Triple.{Triple}
+use Rattle.vkg_cli.specs.declared.load.TheConstants.{LIMIT}
+use Rattle.vkg_cli.specs.Stages.{Answers}
+use Rattle.vkg_cli.specs.Work.{ReadsTriples}
+use Rattle.vkg_cli.proofs.Ran.{determined_loads, determined_settles, ran_settle, ran_stop, ran_then}
+use Rattle.vkg_cli.proofs.Whole.{one_document}
+use Rattle.vkg_cli.proofs.mapping.load_text.Goals as goal
+
+pub returns-in-Err : goal.returns-in-Err
+returns-in-Err g c = ran_stop _ _ _ _ _ c.in-Err.ensures
+
+pub returns-in-Err-triples_of : goal.returns-in-Err-triples_of
+returns-in-Err-triples_of g c =
+    let is = subst (λ b. Answers {A = List Triple} (ReadsTriples b c.args.base.now) (Err c.in-Err-triples_of.stop)) c.deref.ensures.value c.in-Err-triples_of.ensures in
+    ran_then _ _ _ _ _ _ _ (λ files. determined_loads LIMIT files _) c.in-Ok.ensures (ran_stop _ _ _ _ _ (ran_settle _ _ (Err c.in-Err-triples_of.stop) is))
+
+pub returns : goal.returns
+returns g c =
+    let is = subst (λ b. Answers {A = List Triple} (ReadsTriples b c.args.base.now) (Ok c.in-Ok-triples_of.triples)) c.deref.ensures.value c.in-Ok-triples_of.ensures in
+    ran_then _ _ _ _ _ _ _ (λ files. determined_loads LIMIT files _) c.in-Ok.ensures
+    (ran_then _ _ _ _ _ _ _ (λ files. determined_settles _ (one_document _ _)) (ran_settle _ _ (Ok c.in-Ok-triples_of.triples) is)
+    (ran_settle _ _ c.mapping_of.result (rw c.as_slice.ensures at c.mapping_of.ensures)))
