@@ -1,5 +1,5 @@
 #!/usr/bin/env python3
-"""Times `vkg dump` on generated tables, and prints one line a case and size: rows, quads, seconds, peak memory.
+"""Times `vkg dump` on generated tables, and prints one line a case and size: rows, quads, processor seconds, peak memory.
 
 usage: benchmarks/dump.py [N ..]     (default: 10000 100000; build the program first, with ./vkg dump --help; VKG names another program)
 
@@ -13,7 +13,6 @@ import os
 import subprocess
 import sys
 import tempfile
-import time
 
 PROGRAM = os.environ.get('VKG') or os.path.join(os.path.dirname(os.path.abspath(__file__)), '..', 'crates', 'vkg', 'out', 'vkg')
 
@@ -72,10 +71,9 @@ def run_once(folder, mapping):
     out = os.path.join(folder, 'out.nq')
     words = [PROGRAM, 'dump', '--schema', folder + '/schema.sql', '--data', folder, '--base', 'http://e/']
     with open(out, 'wb') as sink:
-        begun = time.monotonic()
         process = subprocess.Popen(words + (['--mapping', folder + '/mapping.ttl'] if mapping else []), stdout=sink)
         _, status, usage = os.wait4(process.pid, 0)
-        seconds = time.monotonic() - begun
+        seconds = usage.ru_utime + usage.ru_stime
     if status != 0:
         sys.exit('the program ended with status %d' % os.waitstatus_to_exitcode(status))
     with open(out, 'rb') as file:
