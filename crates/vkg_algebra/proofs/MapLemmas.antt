@@ -1,0 +1,165 @@
+-- Solutions as maps: when two are one, joins of maps by what they bind, the left join in words.
+use Rattle.std.proofs.Common.{◌≡◌, ◌∙◌, ◌↔◌, ◌⊎◌, ℕ, zero, suc, ◌<◌, Bool, true, false, not, ◌&&◌, cond, IsTrue, IsSome, List, [], ◌∷◌, ◌++◌, length, max, Option, Some, None, inl, inr, ⊎_elim, refl, sym, ap, subst, true≢false, arith, append-nil}
+use Rattle.std.specs.Bool.{Decides}
+use Rattle.std.specs.Cmp.Lexicographic.{pointwise}
+use Rattle.std.specs.List.{Contains, filter, flat_map, list_all, list_any}
+use Rattle.std.specs.Option.{option_eq, option_or}
+use Rattle.std.proofs.lemmas.Bool.{cases_Bool}
+use Rattle.std.proofs.lemmas.List.Elements.{Contains-append_left, Contains-append_right, Contains-append_cases}
+use Rattle.vkg_lists.specs.Rows.{value_at, merged_if_compatible}
+use Rattle.vkg_lists.specs.Sets.{IsEqualityTest}
+use Rattle.vkg_lists.proofs.Counts.{Decides-list_any, eq_same}
+use Rattle.vkg_lists.proofs.Members.{Contains-none, Contains-here, Contains-there, Contains-cons_cases, Contains-filter, Contains-from_filter, Contains-flat_map, Contains-from_flat_map}
+use Rattle.vkg_lists.proofs.Rows.{Decides-compatible, length-merge, value_at-merge}
+use Rattle.vkg_lists.proofs.Tests.{list_test, nat_test, option_test}
+use Rattle.vkg_maps.specs.Dataset.{quad_eq}
+use Rattle.vkg_maps.proofs.Quads.{quads_apart}
+use Rattle.vkg_terms.specs.declared.term.Term.{Term}
+use Rattle.vkg_terms.specs.declared.term.Term.TheVariants.{Iri}
+use Rattle.vkg_terms.specs.NQuads.{Quad}
+use Rattle.vkg_terms.specs.Same.{term_eq}
+use Rattle.vkg_algebra.specs.Answer.{solution_eq}
+use Rattle.vkg_algebra.specs.Laws.{AreCompatible, IsAlone, IsJoined, IsLeftJoin, KeepsMaps}
+use Rattle.vkg_algebra.specs.Solutions.{Solution, compatible, difference, join, left_join, lookup, merge}
+
+-- ---- tests of terms and of solutions
+
+abbrev about : Term → Quad
+about t = record { subject = t; predicate = Iri []; object = Iri []; graph = None }
+
+all_true : (b : Bool) → b ≡ true → ((b && true) && true) && true ≡ true
+all_true true h = refl
+all_true false h = h
+
+one_true : (b : Bool) → ((b && true) && true) && true ≡ true → b ≡ true
+one_true true h = refl
+one_true false h = h
+
+pub term_test : IsEqualityTest term_eq
+term_test = record {
+  decides = λ s t. (
+    λ h. ap (λ (q : Quad). q.subject) ((quads_apart.decides (about s) (about t)).0 (all_true (term_eq s t) h)),
+    λ e. one_true (term_eq s t) ((quads_apart.decides (about s) (about t)).1 (ap about e)),
+  );
+}
+
+pub solution_test : IsEqualityTest solution_eq
+solution_test = list_test (option_test term_test)
+
+-- ---- maps
+
+-- two maps of one size that bind the same are one
+pub same_map : (s t : Solution) → length s ≡ length t → ((v : ℕ) → lookup s v ≡ lookup t v) → s ≡ t
+same_map [] [] e h = refl
+same_map [] (y ∷ t) e h = absurd (omega arith)
+same_map (x ∷ s) [] e h = absurd (omega arith)
+same_map (x ∷ s) (y ∷ t) e h = λ i. h 0 i ∷ same_map s t (omega arith) (λ v. h (suc v)) i
+
+-- compatible in words
+pub says_compatible : (l r : Solution) → Decides (compatible l r) (AreCompatible l r)
+says_compatible l r = Decides-compatible term_test l r
+
+pub keeps_maps : (l r : Solution) → KeepsMaps l r
+keeps_maps l r = record { tested = says_compatible l r; merged = value_at-merge l r }
+
+pub in_one : {A : Type 0} (b : Bool) (x z : A) → Contains (cond b (x ∷ []) []) z → (b ≡ true) × (x ≡ z)
+in_one true x z c = ⊎_elim (λ e. (refl, e)) (λ d. absurd (Contains-none z d)) (Contains-cons_cases x [] z c)
+in_one false x z c = absurd (Contains-none z c)
+
+one_in : {A : Type 0} (b : Bool) (x : A) → b ≡ true → Contains (cond b (x ∷ []) []) x
+one_in true x h = Contains-here x []
+one_in false x h = absurd (true≢false (sym h))
+
+-- a map of a join is merged from two
+pub record IsPair (ls rs : List Solution) (m : Solution) : Type 0 where
+  pub first : Solution
+  pub second : Solution
+  pub of_first : Contains ls first
+  pub of_second : Contains rs second
+  pub agree : compatible first second ≡ true
+  pub is : merge first second ≡ m
+
+pub Contains-from_join : (ls rs : List Solution) (m : Solution) → Contains (join ls rs) m → IsPair ls rs m
+Contains-from_join ls rs m c =
+    let outer = Contains-from_flat_map (λ l. flat_map (λ r. merged_if_compatible term_eq l r) rs) ls m c in
+    let inner = Contains-from_flat_map (λ r. merged_if_compatible term_eq outer.0 r) rs m outer.2 in
+    let one = in_one (compatible outer.0 inner.0) (merge outer.0 inner.0) m inner.2 in
+    record { first = outer.0; second = inner.0; of_first = outer.1; of_second = inner.1; agree = one.0; is = one.1 }
+
+pub Contains-join : (ls rs : List Solution) (l r : Solution) → Contains ls l → Contains rs r → compatible l r ≡ true → Contains (join ls rs) (merge l r)
+Contains-join ls rs l r c d h =
+    Contains-flat_map (λ l. flat_map (λ r. merged_if_compatible term_eq l r) rs) ls l (merge l r) c
+    (Contains-flat_map (λ r. merged_if_compatible term_eq l r) rs r (merge l r) d (one_in (compatible l r) (merge l r) h))
+
+-- ---- the left join
+
+first_true : (b c : Bool) → b && c ≡ true → b ≡ true
+first_true true c h = refl
+first_true false c h = h
+
+second_true : (b c : Bool) → b && c ≡ true → c ≡ true
+second_true true c h = h
+second_true false c h = absurd (true≢false (sym h))
+
+two_true : (b c : Bool) → b ≡ true → c ≡ true → b && c ≡ true
+two_true true c e h = h
+two_true false c e h = e
+
+each_of_all : {A : Type 0} (p : A → Bool) (xs : List A) → list_all p xs ≡ true → (x : A) → Contains xs x → p x ≡ true
+each_of_all p [] h x c = absurd (Contains-none x c)
+each_of_all p (y ∷ xs) h x c = ⊎_elim (λ e. ap p (sym e) ∙ first_true (p y) (list_all p xs) h) (λ d. each_of_all p xs (second_true (p y) (list_all p xs) h) x d) (Contains-cons_cases y xs x c)
+
+all_of_each : {A : Type 0} (p : A → Bool) (xs : List A) → ((x : A) → Contains xs x → p x ≡ true) → list_all p xs ≡ true
+all_of_each p [] h = refl
+all_of_each p (y ∷ xs) h = two_true (p y) (list_all p xs) (h y (Contains-here y xs)) (all_of_each p xs (λ x c. h x (Contains-there y xs x c)))
+
+not_both : (b c : Bool) → not (b && c) ≡ true → b ≡ true → c ≡ true → ⊥
+not_both true true h e f = true≢false (sym h)
+not_both true false h e f = true≢false (sym f)
+not_both false c h e f = true≢false (sym e)
+
+both_not : (b c : Bool) → (b ≡ true → c ≡ true → ⊥) → not (b && c) ≡ true
+both_not true true h = absurd (h refl refl)
+both_not true false h = refl
+both_not false c h = refl
+
+module _ (holds : Solution → Bool) (ls rs : List Solution) where
+  apart : Solution → Bool
+  apart l = list_all (λ r. not (compatible l r && holds (merge l r))) rs
+
+  joined_of : (m : Solution) → Contains (filter holds (join ls rs)) m → IsJoined holds ls rs m
+  joined_of m c =
+      let kept = Contains-from_filter holds (join ls rs) m c in
+      let pair = Contains-from_join ls rs m kept.0 in
+      record {
+        first = pair.first;
+        second = pair.second;
+        of_first = pair.of_first;
+        of_second = pair.of_second;
+        agree = (says_compatible pair.first pair.second).0 pair.agree;
+        is = sym pair.is;
+        passes = kept.1;
+      }
+
+  of_joined : (m : Solution) → IsJoined holds ls rs m → Contains (filter holds (join ls rs)) m
+  of_joined m j =
+      let in_join = Contains-join ls rs j.first j.second j.of_first j.of_second ((says_compatible j.first j.second).1 j.agree) in
+      Contains-filter holds (join ls rs) m (subst (Contains (join ls rs)) (sym j.is) in_join) j.passes
+
+  alone_of : (m : Solution) → Contains (difference holds ls rs) m → IsAlone holds ls rs m
+  alone_of m c =
+      let kept = Contains-from_filter (λ l. list_all (λ r. not (compatible l r && holds (merge l r))) rs) ls m c in
+      record {
+        of_first = kept.0;
+        fails = λ r d a h. not_both (compatible m r) (holds (merge m r)) (each_of_all (λ r. not (compatible m r && holds (merge m r))) rs kept.1 r d) ((says_compatible m r).1 a) h;
+      }
+
+  of_alone : (m : Solution) → IsAlone holds ls rs m → Contains (difference holds ls rs) m
+  of_alone m a = Contains-filter (λ l. list_all (λ r. not (compatible l r && holds (merge l r))) rs) ls m a.of_first
+      (all_of_each (λ r. not (compatible m r && holds (merge m r))) rs (λ r c. both_not (compatible m r) (holds (merge m r)) (λ e h. a.fails r c ((says_compatible m r).0 e) h)))
+
+  pub is_left_join : IsLeftJoin holds ls rs
+  is_left_join m = (
+    λ c. ⊎_elim (λ d. inl (joined_of m d)) (λ d. inr (alone_of m d)) (Contains-append_cases (filter holds (join ls rs)) (difference holds ls rs) m c),
+    λ h. ⊎_elim (λ j. Contains-append_left (filter holds (join ls rs)) (difference holds ls rs) m (of_joined m j)) (λ a. Contains-append_right (filter holds (join ls rs)) (difference holds ls rs) m (of_alone m a)) h,
+  )

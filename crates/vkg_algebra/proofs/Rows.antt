@@ -1,0 +1,176 @@
+-- What the definitions give on worked queries, over the dataset of two departments and three employees.
+use Rattle.std.specs.Prelude.{◌≡◌, true, false, List, ℕ, [], ◌∷◌, ◌++◌, Some, None, codes, refl}
+use Rattle.std.specs.Str.{chars}
+use Rattle.std.specs.Char.{encode_utf8}
+use Rattle.vkg_values.specs.declared.operator.Compare.TheVariants as asks
+use Rattle.vkg_sparql.specs.declared.pattern.Node.TheVariants.{Variable, Fixed}
+use Rattle.vkg_sparql.specs.declared.pattern.GraphName.TheVariants.{Each, Named}
+use Rattle.vkg_sparql.specs.declared.query.Selected.TheVariants.{All, Listed}
+use Rattle.vkg_sparql.specs.Query.{Condition, Constant, Bound, Compare, Triples, Filter, Optional, Graph, Groups, End, Last, Union, Query}
+use Rattle.vkg_sparql.specs.Query as expression
+use Rattle.vkg_sparql.specs.Seen.{group_of}
+use Rattle.vkg_algebra.specs.Algebra.{Bgp, Join, LeftJoin}
+use Rattle.vkg_algebra.specs.Algebra as algebra
+use Rattle.vkg_algebra.specs.Evaluation.{Dataset}
+use Rattle.vkg_algebra.specs.Translation.{algebra_of}
+use Rattle.vkg_algebra.specs.Answer.{answer}
+use Rattle.vkg_algebra.proofs.Data.{dataset, quad, e, int, plain, pattern, names, has_name, has_dept, has_title, select}
+
+-- what has to be opened so that texts of terms compute
+unfoldable opened : Unit {0}
+unfolding chars encode_utf8
+opened = tt
+
+-- SELECT ?n { ?e <e:emp#name> ?n }
+abbrev name_query : Query
+name_query = select (1 ∷ []) (Triples (has_name ∷ []) ∷ [])
+
+names_algebra : algebra_of name_query ≡ Bgp (has_name ∷ [])
+names_algebra = refl
+
+names_answer : answer name_query dataset ≡ codes "?n" ∷ codes "\"Ann\"" ∷ codes "\"Ann\"" ∷ codes "\"Bo\"" ∷ []
+unfolding opened
+names_answer = refl
+
+-- the same with DISTINCT
+distinct_answer : answer (record name_query { distinct = true }) dataset ≡ codes "?n" ∷ codes "\"Ann\"" ∷ codes "\"Bo\"" ∷ []
+unfolding opened
+distinct_answer = refl
+
+-- an optional department: SELECT ?n ?d { ?e <e:emp#name> ?n OPTIONAL { ?e <e:emp#ref-dept> ?d } }
+abbrev optional_query : Query
+optional_query = select (1 ∷ 2 ∷ []) (Triples (has_name ∷ []) ∷ Optional (group_of (Triples (has_dept ∷ []) ∷ [])) ∷ [])
+
+optional_algebra : algebra_of optional_query ≡ LeftJoin (Bgp (has_name ∷ [])) (Bgp (has_dept ∷ [])) None
+optional_algebra = refl
+
+abbrev ann_dept : List ℕ
+ann_dept = codes "\"Ann\"\t<http://e/dept/id=1>"
+
+optional_answer : answer optional_query dataset ≡ codes "?n\t?d" ∷ ann_dept ∷ ann_dept ∷ codes "\"Bo\"\t" ∷ []
+unfolding opened
+optional_answer = refl
+
+-- with FILTER(?n = "Ann") last inside the OPTIONAL's braces: the left variable is seen
+abbrev is_ann : Condition
+is_ann = Compare asks.Equal (expression.Variable 1) (Constant (plain (codes "Ann")))
+
+abbrev filtered_query : Query
+filtered_query = select (1 ∷ 2 ∷ []) (Triples (has_name ∷ []) ∷ Optional (group_of (Triples (has_dept ∷ []) ∷ Filter is_ann ∷ [])) ∷ [])
+
+filtered_algebra : algebra_of filtered_query ≡ LeftJoin (Bgp (has_name ∷ [])) (Bgp (has_dept ∷ [])) (Some is_ann)
+filtered_algebra = refl
+
+filtered_answer : answer filtered_query dataset ≡ codes "?n\t?d" ∷ ann_dept ∷ ann_dept ∷ codes "\"Bo\"\t" ∷ []
+unfolding opened
+filtered_answer = refl
+
+-- with the OPTIONAL's content in doubled braces: the filter stays inside, where ?n is unbound
+abbrev doubled_query : Query
+doubled_query = select (1 ∷ 2 ∷ []) (Triples (has_name ∷ []) ∷ Optional (group_of (Groups (group_of (Triples (has_dept ∷ []) ∷ Filter is_ann ∷ [])) Last ∷ [])) ∷ [])
+
+doubled_algebra : algebra_of doubled_query ≡ LeftJoin (Bgp (has_name ∷ [])) (algebra.Filter is_ann (Bgp (has_dept ∷ []))) None
+doubled_algebra = refl
+
+abbrev no_dept : List (List ℕ)
+no_dept = codes "?n\t?d" ∷ codes "\"Ann\"\t" ∷ codes "\"Ann\"\t" ∷ codes "\"Bo\"\t" ∷ []
+
+doubled_answer : answer doubled_query dataset ≡ no_dept
+unfolding opened
+doubled_answer = refl
+
+-- a filter that is an error inside the optional group, since ?t is unbound: each left solution stays
+abbrev error_query : Query
+error_query = select (1 ∷ 2 ∷ []) (Triples (has_name ∷ []) ∷ Optional (group_of (Triples (has_dept ∷ []) ∷ Filter (expression.Variable 3) ∷ [])) ∷ [])
+
+error_answer : answer error_query dataset ≡ no_dept
+unfolding opened
+error_answer = refl
+
+-- a pattern matches by identity: SELECT ?e { ?e <e:emp#dept> 01 }
+abbrev identity_query : Query
+identity_query = select (0 ∷ []) (Triples (pattern (Variable 0) (Fixed (e (codes "emp#dept"))) (Fixed (int (codes "01"))) ∷ []) ∷ [])
+
+identity_answer : answer identity_query dataset ≡ codes "?e" ∷ []
+unfolding opened
+identity_answer = refl
+
+-- a filter compares by value: SELECT ?e { ?e <e:emp#dept> ?d FILTER(?d = 01) }
+abbrev value_query : Query
+value_query = select (0 ∷ []) (Triples (pattern (Variable 0) (Fixed (e (codes "emp#dept"))) (Variable 2) ∷ []) ∷ Filter (Compare asks.Equal (expression.Variable 2) (Constant (int (codes "01")))) ∷ [])
+
+value_answer : answer value_query dataset ≡ codes "?e" ∷ codes "<http://e/emp/id=7>" ∷ codes "<http://e/emp/id=9>" ∷ []
+unfolding opened
+value_answer = refl
+
+-- SELECT * {}: one solution, without variables
+abbrev empty_query : Query
+empty_query = record { names = []; distinct = false; selected = All; group = End }
+
+empty_algebra : algebra_of empty_query ≡ Bgp []
+empty_algebra = refl
+
+empty_answer : answer empty_query dataset ≡ [] ∷ [] ∷ []
+unfolding opened
+empty_answer = refl
+
+-- a union keeps repeats
+abbrev union_query : Query
+union_query = select (1 ∷ []) (Groups (group_of (Triples (has_name ∷ []) ∷ [])) (Union (group_of (Triples (has_name ∷ []) ∷ [])) Last) ∷ [])
+
+union_algebra : algebra_of union_query ≡ algebra.Union (Bgp (has_name ∷ [])) (Bgp (has_name ∷ []))
+union_algebra = refl
+
+union_answer : answer union_query dataset ≡ codes "?n" ∷ codes "\"Ann\"" ∷ codes "\"Ann\"" ∷ codes "\"Ann\"" ∷ codes "\"Ann\"" ∷ codes "\"Bo\"" ∷ codes "\"Bo\"" ∷ []
+unfolding opened
+union_answer = refl
+
+-- unbound is compatible
+abbrev unbound_query : Query
+unbound_query = select (1 ∷ 2 ∷ 3 ∷ []) (Triples (has_name ∷ []) ∷ Optional (group_of (Triples (has_dept ∷ []) ∷ [])) ∷ Triples (has_title ∷ []) ∷ [])
+
+unbound_algebra : algebra_of unbound_query ≡ Join (LeftJoin (Bgp (has_name ∷ [])) (Bgp (has_dept ∷ [])) None) (Bgp (has_title ∷ []))
+unbound_algebra = refl
+
+unbound_answer : answer unbound_query dataset ≡ codes "?n\t?d\t?t" ∷ codes "\"Ann\"\t<http://e/dept/id=1>\t\"Ore\"" ∷ codes "\"Ann\"\t<http://e/dept/id=1>\t\"Ore\"" ∷ codes "\"Bo\"\t<http://e/dept/id=1>\t\"Ore\"" ∷ []
+unfolding opened
+unbound_answer = refl
+
+-- GRAPH over a dataset of one named graph; ?g is 0, ?s 1, ?p 2, ?o 3
+abbrev one_graph : Dataset
+one_graph =
+    quad (e (codes "g/1")) (e (codes "emp/7")) (e (codes "name")) (plain (codes "Ann"))
+    ∷ quad (e (codes "g/1")) (e (codes "emp/9")) (e (codes "name")) (plain (codes "Ann")) ∷ []
+
+abbrev graph_query : Query
+graph_query = record { names = codes "g" ∷ codes "s" ∷ codes "p" ∷ codes "o" ∷ []; distinct = false; selected = Listed (0 ∷ []); group = End }
+
+-- SELECT ?g { GRAPH ?g {} }: one solution a name
+names_of_graphs : answer (record graph_query { group = group_of (Graph (Each 0) End ∷ []) }) one_graph ≡ codes "?g" ∷ codes "<http://e/g/1>" ∷ []
+unfolding opened
+names_of_graphs = refl
+
+-- SELECT * { GRAPH <e:none> {} }: nothing for an IRI that names no graph
+no_graph : answer (record empty_query { group = group_of (Graph (Named (codes "http://e/none")) End ∷ []) }) one_graph ≡ [] ∷ []
+unfolding opened
+no_graph = refl
+
+-- SELECT ?g { GRAPH ?g { ?s ?p ?o FILTER(?g = <e:g/1>) } }: ?g is unbound inside
+abbrev inside_query : Query
+inside_query = record graph_query { group = group_of (Graph (Each 0) (group_of (Triples (pattern (Variable 1) (Variable 2) (Variable 3) ∷ []) ∷ Filter (Compare asks.Equal (expression.Variable 0) (Constant (e (codes "g/1")))) ∷ [])) ∷ []) }
+
+inside_answer : answer inside_query one_graph ≡ codes "?g" ∷ []
+unfolding opened
+inside_answer = refl
+
+-- { ?s ?p ?o FILTER(BOUND(?d)) OPTIONAL { ?s <e:q> ?d FILTER(?d = ?o) } }, where ?s, ?p, ?o, ?d are 0 to 3: a group's filter comes
+-- last, and the optional group's is the condition
+abbrev both_query : Query
+both_query = select (0 ∷ []) (Triples (pattern (Variable 0) (Variable 1) (Variable 2) ∷ []) ∷ Filter (Bound 3) ∷ Optional (group_of (Triples (pattern (Variable 0) (Fixed (e (codes "q"))) (Variable 3) ∷ []) ∷ Filter (Compare asks.Equal (expression.Variable 3) (expression.Variable 2)) ∷ [])) ∷ [])
+
+both_algebra : algebra_of both_query ≡ algebra.Filter (Bound 3) (LeftJoin (Bgp (pattern (Variable 0) (Variable 1) (Variable 2) ∷ [])) (Bgp (pattern (Variable 0) (Fixed (e (codes "q"))) (Variable 3) ∷ [])) (Some (Compare asks.Equal (expression.Variable 3) (expression.Variable 2))))
+both_algebra = refl
+
+-- a filter between two blocks of triples ends no basic graph pattern
+interrupted_algebra : algebra_of (select (1 ∷ []) (Triples (has_name ∷ []) ∷ Filter is_ann ∷ Triples (has_dept ∷ []) ∷ Filter (Bound 2) ∷ [])) ≡ algebra.Filter (expression.And is_ann (Bound 2)) (Bgp (has_name ∷ has_dept ∷ []))
+interrupted_algebra = refl

@@ -1,0 +1,78 @@
+-- What the definitions say, in the words of the standard.
+use Rattle.std.specs.Prelude.{◌≡◌, ◌↔◌, ◌⊎◌, ℕ, ◌<◌, Bool, IsTrue, IsSome, List, [], ◌∷◌, ◌++◌, flat_map, length, Contains, Option, Some, None}
+use Rattle.std.specs.List.{IsDistinct}
+use Rattle.std.specs.Option.{option_or}
+use Rattle.vkg_terms.specs.declared.term.Term.{Term}
+use Rattle.vkg_terms.specs.NQuads.{Quad}
+use Rattle.vkg_maps.specs.Dataset.{quad_eq}
+use Rattle.vkg_sparql.specs.declared.pattern.Node.{Node}
+use Rattle.vkg_sparql.specs.declared.pattern.Node.TheVariants as node
+use Rattle.vkg_sparql.specs.declared.pattern.TriplePattern.{TriplePattern}
+use Rattle.vkg_algebra.specs.Answer.{solution_eq}
+use Rattle.vkg_algebra.specs.Evaluation.{Dataset, graph_of}
+use Rattle.vkg_algebra.specs.Patterns.{instances}
+use Rattle.vkg_algebra.specs.Solutions.{Solution, compatible, left_join, lookup, merge}
+
+-- SPARQL 1.1, 18.3: every variable that is bound in both is bound to one term
+abbrev pub AreCompatible : Solution → Solution → Type 0
+AreCompatible l r = (v : ℕ) (t u : Term) → lookup l v ≡ Some t → lookup r v ≡ Some u → t ≡ u
+
+-- what the test `compatible` answers, and what `merge` binds
+pub record KeepsMaps (l r : Solution) : Type 0 where
+  pub tested : IsTrue (compatible l r) ↔ AreCompatible l r
+  pub merged : (v : ℕ) → lookup (merge l r) v ≡ option_or (lookup l v) (lookup r v)
+
+-- SPARQL 1.1, 18.5, Filter(expr, Join(Ω1, Ω2)): merged from compatible maps of both, and it passes
+pub record IsJoined (holds : Solution → Bool) (ls rs : List Solution) (m : Solution) : Type 0 where
+  pub first : Solution
+  pub second : Solution
+  pub of_first : Contains ls first
+  pub of_second : Contains rs second
+  pub agree : AreCompatible first second
+  pub is : m ≡ merge first second
+  pub passes : IsTrue (holds m)
+
+-- SPARQL 1.1, 18.5, Diff(Ω1, Ω2, expr): of the first, and with each of the second it is incompatible or merges to what fails
+pub record IsAlone (holds : Solution → Bool) (ls rs : List Solution) (m : Solution) : Type 0 where
+  pub of_first : Contains ls m
+  pub fails : (r : Solution) → Contains rs r → AreCompatible m r → IsTrue (holds (merge m r)) → ⊥
+
+-- SPARQL 1.1, 18.5, LeftJoin
+abbrev pub IsLeftJoin : (Solution → Bool) → List Solution → List Solution → Type 0
+IsLeftJoin holds ls rs = (m : Solution) → Contains (left_join holds ls rs) m ↔ (IsJoined holds ls rs m ⊎ IsAlone holds ls rs m)
+
+-- what a place of a pattern is under a map
+abbrev pub node_term : Solution → Node → Option Term
+node_term s (node.Variable v) = lookup s v
+node_term s (node.Label v) = lookup s v
+node_term s (node.Fixed t) = Some t
+
+-- SPARQL 1.1, 18.3.1: the map makes this triple of the pattern
+pub record IsInstance (s : Solution) (p : TriplePattern) (q : Quad) : Type 0 where
+  pub subject : node_term s p.subject ≡ Some q.subject
+  pub predicate : node_term s p.predicate ≡ Some q.predicate
+  pub object : node_term s p.object ≡ Some q.object
+
+-- the numbers of the variables and labels of a pattern
+abbrev pub node_numbers : Node → List ℕ
+node_numbers (node.Variable v) = v ∷ []
+node_numbers (node.Label v) = v ∷ []
+node_numbers (node.Fixed t) = []
+
+abbrev pub pattern_numbers : TriplePattern → List ℕ
+pattern_numbers p = node_numbers p.subject ++ (node_numbers p.predicate ++ node_numbers p.object)
+
+-- SPARQL 1.1, 18.3.1: a map of just the variables and labels of the patterns, under which each pattern is a triple of the graph
+pub record IsInstanceOf (n : ℕ) (ps : List TriplePattern) (triples : List Quad) (s : Solution) : Type 0 where
+  pub size : length s ≡ n
+  pub bound : (v : ℕ) → IsSome (lookup s v) → Contains (flat_map pattern_numbers ps) v
+  pub each : (p : TriplePattern) → Contains ps p → (q : Quad) × Contains triples q × IsInstance s p q
+
+-- the instances are these maps; over a set of quads none of them is there twice
+pub record HasInstances (n : ℕ) (ps : List TriplePattern) (d : Dataset) (g : Option Term) : Type 0 where
+  pub members : (s : Solution) → Contains (instances n ps (graph_of d g)) s ↔ IsInstanceOf n ps (graph_of d g) s
+  pub once : IsDistinct quad_eq d → IsDistinct solution_eq (instances n ps (graph_of d g))
+
+-- the numbers of the patterns are below n
+abbrev pub AreBelow : ℕ → List TriplePattern → Type 0
+AreBelow n ps = (v : ℕ) → Contains (flat_map pattern_numbers ps) v → v < n

@@ -1,0 +1,12 @@
+pub mod Algebra
+pub mod Answer
+pub mod Evaluation
+pub mod Lawful
+pub mod Laws
+pub mod Patterns
+pub mod Seen
+pub mod Simplified
+pub mod Solutions
+pub mod Translation
+pub mod Values
+pub mod Visible

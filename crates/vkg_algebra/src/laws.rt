@@ -1,0 +1,23 @@
+//! Laws of the definitions, in the words of the standard. These functions compute nothing; what they ensure is the law.
+ghost use Rattle.std.specs.Prelude.{ℕ, Bool, List, Option};
+ghost use Rattle.vkg_terms.specs.declared.term.Term.{Term};
+ghost use Rattle.vkg_sparql.specs.declared.pattern.TriplePattern.{TriplePattern};
+ghost use Rattle.vkg_algebra.specs.Evaluation.{Dataset};
+ghost use Rattle.vkg_algebra.specs.Laws.{AreBelow, HasInstances, IsLeftJoin, KeepsMaps};
+ghost use Rattle.vkg_algebra.specs.Solutions.{Solution};
+
+/// Compatible solution mappings and their merge (SPARQL 1.1, 18.3).
+pub fn maps()
+    ensures { (l r : Solution) → KeepsMaps l r }
+{}
+
+/// The members of a LeftJoin (SPARQL 1.1, 18.5).
+pub fn left_joins()
+    ensures { (holds : Solution → Bool) (ls rs : List Solution) → IsLeftJoin holds ls rs }
+{}
+
+/// The solutions of a basic graph pattern before its labels are dropped (SPARQL 1.1, 18.3.1): every map under which each
+/// pattern is a triple of the graph, and over a set of quads each of them once.
+pub fn basic_graph_patterns()
+    ensures { (n : ℕ) (ps : List TriplePattern) (d : Dataset) (g : Option Term) → AreBelow n ps → HasInstances n ps d g }
+{}

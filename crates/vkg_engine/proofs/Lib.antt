@@ -1,0 +1,5 @@
+pub mod Nulls
+pub mod PairLemmas
+pub mod RunLaws
+pub mod TableKinds
+pub mod UnionLemmas

@@ -1,0 +1,52 @@
+-- Kinds of lists of expressions, from their first.
+use Rattle.std.proofs.Common.{◌≡◌, ℕ, Bool, true, false, ◌&&◌, List, [], ◌∷◌, ◌++◌, refl, ap, append_assoc, map, length, suc, ◌∙◌}
+use Rattle.std.specs.Prelude.{Option, Some, None}
+use Rattle.std.specs.List.{list_all}
+use Rattle.vkg_cells.specs.declared.cell.SqlType.{SqlType}
+use Rattle.vkg_cells.specs.declared.cell.SqlType.TheVariants as kind
+use Rattle.vkg_expr.specs.declared.expr.Expr.{Expr as ExprValue}
+use Rattle.vkg_expr.specs.Seen.{expr_seen}
+use Rattle.vkg_expr.specs.Expr.{each, exprs}
+use Rattle.vkg_expr.specs.Typing.{are_all, common, giving, is_one, same_kind, with_kind}
+
+and_false : (b : Bool) → (b && false) ≡ false
+and_false true = refl
+and_false false = refl
+
+pub are_all-more : (k : SqlType) (a : Option SqlType) (o : Option (List SqlType)) → are_all k (with_kind a o) ≡ (is_one k a && are_all k o)
+are_all-more k None o = refl
+are_all-more k (Some l) None = rw and_false
+are_all-more k (Some l) (Some ls) = refl
+
+itself : (k : SqlType) → same_kind k k ≡ true
+itself kind.Text = refl
+itself kind.Int = refl
+itself kind.Dec = refl
+itself kind.Bool = refl
+itself kind.Date = refl
+itself kind.Stamp = refl
+itself kind.Bin = refl
+itself kind.Term = refl
+
+pub common-more : (k : SqlType) (o : Option (List SqlType)) → common (with_kind (Some k) o) ≡ giving k (are_all k (with_kind (Some k) o))
+common-more k None = refl
+common-more k (Some ls) = rw (itself k)
+
+-- some kinds, and those behind them, if they are there
+abbrev pub onto : List SqlType → Option (List SqlType) → Option (List SqlType)
+onto ks None = None
+onto ks (Some ls) = Some (ks ++ ls)
+
+pub onto_none : (o : Option (List SqlType)) → onto [] o ≡ o
+onto_none None = refl
+onto_none (Some t) = refl
+
+pub onto_more : (ks : List SqlType) (k : SqlType) (o : Option (List SqlType)) → onto ks (with_kind (Some k) o) ≡ onto (ks ++ k ∷ []) o
+onto_more ks k None = refl
+onto_more ks k (Some ls) = rw append_assoc
+
+pub length-each : (xs : List ExprValue) → length (each (exprs (map expr_seen xs))) ≡ length xs
+length-each [] = refl
+length-each (x ∷ xs) = ap suc (length-each xs)
+
+pub ruleset kind_lists = (are_all-more, common-more, onto_none, onto_more, length-each)

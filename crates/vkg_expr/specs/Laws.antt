@@ -1,0 +1,20 @@
+-- What holds of the values of all expressions.
+use Rattle.std.specs.Prelude.{◌≡◌, ℕ, List, Option, Some, slice_get, true}
+use Rattle.std.specs.List.{AllZip}
+use Rattle.vkg_cells.specs.declared.cell.Cell.{Cell}
+use Rattle.vkg_cells.specs.declared.cell.SqlType.{SqlType}
+use Rattle.vkg_schema.specs.Rows.{Row, cell_at}
+use Rattle.vkg_expr.specs.Expr.{Expr}
+use Rattle.vkg_expr.specs.Typing.{fits, kind_of}
+
+-- each cell is NULL or of its column's kind
+abbrev pub FitsRow : List SqlType → Row → Type 0
+FitsRow ks row = (at : ℕ) (k : SqlType) → slice_get ks at ≡ Some k → fits k (cell_at row at) ≡ true
+
+-- a cell for each kind, NULL or of that kind
+abbrev pub HasKinds : List SqlType → Row → Type 0
+HasKinds ks row = AllZip (λ k c. fits k c ≡ true) ks row
+
+-- over columns whose kinds the row's cells have, the cell is NULL or of the expression's kind
+abbrev pub IsOfItsKind : Expr → Row → Cell → Type 0
+IsOfItsKind e row c = (ks : List SqlType) (k : SqlType) → FitsRow ks row → kind_of e ks ≡ Some k → fits k c ≡ true

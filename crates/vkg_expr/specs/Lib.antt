@@ -1,0 +1,10 @@
+pub mod Expr
+pub mod Seen
+pub mod Typing
+pub mod Value
+pub mod Laws
+pub mod Steps
+pub mod Strict
+pub mod TermExprs
+pub mod Logic
+pub mod Places

@@ -1,0 +1,117 @@
+-- The kind of an expression over columns of some kinds; none where it is ill typed.
+use Rattle.std.specs.Prelude.{ℕ, Bool, true, false, ◌&&◌, not, List, [], ◌∷◌, length, slice_get, Option, Some, None, option_map, if◌then◌else◌, ◌==◌}
+use Rattle.std.specs.List.{list_all}
+use Rattle.vkg_cells.specs.declared.cell.Cell.{Cell}
+use Rattle.vkg_cells.specs.declared.cell.Cell.TheVariants as cell
+use Rattle.vkg_cells.specs.declared.cell.SqlType.{SqlType}
+use Rattle.vkg_cells.specs.declared.cell.SqlType.TheVariants as kind
+use Rattle.vkg_cells.specs.Order.{family}
+use Rattle.vkg_expr.specs.declared.expr.Operator.{Operator}
+use Rattle.vkg_expr.specs.declared.expr.Operator.TheVariants.{Test, Take, Compare}
+use Rattle.vkg_expr.specs.Expr.{Expr, Exprs, Col, Const, MakeIri, IriOf, MakeBlank, MakeLit, Lex, IriSafe, Concat, Same, IsNull, Not, And, Or, Coalesce, Sparql, Ebv, Nil, More, each}
+
+-- the kinds, numbered
+abbrev pub kind_number : SqlType → ℕ
+kind_number kind.Text = 0
+kind_number kind.Int = 1
+kind_number kind.Dec = 2
+kind_number kind.Bool = 3
+kind_number kind.Date = 4
+kind_number kind.Stamp = 5
+kind_number kind.Bin = 6
+kind_number kind.Term = 7
+
+abbrev pub same_kind : SqlType → SqlType → Bool
+same_kind k l = kind_number k == kind_number l
+
+abbrev pub same_family : SqlType → SqlType → Bool
+same_family k l = family k == family l
+
+-- NULL, or a cell of the kind
+abbrev pub fits : SqlType → Cell → Bool
+fits k cell.Null = true
+fits kind.Text (cell.Text text) = true
+fits kind.Int (cell.Int text) = true
+fits kind.Dec (cell.Dec text) = true
+fits kind.Bool (cell.Bool b) = true
+fits kind.Date (cell.Date text) = true
+fits kind.Stamp (cell.Stamp text) = true
+fits kind.Bin (cell.Bin text) = true
+fits kind.Term (cell.Term term) = true
+fits k c = false
+
+-- a kind, where the parts are as they should be
+abbrev pub giving : SqlType → Bool → Option SqlType
+giving k fine = if fine then Some k else None
+
+-- there is a kind and it is this one
+abbrev pub is_one : SqlType → Option SqlType → Bool
+is_one k None = false
+is_one k (Some l) = same_kind k l
+
+-- there are kinds and each is this one
+abbrev pub are_all : SqlType → Option (List SqlType) → Bool
+are_all k None = false
+are_all k (Some ks) = list_all (same_kind k) ks
+
+-- a lexical form is that of any kind but a term
+abbrev pub lexical_kind : Option SqlType → Option SqlType
+lexical_kind None = None
+lexical_kind (Some k) = giving kind.Text (not (same_kind kind.Term k))
+
+-- SQL 92, 8.2: the two values are comparable
+abbrev pub equality_kind : Option SqlType → Option SqlType → Option SqlType
+equality_kind (Some k) (Some l) = giving kind.Bool (same_family k l)
+equality_kind k l = None
+
+-- one or more of one kind
+abbrev pub common : Option (List SqlType) → Option SqlType
+common (Some (k ∷ ks)) = giving k (list_all (same_kind k) ks)
+common ks = None
+
+-- how many terms an operator takes, and what it gives
+abbrev pub arity : Operator → ℕ
+arity (Test op) = 1
+arity (Take op) = 1
+arity (Compare op) = 2
+
+abbrev pub result_kind : Operator → SqlType
+result_kind (Test op) = kind.Bool
+result_kind (Take op) = kind.Term
+result_kind (Compare op) = kind.Bool
+
+abbrev pub is_column : Expr → Bool
+is_column (Col at) = true
+is_column e = false
+
+abbrev pub no_column : Exprs → Bool
+no_column Nil = true
+no_column (More e es) = not (is_column e) && no_column es
+
+abbrev pub with_kind : Option SqlType → Option (List SqlType) → Option (List SqlType)
+with_kind (Some k) (Some ls) = Some (k ∷ ls)
+with_kind k ls = None
+
+abbrev mutual
+  pub kind_of : Expr → List SqlType → Option SqlType
+  kind_of (Col at) ks = slice_get ks at
+  kind_of (Const c k) ks = giving k (fits k c)
+  kind_of (MakeIri e) ks = giving kind.Term (is_one kind.Text (kind_of e ks))
+  kind_of (IriOf base e) ks = giving kind.Text (is_one kind.Text (kind_of e ks))
+  kind_of (MakeBlank e) ks = giving kind.Term (is_one kind.Text (kind_of e ks))
+  kind_of (MakeLit e annotation) ks = giving kind.Term (is_one kind.Text (kind_of e ks))
+  kind_of (Lex e) ks = lexical_kind (kind_of e ks)
+  kind_of (IriSafe e) ks = giving kind.Text (is_one kind.Text (kind_of e ks))
+  kind_of (Concat es) ks = giving kind.Text (no_column es && are_all kind.Text (kinds_of es ks))
+  kind_of (Same a b) ks = equality_kind (kind_of a ks) (kind_of b ks)
+  kind_of (IsNull e) ks = option_map (λ k. kind.Bool) (kind_of e ks)
+  kind_of (Not e) ks = giving kind.Bool (is_one kind.Bool (kind_of e ks))
+  kind_of (And es) ks = giving kind.Bool (are_all kind.Bool (kinds_of es ks))
+  kind_of (Or es) ks = giving kind.Bool (are_all kind.Bool (kinds_of es ks))
+  kind_of (Coalesce es) ks = common (kinds_of es ks)
+  kind_of (Sparql op es) ks = giving (result_kind op) ((length (each es) == arity op) && are_all kind.Term (kinds_of es ks))
+  kind_of (Ebv e) ks = giving kind.Bool (is_one kind.Term (kind_of e ks))
+
+  pub kinds_of : Exprs → List SqlType → Option (List SqlType)
+  kinds_of Nil ks = Some []
+  kinds_of (More e es) ks = with_kind (kind_of e ks) (kinds_of es ks)

@@ -1,0 +1,70 @@
+// The value of an expression on a row.
+ghost use Rattle.std.specs.Prelude.{◌≡◌, IfOk, map};
+ghost use Rattle.vkg_expr.specs.Expr.{exprs};
+ghost use Rattle.vkg_expr.specs.Laws.{IsOfItsKind};
+ghost use Rattle.vkg_expr.specs.Seen.{expr_seen};
+ghost use Rattle.vkg_expr.specs.Value.{value_of, values_of};
+
+use crate::cells::column;
+use crate::expr::Expr;
+use crate::row::Row;
+use crate::steps::{after_both, after_each, after_one};
+use std::alloc::Global;
+use vkg_base::{Items, Memory};
+use vkg_cells::Cell;
+
+/// The value of an expression on a row; unknown and error are NULL. Of a typed expression, on a row whose cells are of the
+/// columns' kinds or NULL, it is of the expression's kind or NULL.
+#[tactic(auto, using(crate::proofs::ValueFits::fitting))]
+pub fn eval(alloc: Global, e: &Expr, row: &Row) -> Result<Cell, Memory>
+    ensures value { IfOk result (λ c. c ≡ value_of (expr_seen e.now) row.now) }
+    ensures kind { IfOk result (IsOfItsKind (expr_seen e.now) row.now) }
+{
+    eval_on(alloc, e, row.cells())
+}
+
+/// The value of an expression on the cells of a row.
+#[tactic(auto, using(crate::proofs::ValueFits::fitting))]
+pub fn eval_cells(alloc: Global, e: &Expr, row: &[Cell]) -> Result<Cell, Memory>
+    ensures value { IfOk result (λ c. c ≡ value_of (expr_seen e.now) row.now) }
+    ensures kind { IfOk result (IsOfItsKind (expr_seen e.now) row.now) }
+{
+    eval_on(alloc, e, row)
+}
+
+#[cycle(eval)]
+fn eval_on(alloc: Global, e: &Expr, row: &[Cell]) -> Result<Cell, Memory>
+    ensures { IfOk result (λ c. c ≡ value_of (expr_seen e.now) row.now) }
+{
+    match e {
+        Expr::Col(at) => column(row, *at),
+        Expr::Const(cell, _) => cell.copy(),
+        Expr::MakeIri(part) => after_one(alloc, e, eval_on(alloc, part, row)),
+        Expr::IriOf(_, part) => after_one(alloc, e, eval_on(alloc, part, row)),
+        Expr::MakeBlank(part) => after_one(alloc, e, eval_on(alloc, part, row)),
+        Expr::MakeLit(part, _) => after_one(alloc, e, eval_on(alloc, part, row)),
+        Expr::Lex(part) => after_one(alloc, e, eval_on(alloc, part, row)),
+        Expr::IriSafe(part) => after_one(alloc, e, eval_on(alloc, part, row)),
+        Expr::IsNull(part) => after_one(alloc, e, eval_on(alloc, part, row)),
+        Expr::Not(part) => after_one(alloc, e, eval_on(alloc, part, row)),
+        Expr::Ebv(part) => after_one(alloc, e, eval_on(alloc, part, row)),
+        Expr::Same(a, b) => after_both(eval_on(alloc, a, row), eval_on(alloc, b, row)),
+        Expr::Concat(list) => after_each(alloc, e, eval_each(alloc, list.as_slice(), row)),
+        Expr::And(list) => after_each(alloc, e, eval_each(alloc, list.as_slice(), row)),
+        Expr::Or(list) => after_each(alloc, e, eval_each(alloc, list.as_slice(), row)),
+        Expr::Coalesce(list) => after_each(alloc, e, eval_each(alloc, list.as_slice(), row)),
+        Expr::Sparql(_, list) => after_each(alloc, e, eval_each(alloc, list.as_slice(), row)),
+    }
+}
+
+/// The values of some expressions on the cells of a row.
+#[cycle(eval)]
+pub fn eval_each(alloc: Global, list: &[Expr], row: &[Cell]) -> Result<Items<Cell>, Memory>
+    ensures { IfOk result (λ cs. cs ≡ values_of (exprs (map expr_seen list.now)) row.now) }
+{
+    let mut values = Items::new(alloc);
+    for e in list {
+        values.push(eval_on(alloc, e, row)?)?;
+    }
+    Ok(values)
+}

@@ -1,0 +1,57 @@
+// What the steps of an expression make of lists of cells.
+ghost use Rattle.std.specs.Prelude.{◌≡◌, IfOk};
+ghost use Rattle.vkg_expr.specs.Value.{all_of, any_of, coalesced, concat_of, text_cell, truth_cell as cell_of_truth};
+
+use crate::cells::{truth_cell, truth_of};
+use crate::strict::is_null;
+use std::alloc::Global;
+use vkg_base::{Memory, Text};
+use vkg_cells::Cell;
+use vkg_values::{conjunction, disjunction};
+
+/// The texts after each other, and NULL where one is.
+#[tactic(auto, using(crate::proofs::Texts::texts))]
+pub fn concatenation(alloc: Global, cells: &[Cell]) -> Result<Cell, Memory>
+    ensures { IfOk result (λ c. c ≡ text_cell (concat_of cells.now)) }
+{
+    let mut out = String::new(alloc);
+    for cell in cells {
+        let Cell::Text(text) = cell else {
+            return Ok(Cell::Null);
+        };
+        out.push_str(text.as_str())?;
+    }
+    Ok(Cell::Text(Text::from_string(out)))
+}
+
+pub fn all(cells: &[Cell]) -> Cell
+    ensures { result ≡ cell_of_truth (all_of cells.now) }
+{
+    let mut all = Some(true);
+    for cell in cells {
+        all = conjunction(all, truth_of(cell));
+    }
+    truth_cell(all)
+}
+
+pub fn any(cells: &[Cell]) -> Cell
+    ensures { result ≡ cell_of_truth (any_of cells.now) }
+{
+    let mut any = Some(false);
+    for cell in cells {
+        any = disjunction(any, truth_of(cell));
+    }
+    truth_cell(any)
+}
+
+/// The first cell that is not NULL.
+pub fn first_known(cells: &[Cell]) -> Result<Cell, Memory>
+    ensures { IfOk result (λ c. c ≡ coalesced cells.now) }
+{
+    for cell in cells {
+        if !is_null(cell) {
+            return cell.copy();
+        }
+    }
+    Ok(Cell::Null)
+}

@@ -1,0 +1,193 @@
+// The kinds of expressions.
+ghost use Rattle.std.specs.Prelude.{◌≡◌, ◌&&◌, ◌==◌, IfOk, length, map, option_map, slice_get};
+ghost use Rattle.vkg_expr.specs.Expr.{each, exprs};
+ghost use Rattle.vkg_expr.specs.Seen.{expr_seen};
+ghost use Rattle.vkg_expr.specs.Typing.{are_all, arity as arity_of, common, equality_kind, giving as giving_kind, is_column as is_column_expr, is_one, kind_of, kinds_of, lexical_kind, no_column as no_column_in, result_kind as result_kind_of};
+
+use crate::expr::{Expr, Operator};
+use crate::kinds::{fits, giving, is_kind, same_family, same_kind};
+use std::alloc::Global;
+use vkg_base::{Items, Memory, at};
+use vkg_cells::SqlType;
+
+/// The kind of an expression over columns of these kinds; none exactly where it is ill typed.
+#[tactic(auto, using(crate::proofs::KindLists::kind_lists))]
+#[cycle(typed)]
+pub fn typed(e: &Expr, kinds: &[SqlType]) -> Option<SqlType>
+    ensures { result ≡ kind_of (expr_seen e.now) kinds.now }
+{
+    match e {
+        Expr::Col(at) => kind_at(kinds, *at),
+        Expr::Const(cell, kind) => giving(*kind, fits(*kind, cell)),
+        Expr::MakeIri(e) => giving(SqlType::Term, is_typed(e, kinds, SqlType::Text)),
+        Expr::IriOf(_, e) => giving(SqlType::Text, is_typed(e, kinds, SqlType::Text)),
+        Expr::MakeBlank(e) => giving(SqlType::Term, is_typed(e, kinds, SqlType::Text)),
+        Expr::MakeLit(e, _) => giving(SqlType::Term, is_typed(e, kinds, SqlType::Text)),
+        Expr::Lex(e) => lexical(typed(e, kinds)),
+        Expr::IriSafe(e) => giving(SqlType::Text, is_typed(e, kinds, SqlType::Text)),
+        Expr::Concat(list) => concatenation(list.as_slice(), kinds),
+        Expr::Same(a, b) => equality(typed(a, kinds), typed(b, kinds)),
+        Expr::IsNull(e) => null_test(typed(e, kinds)),
+        Expr::Not(e) => giving(SqlType::Bool, is_typed(e, kinds, SqlType::Bool)),
+        Expr::And(list) => giving(
+            SqlType::Bool,
+            are_typed(list.as_slice(), kinds, SqlType::Bool),
+        ),
+        Expr::Or(list) => giving(
+            SqlType::Bool,
+            are_typed(list.as_slice(), kinds, SqlType::Bool),
+        ),
+        Expr::Coalesce(list) => common_kind(list.as_slice(), kinds),
+        Expr::Sparql(operator, list) => operation(*operator, list.as_slice(), kinds),
+        Expr::Ebv(e) => giving(SqlType::Bool, is_typed(e, kinds, SqlType::Term)),
+    }
+}
+
+#[cycle(typed)]
+fn is_typed(e: &Expr, kinds: &[SqlType], kind: SqlType) -> bool
+    ensures { result ≡ is_one kind (kind_of (expr_seen e.now) kinds.now) }
+{
+    is_kind(kind, typed(e, kinds))
+}
+
+/// Whether all are of the kind.
+#[tactic(auto, using(crate::proofs::KindLists::kind_lists))]
+#[cycle(typed)]
+fn are_typed(list: &[Expr], kinds: &[SqlType], kind: SqlType) -> bool
+    ensures { result ≡ are_all kind (kinds_of (exprs (map expr_seen list.now)) kinds.now) }
+{
+    for e in list {
+        if !is_typed(e, kinds, kind) {
+            return false;
+        }
+    }
+    true
+}
+
+#[cycle(typed)]
+fn concatenation(list: &[Expr], kinds: &[SqlType]) -> Option<SqlType>
+    ensures { result ≡ giving_kind SqlType.Text (no_column_in (exprs (map expr_seen list.now)) && are_all SqlType.Text (kinds_of (exprs (map expr_seen list.now)) kinds.now)) }
+{
+    giving(
+        SqlType::Text,
+        has_no_column(list) && are_typed(list, kinds, SqlType::Text),
+    )
+}
+
+/// The kind that one or more have in common.
+#[tactic(auto, using(crate::proofs::KindLists::kind_lists))]
+#[cycle(typed)]
+fn common_kind(list: &[Expr], kinds: &[SqlType]) -> Option<SqlType>
+    ensures { result ≡ common (kinds_of (exprs (map expr_seen list.now)) kinds.now) }
+{
+    match list {
+        [] => None,
+        [first, ..] => match typed(first, kinds) {
+            None => None,
+            Some(kind) => giving(kind, are_typed(list, kinds, kind)),
+        },
+    }
+}
+
+#[tactic(auto, using(crate::proofs::KindLists::kind_lists))]
+#[cycle(typed)]
+fn operation(operator: Operator, list: &[Expr], kinds: &[SqlType]) -> Option<SqlType>
+    ensures { result ≡ giving_kind (result_kind_of operator) ((length (each (exprs (map expr_seen list.now))) == arity_of operator) && are_all SqlType.Term (kinds_of (exprs (map expr_seen list.now)) kinds.now)) }
+{
+    giving(
+        result_kind(operator),
+        list.len() == arity(operator) && are_typed(list, kinds, SqlType::Term),
+    )
+}
+
+fn kind_at(kinds: &[SqlType], place: usize) -> Option<SqlType>
+    ensures { result ≡ slice_get kinds.now place }
+{
+    match at(kinds, place) {
+        Some(kind) => Some(*kind),
+        None => None,
+    }
+}
+
+fn arity(operator: Operator) -> usize
+    ensures { result ≡ arity_of operator }
+{
+    match operator {
+        Operator::Test(_) => 1,
+        Operator::Take(_) => 1,
+        Operator::Compare(_) => 2,
+    }
+}
+
+fn result_kind(operator: Operator) -> SqlType
+    ensures { result ≡ result_kind_of operator }
+{
+    match operator {
+        Operator::Test(_) => SqlType::Bool,
+        Operator::Take(_) => SqlType::Term,
+        Operator::Compare(_) => SqlType::Bool,
+    }
+}
+
+fn lexical(kind: Option<SqlType>) -> Option<SqlType>
+    ensures { result ≡ lexical_kind kind }
+{
+    match kind {
+        None => None,
+        Some(kind) => giving(SqlType::Text, !same_kind(SqlType::Term, kind)),
+    }
+}
+
+fn equality(a: Option<SqlType>, b: Option<SqlType>) -> Option<SqlType>
+    ensures { result ≡ equality_kind a b }
+{
+    match (a, b) {
+        (Some(a), Some(b)) => giving(SqlType::Bool, same_family(a, b)),
+        _ => None,
+    }
+}
+
+fn null_test(kind: Option<SqlType>) -> Option<SqlType>
+    ensures { result ≡ option_map (λ k. SqlType.Bool) kind }
+{
+    match kind {
+        None => None,
+        Some(_) => Some(SqlType::Bool),
+    }
+}
+
+fn is_column(e: &Expr) -> bool
+    ensures { result ≡ is_column_expr (expr_seen e.now) }
+{
+    matches!(e, Expr::Col(_))
+}
+
+fn has_no_column(list: &[Expr]) -> bool
+    ensures { result ≡ no_column_in (exprs (map expr_seen list.now)) }
+{
+    for e in list {
+        if is_column(e) {
+            return false;
+        }
+    }
+    true
+}
+
+#[tactic(auto, using(crate::proofs::KindLists::kind_lists))]
+/// The kinds of some expressions; none exactly where one is ill typed.
+pub fn typed_each(
+    alloc: Global,
+    list: &[Expr],
+    kinds: &[SqlType],
+) -> Result<Option<Items<SqlType>>, Memory>
+    ensures { IfOk result (λ o. o ≡ kinds_of (exprs (map expr_seen list.now)) kinds.now) }
+{
+    let mut found = Items::new(alloc);
+    for e in list {
+        let Some(kind) = typed(e, kinds) else {
+            return Ok(None);
+        };
+        found.push(kind)?;
+    }
+    Ok(Some(found))
+}

@@ -1,0 +1,72 @@
+-- Kinds of lists of plans, from their first.
+use Rattle.std.proofs.Common.{◌≡◌, Bool, true, false, ◌&&◌, List, [], ◌∷◌, ◌++◌, refl, append_assoc, append-nil, ◌≤◌, ◌∙◌, ap, arith, get_or, length, map, sym}
+use Rattle.std.specs.Prelude.{Option, Some, None, option_map, if◌then◌else◌}
+use Rattle.std.specs.Cmp.Lexicographic.{pointwise}
+use Rattle.vkg_cells.specs.declared.cell.SqlType.{SqlType}
+use Rattle.vkg_cells.specs.declared.cell.SqlType.TheVariants as kind
+use Rattle.vkg_expr.specs.Typing.{same_kind}
+use Rattle.vkg_plan.specs.declared.plan.Plan.{Plan as PlanValue}
+use Rattle.vkg_plan.specs.Kinds.{Kinds, Tables, alike, are_alike, beside_all, is_alike, joined, kinds_of_each, plan_kinds, with_first}
+use Rattle.vkg_plan.specs.Plan.{plans}
+use Rattle.vkg_plan.specs.Seen.{plan_seen}
+
+and_false : (b : Bool) → (b && false) ≡ false
+and_false true = refl
+and_false false = refl
+
+itself : (k : SqlType) → same_kind k k ≡ true
+itself kind.Text = refl
+itself kind.Int = refl
+itself kind.Dec = refl
+itself kind.Bool = refl
+itself kind.Date = refl
+itself kind.Stamp = refl
+itself kind.Bin = refl
+itself kind.Term = refl
+
+themselves : (ks : Kinds) → pointwise same_kind ks ks ≡ true
+themselves [] = refl
+themselves (k ∷ ks) = rw (itself k) (themselves ks)
+
+pub are_alike-more : (ks : Kinds) (a : Option Kinds) (o : Option (List Kinds)) → are_alike ks (with_first a o) ≡ (is_alike ks a && are_alike ks o)
+are_alike-more ks None o = refl
+are_alike-more ks (Some ls) None = rw and_false
+are_alike-more ks (Some ls) (Some kss) = refl
+
+pub alike-more : (ks : Kinds) (o : Option (List Kinds)) → alike (with_first (Some ks) o) ≡ (if are_alike ks (with_first (Some ks) o) then Some ks else None)
+alike-more ks None = refl
+alike-more ks (Some kss) = rw (themselves ks)
+
+pub beside_all-more : (a : Option Kinds) (o : Option (List Kinds)) → beside_all (with_first a o) ≡ option_map joined (with_first a o)
+beside_all-more None o = refl
+beside_all-more (Some ks) None = refl
+beside_all-more (Some ks) (Some kss) = refl
+
+-- some kinds, and those behind them, if they are there
+abbrev pub onto : Kinds → Option Kinds → Option Kinds
+onto ks None = None
+onto ks (Some ls) = Some (ks ++ ls)
+
+pub onto-none : (o : Option Kinds) → onto [] o ≡ o
+onto-none None = refl
+onto-none (Some ls) = refl
+
+pub onto-nil : (ks : Kinds) → onto ks (Some []) ≡ Some ks
+onto-nil ks = rw append-nil
+
+pub onto-more : (ks ls : Kinds) (o : Option (List Kinds)) → onto ks (option_map joined (with_first (Some ls) o)) ≡ onto (ks ++ ls) (option_map joined o)
+onto-more ks ls None = refl
+onto-more ks ls (Some kss) = rw append_assoc
+
+pub join-some : (s : Tables) (ps : List PlanValue) → 1 ≤ length ps → beside_all (kinds_of_each s (plans (map plan_seen ps))) ≡ option_map joined (kinds_of_each s (plans (map plan_seen ps)))
+join-some s [] h = absurd (omega arith)
+join-some s (p ∷ ps) h = beside_all-more (plan_kinds s (plan_seen p)) (kinds_of_each s (plans (map plan_seen ps)))
+
+pub union-some : (s : Tables) (ps : List PlanValue) (first : PlanValue) (ks : Kinds) → 1 ≤ length ps → first ≡ get_or ps 0 first → plan_kinds s (plan_seen first) ≡ Some ks →
+    (if are_alike ks (kinds_of_each s (plans (map plan_seen ps))) then Some ks else None) ≡ alike (kinds_of_each s (plans (map plan_seen ps)))
+union-some s [] first ks h is e = absurd (omega arith)
+union-some s (p ∷ ps) first ks h is e =
+    let here : plan_kinds s (plan_seen p) ≡ Some ks = ap (λ q. plan_kinds s (plan_seen q)) (sym is) ∙ e in
+    rw here (sym (alike-more ks (kinds_of_each s (plans (map plan_seen ps)))))
+
+pub ruleset plan_lists = (are_alike-more, alike-more, beside_all-more, onto-none, onto-nil, onto-more)

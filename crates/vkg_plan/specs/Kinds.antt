@@ -1,0 +1,80 @@
+-- The kinds of a plan's columns over a schema; none where it is ill typed.
+use Rattle.std.specs.Prelude.{ℕ, Bool, true, false, List, [], ◌∷◌, ◌++◌, length, map, slice_get, Option, Some, None, option_map, option_and_then, is_some, if◌then◌else◌}
+use Rattle.std.specs.List.{list_all}
+use Rattle.std.specs.Cmp.Lexicographic.{pointwise}
+use Rattle.std.specs.Option.{option_map_or}
+use Rattle.vkg_cells.specs.declared.cell.SqlType.{SqlType}
+use Rattle.vkg_cells.specs.declared.cell.SqlType.TheVariants as kind
+use Rattle.vkg_schema.specs.declared.table.Table.{Table}
+use Rattle.vkg_expr.specs.Expr.{Expr, exprs}
+use Rattle.vkg_expr.specs.Typing.{is_one, kind_of, kinds_of, same_kind}
+use Rattle.vkg_plan.specs.Plan.{Plan, Plans, Unit, Empty, Scan, Select, Project, Join, Left, UnionAll, Distinct, Nil, More}
+
+-- the tables of a schema
+abbrev pub Tables : Type 0
+Tables = List Table
+
+abbrev pub Kinds : Type 0
+Kinds = List SqlType
+
+abbrev pub table_kinds : Tables → ℕ → Option Kinds
+table_kinds schema table = option_map (λ t. map (λ c. c.kind) t.columns) (slice_get schema table)
+
+-- the kinds, where the condition over them is a truth
+abbrev pub checked : Expr → Option Kinds → Option Kinds
+checked c None = None
+checked c (Some ks) = if is_one kind.Bool (kind_of c ks) then Some ks else None
+
+abbrev pub beside_two : Option Kinds → Option Kinds → Option Kinds
+beside_two (Some ks) (Some ls) = Some (ks ++ ls)
+beside_two ks ls = None
+
+-- one after another
+abbrev pub joined : List Kinds → Kinds
+joined [] = []
+joined (ks ∷ kss) = ks ++ joined kss
+
+-- the kinds of one or more after each other
+abbrev pub beside_all : Option (List Kinds) → Option Kinds
+beside_all (Some (ks ∷ kss)) = Some (joined (ks ∷ kss))
+beside_all kss = None
+
+abbrev pub is_alike : Kinds → Option Kinds → Bool
+is_alike ks None = false
+is_alike ks (Some ls) = pointwise same_kind ks ls
+
+abbrev pub are_alike : Kinds → Option (List Kinds) → Bool
+are_alike ks None = false
+are_alike ks (Some kss) = list_all (pointwise same_kind ks) kss
+
+-- the kinds that one or more members have alike
+abbrev pub alike : Option (List Kinds) → Option Kinds
+alike (Some (ks ∷ kss)) = if list_all (pointwise same_kind ks) kss then Some ks else None
+alike kss = None
+
+abbrev pub with_first : Option Kinds → Option (List Kinds) → Option (List Kinds)
+with_first (Some ks) (Some kss) = Some (ks ∷ kss)
+with_first ks kss = None
+
+abbrev mutual
+  pub plan_kinds : Tables → Plan → Option Kinds
+  plan_kinds schema Unit = Some []
+  plan_kinds schema (Empty ks) = Some ks
+  plan_kinds schema (Scan table) = table_kinds schema table
+  plan_kinds schema (Select c p) = checked c (plan_kinds schema p)
+  plan_kinds schema (Project es p) = option_and_then (kinds_of (exprs es)) (plan_kinds schema p)
+  plan_kinds schema (Join ps c) = checked c (beside_all (kinds_of_each schema ps))
+  plan_kinds schema (Left p q c) = checked c (beside_two (plan_kinds schema p) (plan_kinds schema q))
+  plan_kinds schema (UnionAll ps) = alike (kinds_of_each schema ps)
+  plan_kinds schema (Distinct p) = plan_kinds schema p
+
+  pub kinds_of_each : Tables → Plans → Option (List Kinds)
+  kinds_of_each schema Nil = Some []
+  kinds_of_each schema (More p ps) = with_first (plan_kinds schema p) (kinds_of_each schema ps)
+
+abbrev pub is_well_typed : Tables → Plan → Bool
+is_well_typed schema p = is_some (plan_kinds schema p)
+
+-- the number of a plan's columns
+abbrev pub width : Tables → Plan → ℕ
+width schema p = option_map_or length (plan_kinds schema p) 0

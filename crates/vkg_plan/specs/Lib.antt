@@ -1,0 +1,5 @@
+pub mod Plan
+pub mod Seen
+pub mod Kinds
+pub mod Rows
+pub mod Laws

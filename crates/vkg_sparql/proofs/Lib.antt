@@ -1,0 +1,5 @@
+pub mod Certificate
+pub mod Dropping
+pub mod Failing
+pub mod NamesLemmas
+pub mod Steps

@@ -1,0 +1,116 @@
+-- What may be wrong with a query that is a text of the grammar.
+use Rattle.std.specs.Prelude.{ℕ, Bool, true, false, ◌||◌, ◌&&◌, not, List, [], ◌∷◌, ◌++◌, codes, drop, filter, fold, length, map, min, position, slice_get, Option, Some, None, option_map, if◌then◌else◌, ◌==◌, nat_le, nat_lt, nat_eq}
+use Rattle.std.specs.List.{list_any}
+use Rattle.std.specs.Str.{bytes_eq}
+use Rattle.vkg_terms.specs.declared.term.Term.{Term}
+use Rattle.vkg_terms.specs.declared.term.Term.TheVariants.{Lit}
+use Rattle.vkg_terms.specs.declared.term.Annotation.TheVariants.{Typed}
+use Rattle.vkg_terms.specs.Iri.{is_absolute}
+use Rattle.vkg_terms.specs.Vocabulary.{xsd}
+use Rattle.vkg_turtle.specs.declared.lexeme.Word.{Word}
+use Rattle.vkg_turtle.specs.declared.lexeme.Word.TheVariants.{Name, Label}
+use Rattle.vkg_turtle.specs.Document.{earlier}
+use Rattle.vkg_sparql.specs.declared.checks.Check.{Check}
+use Rattle.vkg_sparql.specs.declared.checks.Check.TheVariants.{Unknown, Relative, Float, Wide}
+use Rattle.vkg_sparql.specs.declared.blocks.Blocks.{Blocks}
+use Rattle.vkg_sparql.specs.declared.environment.Environment.{Environment}
+use Rattle.vkg_sparql.specs.declared.lexeme.Lexeme.{Lexeme}
+use Rattle.vkg_sparql.specs.declared.meaning.TripleTokens.{TripleTokens}
+use Rattle.vkg_sparql.specs.Environment.{iri_of}
+use Rattle.vkg_sparql.specs.Lawful.{is_wide}
+use Rattle.vkg_sparql.specs.Literals.{term_of}
+
+abbrev pub is_missing : Option (List ℕ) → Bool
+is_missing None = true
+is_missing (Some iri) = false
+
+-- a name whose prefix is not declared
+abbrev pub is_unknown : Environment → Word → Bool
+is_unknown e (Name prefix local) = is_missing (iri_of e (Name prefix local))
+is_unknown e word = false
+
+abbrev pub is_relative : Option (List ℕ) → Bool
+is_relative None = false
+is_relative (Some iri) = not (is_absolute iri)
+
+-- own: literals of xsd:double and xsd:float are outside the profile
+abbrev pub is_float_type : List ℕ → Bool
+is_float_type datatype = bytes_eq datatype (xsd (codes "double")) || bytes_eq datatype (xsd (codes "float"))
+
+abbrev pub is_float : Term → Bool
+is_float (Lit text (Typed datatype)) = is_float_type datatype
+is_float t = false
+
+-- a string or a number
+abbrev pub is_literal : ℕ → Bool
+is_literal kind = (kind == 31) || (kind == 33) || (kind == 34)
+
+-- the check fails at a token, where these follow
+unfoldable pub fails : Check → Environment → Lexeme → List Lexeme → Bool
+fails Unknown e x xs = is_unknown e x.word
+fails Relative e x xs = is_relative (iri_of e x.word)
+fails Float e x xs = if is_literal x.kind then is_float (term_of e x.word xs) else false
+fails Wide e x xs = if is_literal x.kind then is_wide (term_of e x.word xs) else false
+
+-- the place of the first token at which the check fails
+abbrev pub first_place : Check → Environment → List Lexeme → Option ℕ
+first_place check e [] = None
+first_place check e (x ∷ xs) = if fails check e x xs then Some x.at else first_place check e xs
+
+-- SPARQL 1.1, 5.1.1: filters alone end no basic graph pattern, a brace does. So a basic graph pattern is told by the last
+-- brace before it.
+abbrev pub with_text : List (List ℕ) → List ℕ → List (List ℕ)
+with_text texts text = if list_any (bytes_eq text) texts then texts else texts ++ text ∷ []
+
+abbrev pub is_here : Blocks → Option ℕ → Bool
+is_here b None = false
+is_here b (Some brace) = brace == b.brace
+
+abbrev pub with_found : Blocks → ℕ → List ℕ → Option ℕ → Blocks
+with_found b at label None = record b { labels = with_text b.labels label; braces = b.braces ++ b.brace ∷ [] }
+with_found b at label (Some n) = if is_here b (slice_get b.braces n) then b else record b { again = earlier b.again at }
+
+abbrev pub with_label : Blocks → ℕ → Word → Blocks
+with_label b at (Label label) = with_found b at label (position (bytes_eq label) b.labels)
+with_label b at word = b
+
+abbrev pub block_step : Blocks → Lexeme → Blocks
+block_step b x =
+    if (x.kind == 0) || (x.kind == 1) then record b { brace = x.at }
+    else if x.kind == 29 then with_label b x.at x.word
+    else b
+
+-- the first use of a label in a second basic graph pattern (5.1.1 forbids it)
+abbrev pub label_again : List Lexeme → Option ℕ
+label_again xs = (fold block_step (record { labels = []; braces = []; brace = 0; again = None }) xs).again
+
+-- own: the nodes that are counted: a group's `{`, OPTIONAL, GRAPH, FILTER, UNION, the signs of operators, the words of calls
+abbrev pub is_node : ℕ → Bool
+is_node kind = (kind == 0) || (nat_le 9 kind && nat_le kind 17) || (nat_le 45 kind && nat_le kind 58)
+
+abbrev pub node_places : List Lexeme → List ℕ
+node_places xs = map (λ x. x.at) (filter (λ x. is_node x.kind) xs)
+
+-- where the token with this number begins
+abbrev pub place_in : List Lexeme → ℕ → Option ℕ
+place_in xs token = option_map (λ x. x.at) (slice_get xs token)
+
+abbrev pub subject_place : List Lexeme → Option TripleTokens → Option ℕ
+subject_place xs None = None
+subject_place xs (Some t) = place_in xs t.subject
+
+-- own: at most 128 triple patterns and 1,024 nodes
+abbrev pub triples_over : List Lexeme → List TripleTokens → Option ℕ
+triples_over xs ts = subject_place xs (slice_get ts 128)
+
+abbrev pub nodes_over : List Lexeme → Option ℕ
+nodes_over xs = slice_get (node_places xs) 1024
+
+-- own: at most 2,147,483,647 bytes
+abbrev pub size_over : ℕ → Option ℕ
+size_over size = if nat_lt 2147483647 size then Some 2147483647 else None
+
+abbrev pub lesser : Option ℕ → Option ℕ → Option ℕ
+lesser None b = b
+lesser (Some a) None = Some a
+lesser (Some a) (Some b) = Some (min a b)

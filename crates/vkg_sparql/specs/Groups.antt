@@ -1,0 +1,92 @@
+-- SPARQL 1.1, 19.8, [1] to [9], [53] to [68]: groups and the query, off its tree.
+use Rattle.std.specs.Prelude.{ℕ, Bool, true, false, List, [], ◌∷◌, ◌++◌, map}
+use Rattle.vkg_grammar.specs.Trees.{Tree, pair, first, second}
+use Rattle.vkg_sparql.specs.declared.condition.Condition.{Condition}
+use Rattle.vkg_sparql.specs.declared.meaning.Meaning.{Meaning}
+use Rattle.vkg_sparql.specs.declared.meaning.TripleTokens.{TripleTokens}
+use Rattle.vkg_sparql.specs.declared.pattern.TriplePattern.{TriplePattern}
+use Rattle.vkg_sparql.specs.declared.query.Part.{Part}
+use Rattle.vkg_sparql.specs.declared.query.Part.TheVariants.{Triples, Filter, Optional, Graph, Groups}
+use Rattle.vkg_sparql.specs.declared.query.Query.{Query}
+use Rattle.vkg_sparql.specs.declared.query.Selected.{Selected}
+use Rattle.vkg_sparql.specs.declared.query.Selected.TheVariants.{All, Listed}
+use Rattle.vkg_sparql.specs.Conditions.{filter_value}
+use Rattle.vkg_sparql.specs.Meanings.{first_token, meaning_at, number_of, pattern_of, name_of}
+use Rattle.vkg_sparql.specs.Triples.{block_value, group_triples}
+
+abbrev pub patterns_of : List Meaning → List TripleTokens → List TriplePattern
+patterns_of ms ts = map (pattern_of ms) ts
+
+-- [ block ]
+abbrev pub block_parts : List Meaning → Tree → List Part
+block_parts ms (first t) = Triples (patterns_of ms (block_value t)) ∷ []
+block_parts ms t = []
+
+-- of a tree that no production has
+abbrev pub no_part : Part
+no_part = Triples []
+
+abbrev mutual
+  -- group = "{" [ block ] { part [ "." ] [ block ] } "}"
+  pub group_value : List Meaning → Tree → List Part
+  group_value ms (pair left (pair block (pair more right))) = block_parts ms block ++ parts_value ms more
+  group_value ms t = []
+
+  pub parts_value : List Meaning → Tree → List Part
+  parts_value ms (pair (pair p (pair dot block)) more) = (part_value ms p ∷ block_parts ms block) ++ parts_value ms more
+  parts_value ms t = []
+
+  -- part = OPTIONAL group | GRAPH name group | FILTER filter | group { UNION group }
+  pub part_value : List Meaning → Tree → Part
+  part_value ms (first (pair word g)) = Optional (group_value ms g)
+  part_value ms (second t) = other_value ms t
+  part_value ms t = no_part
+
+  pub other_value : List Meaning → Tree → Part
+  other_value ms (first t) = graph_value ms t
+  other_value ms (second (first (pair word t))) = Filter (filter_value ms t)
+  other_value ms (second (second t)) = union_value ms t
+  other_value ms t = no_part
+
+  -- GRAPH name group
+  pub graph_value : List Meaning → Tree → Part
+  graph_value ms (pair word (pair name g)) = Graph (name_of (meaning_at ms (first_token name))) (group_value ms g)
+  graph_value ms t = no_part
+
+  -- group { UNION group }
+  pub union_value : List Meaning → Tree → Part
+  union_value ms (pair g more) = Groups (group_value ms g) (groups_value ms more)
+  union_value ms t = no_part
+
+  pub groups_value : List Meaning → Tree → List (List Part)
+  groups_value ms (pair (pair word g) more) = group_value ms g ∷ groups_value ms more
+  groups_value ms t = []
+
+-- { VAR }
+abbrev pub numbers_value : List Meaning → Tree → List ℕ
+numbers_value ms (pair v more) = number_of (meaning_at ms (first_token v)) ∷ numbers_value ms more
+numbers_value ms t = []
+
+-- selection = VAR { VAR } | "*"
+abbrev pub selection_value : List Meaning → Tree → Selected
+selection_value ms (first t) = Listed (numbers_value ms t)
+selection_value ms t = All
+
+-- [ DISTINCT | REDUCED ]
+abbrev pub is_distinct : Tree → Bool
+is_distinct (first (first t)) = true
+is_distinct t = false
+
+-- of a tree that no production has
+abbrev pub no_query : List (List ℕ) → Query
+no_query names = record { names = names; distinct = false; selected = All; group = [] }
+
+-- query = prologue SELECT [ DISTINCT | REDUCED ] selection [ WHERE ] group, where the variables and labels have these names
+abbrev pub query_value : List (List ℕ) → List Meaning → Tree → Query
+query_value names ms (pair prologue (pair select (pair kind (pair selection (pair where_ g))))) = record { names = names; distinct = is_distinct kind; selected = selection_value ms selection; group = group_value ms g }
+query_value names ms t = no_query names
+
+-- all triple patterns of a query, by their tokens
+abbrev pub query_triples : Tree → List TripleTokens
+query_triples (pair prologue (pair select (pair kind (pair selection (pair where_ g))))) = group_triples g
+query_triples t = []

@@ -1,0 +1,75 @@
+-- What the tokens of a query say by themselves, and how its variables and blank nodes are numbered.
+use Rattle.std.specs.Prelude.{ℕ, Bool, ◌||◌, List, [], ◌∷◌, ◌++◌, codes, decimal, fold, length, map, position, unwrap_or, Option, Some, None, if◌then◌else◌, ◌==◌}
+use Rattle.std.specs.List.{list_any}
+use Rattle.std.specs.Str.{bytes_eq}
+use Rattle.vkg_tokens.specs.declared.cutting.Token.{Token}
+use Rattle.vkg_turtle.specs.declared.lexeme.Word.{Word}
+use Rattle.vkg_turtle.specs.declared.lexeme.Word.TheVariants.{Label}
+use Rattle.vkg_turtle.specs.Words.{between, word_of}
+use Rattle.vkg_sparql.specs.declared.lexeme.Lexeme.{Lexeme}
+use Rattle.vkg_sparql.specs.declared.names.Named.{Named}
+
+-- the number of the same kind of token in Turtle (19.2 and 19.8 of SPARQL 1.1 and 6.5 of RDF 1.1 Turtle have the same
+-- productions), or that of a sign
+abbrev pub turtle_kind : ℕ → ℕ
+turtle_kind kind =
+    if kind == 26 then 15
+    else if kind == 27 then 16
+    else if kind == 28 then 17
+    else if kind == 29 then 18
+    else if kind == 31 then 19
+    else if kind == 32 then 20
+    else if kind == 33 then 21
+    else if kind == 34 then 22
+    else if kind == 36 then 9
+    else if (kind == 37) || (kind == 38) then 11
+    else 0
+
+-- a variable is kept as its name's bytes, without `?` or `$`
+abbrev pub variable_or : ℕ → List ℕ → Word → Word
+variable_or kind token word = if kind == 30 then Label (between token 1 (length token)) else word
+
+abbrev pub lexeme_word : ℕ → List ℕ → Word
+lexeme_word kind token = variable_or kind token (word_of (turtle_kind kind) token)
+
+abbrev pub lexeme_of : List ℕ → Token → Lexeme
+lexeme_of text t = record { kind = t.kind; at = t.start; word = lexeme_word t.kind (between text t.start t.end) }
+
+abbrev pub lexemes_of : List ℕ → List Token → List Lexeme
+lexemes_of text ts = map (lexeme_of text) ts
+
+-- variables with `?` before their names, labels with `_:`, and each `[` by its place are told apart
+abbrev pub label_key : ℕ → Word → Option (List ℕ)
+label_key kind (Label name) = if kind == 30 then Some (codes "?" ++ name) else Some (codes "_:" ++ name)
+label_key kind word = None
+
+abbrev pub key_of : Lexeme → Option (List ℕ)
+key_of x = if x.kind == 4 then Some (codes "[" ++ decimal x.at) else label_key x.kind x.word
+
+-- the name of a variable or a label; that of a `[` is empty
+abbrev pub name_of : Word → List ℕ
+name_of (Label name) = name
+name_of word = []
+
+-- own: no more than 256 variables and blank nodes; the place of the next one is kept
+abbrev pub place_of_more : Named → ℕ → Option ℕ
+place_of_more named at = if length named.keys == 256 then Some at else named.over
+
+abbrev pub with_new_key : Named → List ℕ → Lexeme → Named
+with_new_key named key x = record { keys = named.keys ++ key ∷ []; names = named.names ++ name_of x.word ∷ []; over = place_of_more named x.at }
+
+abbrev pub with_key : Named → Option (List ℕ) → Lexeme → Named
+with_key named None x = named
+with_key named (Some key) x = if list_any (bytes_eq key) named.keys then named else with_new_key named key x
+
+abbrev pub no_names : Named
+no_names = record { keys = []; names = []; over = None }
+
+-- the variables and blank nodes, each where it first stands
+abbrev pub named_of : List Lexeme → Named
+named_of xs = fold (λ named x. with_key named (key_of x) x) no_names xs
+
+-- the number of what a lexeme names
+abbrev pub number_in : List (List ℕ) → Option (List ℕ) → ℕ
+number_in keys None = 0
+number_in keys (Some key) = unwrap_or (position (bytes_eq key) keys) 0

@@ -1,0 +1,12 @@
+pub mod Checks
+pub mod Conditions
+pub mod Environment
+pub mod Groups
+pub mod Lawful
+pub mod Lexemes
+pub mod Literals
+pub mod Meanings
+pub mod Query
+pub mod Reading
+pub mod Seen
+pub mod Triples

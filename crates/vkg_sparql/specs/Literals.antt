@@ -1,0 +1,78 @@
+-- SPARQL 1.1, 4.1.2: the terms and the other meanings of the tokens of a query.
+use Rattle.std.specs.Prelude.{ℕ, Bool, true, false, ◌||◌, ◌&&◌, List, [], ◌∷◌, codes, if◌then◌else◌, ◌==◌}
+use Rattle.std.specs.Str.{bytes_eq, str_to_ascii_lowercase}
+use Rattle.vkg_terms.specs.declared.term.Term.{Term}
+use Rattle.vkg_terms.specs.declared.term.Term.TheVariants.{Iri, Lit}
+use Rattle.vkg_terms.specs.declared.term.Annotation.{Annotation}
+use Rattle.vkg_terms.specs.declared.term.Annotation.TheVariants.{Plain, Lang, Typed}
+use Rattle.vkg_terms.specs.Vocabulary.{xsd, rdf_type}
+use Rattle.vkg_turtle.specs.declared.lexeme.Word.{Word}
+use Rattle.vkg_turtle.specs.declared.lexeme.Word.TheVariants.{Quoted, Tag, Integer, Decimal, Double, Boolean, IsA}
+use Rattle.vkg_turtle.specs.Document.{annotation_of_type, typed}
+use Rattle.vkg_values.specs.declared.operator.Test.TheVariants.{IsIri, IsBlank, IsLiteral, IsNumeric}
+use Rattle.vkg_values.specs.declared.operator.Take.TheVariants as take
+use Rattle.vkg_values.specs.declared.operator.Compare.TheVariants.{Equal, NotEqual, Less, Greater, LessOrEqual, GreaterOrEqual}
+use Rattle.vkg_sparql.specs.declared.environment.Environment.{Environment}
+use Rattle.vkg_sparql.specs.declared.lexeme.Lexeme.{Lexeme}
+use Rattle.vkg_sparql.specs.declared.meaning.Meaning.{Meaning}
+use Rattle.vkg_sparql.specs.declared.meaning.Meaning.TheVariants.{Mark, Variable, Label, Fixed, Compare, Test, Take}
+use Rattle.vkg_sparql.specs.Environment.{iri_text}
+use Rattle.vkg_sparql.specs.Lexemes.{key_of, number_in}
+
+-- behind `^^`, which is of kind 22
+abbrev pub type_behind : Environment → List Lexeme → Annotation
+type_behind e [] = Plain
+type_behind e (x ∷ xs) = annotation_of_type (iri_text e x.word)
+
+abbrev pub tag_or_type : Environment → Word → Bool → List Lexeme → Annotation
+tag_or_type e (Tag text) is_type xs = Lang text
+tag_or_type e word is_type xs = if is_type then type_behind e xs else Plain
+
+-- a string's language tag or datatype, from the tokens behind it
+abbrev pub annotation : Environment → List Lexeme → Annotation
+annotation e [] = Plain
+annotation e (x ∷ xs) = tag_or_type e x.word (x.kind == 22) xs
+
+-- the term that begins with a token, where these tokens follow; `true` and `false` have small letters however written
+abbrev pub term_of : Environment → Word → List Lexeme → Term
+term_of e (Quoted text) xs = Lit text (annotation e xs)
+term_of e (Integer text) xs = typed text (codes "integer")
+term_of e (Decimal text) xs = typed text (codes "decimal")
+term_of e (Boolean text) xs = typed (str_to_ascii_lowercase text) (codes "boolean")
+term_of e IsA xs = Iri rdf_type
+term_of e word xs = Iri (iri_text e word)
+
+-- 17.3, 17.4: by the kinds of the signs = != < > <= >= and the words isIRI .. DATATYPE
+abbrev pub operator_of : ℕ → Meaning
+operator_of kind =
+    if kind == 9 then Compare Equal
+    else if kind == 10 then Compare NotEqual
+    else if kind == 11 then Compare Less
+    else if kind == 12 then Compare Greater
+    else if kind == 13 then Compare LessOrEqual
+    else if kind == 14 then Compare GreaterOrEqual
+    else if (kind == 51) || (kind == 52) then Test IsIri
+    else if kind == 53 then Test IsBlank
+    else if kind == 54 then Test IsLiteral
+    else if kind == 55 then Test IsNumeric
+    else if kind == 56 then Take take.Str
+    else if kind == 57 then Take take.Lang
+    else if kind == 58 then Take take.Datatype
+    else Mark
+
+-- IRIREF, PNAME_NS, PNAME_LN, a string, INTEGER, DECIMAL, `a`, `true`, `false`
+abbrev pub is_term : ℕ → Bool
+is_term kind =
+    (kind == 26) || (kind == 27) || (kind == 28) || (kind == 31) || (kind == 33) || (kind == 34) || (kind == 36) || (kind == 37) || (kind == 38)
+
+-- what a token means, where these follow
+unfoldable pub meaning_of : Environment → List (List ℕ) → Lexeme → List Lexeme → Meaning
+meaning_of e keys x xs =
+    if x.kind == 30 then Variable (number_in keys (key_of x))
+    else if (x.kind == 29) || (x.kind == 4) then Label (number_in keys (key_of x))
+    else if is_term x.kind then Fixed (term_of e x.word xs)
+    else operator_of x.kind
+
+abbrev pub meanings_of : Environment → List (List ℕ) → List Lexeme → List Meaning
+meanings_of e keys [] = []
+meanings_of e keys (x ∷ xs) = meaning_of e keys x xs ∷ meanings_of e keys xs

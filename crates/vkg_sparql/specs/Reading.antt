@@ -1,0 +1,170 @@
+-- Which bytes are a query, what it says, and the first fault of others.
+use Rattle.std.specs.Prelude.{◌≡◌, ℕ, Bool, ◌||◌, List, [], ◌∷◌, drop, length, map, slice_index_or, IsUtf8, Option, Some, None, Ok, Err, if◌then◌else◌, ◌==◌, nat_le, ◌&&◌, Result}
+use Rattle.std.specs.Str.Lossy.{utf8_valid_len}
+use Rattle.vkg_grammar.specs.Form.{Form, IsTooDeep, IsShallow}
+use Rattle.vkg_grammar.specs.Kinds.{kinds_of}
+use Rattle.vkg_grammar.specs.OneTree.{IsTheTree}
+use Rattle.vkg_grammar.specs.Parsing.{IsFirstDead, IsCutOff}
+use Rattle.vkg_grammar.specs.Trees.{Tree}
+use Rattle.vkg_tokens.specs.declared.cutting.Token.{Token}
+use Rattle.vkg_tokens.specs.declared.lang.Lang.TheVariants.{Sparql}
+use Rattle.vkg_tokens.specs.Cut.{tokens_of}
+use Rattle.vkg_tokens.specs.Mark.{without_mark}
+use Rattle.vkg_sparql.specs.declared.checks.Check.TheVariants.{Unknown, Relative, Float, Wide}
+use Rattle.vkg_sparql.specs.declared.environment.Environment.{Environment}
+use Rattle.vkg_sparql.specs.declared.grammar_table.TheConstants.{SPARQL}
+use Rattle.vkg_sparql.specs.declared.lexeme.Lexeme.{Lexeme}
+use Rattle.vkg_sparql.specs.declared.names.Named.{Named}
+use Rattle.vkg_sparql.specs.declared.query.Query.{Query}
+use Rattle.vkg_sparql.specs.declared.fault.QueryError.{QueryError}
+use Rattle.vkg_sparql.specs.declared.fault.QueryError.TheVariants.{Fault, Memory}
+use Rattle.vkg_sparql.specs.declared.fault.QueryFault.{QueryFault}
+use Rattle.vkg_sparql.specs.Checks.{first_place, label_again, triples_over, nodes_over, size_over, lesser}
+use Rattle.vkg_sparql.specs.Environment.{environment_of, body_start}
+use Rattle.vkg_sparql.specs.Groups.{query_value, query_triples}
+use Rattle.vkg_sparql.specs.Lexemes.{lexemes_of, named_of}
+use Rattle.vkg_sparql.specs.Literals.{meanings_of}
+
+-- the tokens of a query
+abbrev pub sparql_tokens : List ℕ → Result (List Token) ℕ
+sparql_tokens text = tokens_of Sparql text
+
+-- the grammar of queries, where at most 64 brackets are open at once: 0, 2 and 4 are `{`, `(` and `[`, 1, 3 and 5 close them
+abbrev pub sparql : Form
+sparql = record {
+  rules = SPARQL;
+  kinds = 61;
+  openers = 0 ∷ 2 ∷ 4 ∷ [];
+  closers = 1 ∷ 3 ∷ 5 ∷ [];
+  limit = Some 64;
+}
+
+-- where a token begins
+abbrev pub start_at : List Token → ℕ → ℕ
+start_at ts i = slice_index_or (map (λ t. t.start) ts) i 0
+
+abbrev pub kind_at : List Token → ℕ → ℕ
+kind_at ts i = slice_index_or (map (λ t. t.kind) ts) i 0
+
+abbrev pub fault : ℕ → ℕ → QueryFault
+fault check at = record { check = check; at = at }
+
+-- own: the tokens that SPARQL 1.1 has and the profile leaves out: `(` `*` `/` `|` `^` `+` `-` `?`, a number with an exponent,
+-- SELECT within a query, and the words of kind 59
+abbrev pub is_outside : ℕ → Bool
+is_outside kind = (kind == 2) || (nat_le 18 kind && nat_le kind 21) || (nat_le 23 kind && nat_le kind 25) || (kind == 35) || (kind == 41) || (kind == 59)
+
+-- the check of a dead token
+abbrev pub dead_check : ℕ → ℕ
+dead_check kind = if is_outside kind then 7 else 2
+
+-- what was read of a text of the grammar: its tokens, what its prologue declares, and the tokens behind that
+pub record Read : Type 0 where
+  pub lexemes : List Lexeme
+  pub environment : Environment
+  pub body : List Lexeme
+  pub named : Named
+  pub tree : Tree
+  pub size : ℕ
+
+abbrev pub parts : ℕ → List Lexeme → Environment → List Lexeme → Named → Tree → Read
+parts size xs e body named tree = record { lexemes = xs; environment = e; body = body; named = named; tree = tree; size = size }
+
+abbrev pub read_with : ℕ → List Lexeme → Environment → List Lexeme → Tree → Read
+read_with size xs e body tree = parts size xs e body (named_of body) tree
+
+abbrev pub read_lexemes : ℕ → List Lexeme → List ℕ → Tree → Read
+read_lexemes size xs base tree = read_with size xs (environment_of xs base tree) (drop (body_start tree) xs) tree
+
+abbrev pub read : List ℕ → List Token → List ℕ → Tree → Read
+read text tokens base tree = read_lexemes (length text) (lexemes_of text tokens) base tree
+
+abbrev pub fault_if : ℕ → Option ℕ → Option QueryFault → Option QueryFault
+fault_if check None later = later
+fault_if check (Some at) later = Some (fault check at)
+
+abbrev pub or_first : Option ℕ → Option ℕ → Option ℕ
+or_first None later = later
+or_first (Some at) later = Some at
+
+-- the least place at which a limit is passed
+abbrev pub limit_over : Read → Option ℕ
+limit_over r = lesser (lesser (triples_over r.lexemes (query_triples r.tree)) (nodes_over r.lexemes)) (lesser r.named.over (size_over r.size))
+
+-- the least check that fails, at its least place: 4 a prefix, 5 an IRI, 6 a blank node label, 7 a datatype outside the profile,
+-- 8 a number, 9 a limit
+abbrev pub fault_of : Read → Option QueryFault
+fault_of r =
+    fault_if 4 (first_place Unknown r.environment r.body)
+    (fault_if 5 (or_first r.environment.relative (first_place Relative r.environment r.body))
+    (fault_if 6 (label_again r.body)
+    (fault_if 7 (first_place Float r.environment r.body)
+    (fault_if 8 (first_place Wide r.environment r.body)
+    (fault_if 9 (limit_over r) None)))))
+
+-- the query
+abbrev pub query_of : Read → Query
+query_of r = query_value r.named.names (meanings_of r.environment r.named.keys r.lexemes) r.tree
+
+-- The text is one of the grammar, and this is what was read of it.
+pub record Says (text base : List ℕ) (r : Read) : Type 0 where
+  pub tokens : List Token
+  pub tree : Tree
+  pub cut : sparql_tokens text ≡ Ok tokens
+  pub shallow : IsShallow sparql (kinds_of tokens)
+  pub the_tree : IsTheTree SPARQL (kinds_of tokens) tree
+  pub said : r ≡ read text tokens base tree
+
+-- At this place a bracket begins that makes the depth 65, the first to do so.
+pub record IsTooDeepText (text : List ℕ) (at : ℕ) : Type 0 where
+  pub tokens : List Token
+  pub bracket : ℕ
+  pub cut : sparql_tokens text ≡ Ok tokens
+  pub deep : IsTooDeep sparql (kinds_of tokens) bracket
+  pub place : at ≡ start_at tokens bracket
+
+-- The first token that no query goes on with begins here, and is outside the profile or not.
+pub record IsDeadText (text : List ℕ) (f : QueryFault) : Type 0 where
+  pub tokens : List Token
+  pub token : ℕ
+  pub cut : sparql_tokens text ≡ Ok tokens
+  pub shallow : IsShallow sparql (kinds_of tokens)
+  pub dead : IsFirstDead SPARQL (kinds_of tokens) token
+  pub named : f ≡ fault (dead_check (kind_at tokens token)) (start_at tokens token)
+
+-- The text begins a query and is none.
+pub record IsCutOffText (text : List ℕ) : Type 0 where
+  pub tokens : List Token
+  pub cut : sparql_tokens text ≡ Ok tokens
+  pub shallow : IsShallow sparql (kinds_of tokens)
+  pub short : IsCutOff SPARQL (kinds_of tokens)
+
+-- The text is a query against this base, and no check fails of it.
+pub record IsQueryText (text base : List ℕ) (q : Query) : Type 0 where
+  pub said : Read
+  pub utf8 : IsUtf8 text
+  pub says : Says text base said
+  pub fine : fault_of said ≡ None
+  pub is : q ≡ query_of said
+
+-- The first fault of a text: what is no UTF-8, then no token, then too many brackets, then a dead token or an early end,
+-- then the checks.
+pub data IsFaultOf (text base : List ℕ) : QueryFault → Type 0 where
+  no_utf8 : {at : ℕ} → (IsUtf8 text → ⊥) → at ≡ utf8_valid_len text → IsFaultOf text base (fault 1 at)
+  no_token : {at : ℕ} → IsUtf8 text → sparql_tokens text ≡ Err at → IsFaultOf text base (fault 1 at)
+  too_deep : {at : ℕ} → IsUtf8 text → IsTooDeepText text at → IsFaultOf text base (fault 3 at)
+  dead : {f : QueryFault} → IsUtf8 text → IsDeadText text f → IsFaultOf text base f
+  cut_off : {at : ℕ} → IsUtf8 text → IsCutOffText text → at ≡ length text → IsFaultOf text base (fault 2 at)
+  checked : {f : QueryFault} (r : Read) → IsUtf8 text → Says text base r → fault_of r ≡ Some f → IsFaultOf text base f
+
+abbrev pub TextFails : List ℕ → List ℕ → QueryError → Type 0
+TextFails text base Memory = Unit {0}
+TextFails text base (Fault f) = IsFaultOf text base f
+
+-- these bytes are this query, against this base; one byte order mark at the front is no part of the text
+abbrev pub IsQuery : List ℕ → List ℕ → Query → Type 0
+IsQuery bytes base q = IsQueryText (without_mark bytes) base q
+
+-- why bytes are no query; places are counted behind the byte order mark
+abbrev pub Fails : List ℕ → List ℕ → QueryError → Type 0
+Fails bytes base e = TextFails (without_mark bytes) base e

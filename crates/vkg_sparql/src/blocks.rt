@@ -1,0 +1,114 @@
+ghost use Rattle.std.specs.Prelude.{◌≡◌, position, slice_get, OnOk, IfOk};
+ghost use Rattle.std.specs.Str.{bytes_eq};
+ghost use Rattle.vkg_sparql.specs.Checks.{is_here, with_found, with_label, block_step, label_again};
+ghost use Rattle.vkg_turtle.specs.Document.{earlier};
+
+use crate::lexeme::Lexeme;
+use crate::names::Names;
+use std::alloc::Global;
+use vkg_base::{Items, Memory};
+use vkg_turtle::Word;
+
+/// The blank node labels of a query, each with the last brace before its first use; the last brace; and the first use of a
+/// label in a second basic graph pattern.
+#[derive(Drop)]
+pub struct Blocks {
+    pub labels: Names,
+    pub braces: Items<usize>,
+    pub brace: usize,
+    pub again: Option<usize>,
+}
+
+fn earlier(first: Option<usize>, at: usize) -> Option<usize>
+    ensures { result ≡ earlier first at }
+{
+    match first {
+        Some(first) => Some(first),
+        None => Some(at),
+    }
+}
+
+fn brace_at(braces: &[usize], number: usize) -> Option<usize>
+    ensures { result ≡ slice_get braces.now number }
+{
+    match braces.get(number) {
+        Some(brace) => Some(*brace),
+        None => None,
+    }
+}
+
+impl Blocks {
+    fn is_here(&self, brace: Option<usize>) -> bool
+        ensures { result ≡ is_here self.now brace }
+    {
+        match brace {
+            Some(brace) => brace == self.brace,
+            None => false,
+        }
+    }
+
+    fn meet(
+        &mut self,
+        alloc: Global,
+        at: usize,
+        label: &str,
+        found: Option<usize>,
+    ) -> Result<(), Memory>
+        ensures { OnOk result (self.new ≡ with_found self.old at label.now found) }
+    {
+        match found {
+            None => {
+                self.labels.add(String::from_str(alloc, label)?)?;
+                self.braces.push(self.brace)
+            }
+            Some(number) => {
+                let brace = brace_at(self.braces.as_slice(), number);
+                if !self.is_here(brace) {
+                    self.again = earlier(self.again, at);
+                }
+                Ok(())
+            }
+        }
+    }
+
+    fn meet_word(&mut self, alloc: Global, at: usize, word: &Word) -> Result<(), Memory>
+        ensures { OnOk result (self.new ≡ with_label self.old at word.now) }
+    {
+        match word {
+            Word::Label(label) => {
+                let found = self.labels.find(label.as_str());
+                self.meet(alloc, at, label.as_str(), found)
+            }
+            _ => Ok(()),
+        }
+    }
+
+    fn step(&mut self, alloc: Global, lexeme: &Lexeme) -> Result<(), Memory>
+        ensures { OnOk result (self.new ≡ block_step self.old lexeme.now) }
+    {
+        if lexeme.kind == 0 || lexeme.kind == 1 {
+            self.brace = lexeme.at;
+            Ok(())
+        } else if lexeme.kind == 29 {
+            self.meet_word(alloc, lexeme.at, &lexeme.word)
+        } else {
+            Ok(())
+        }
+    }
+}
+
+/// The first use of a blank node label in a second basic graph pattern.
+pub fn label_again(alloc: Global, lexemes: &[Lexeme]) -> Result<Option<usize>, Memory>
+    ensures { IfOk result (λ at. at ≡ label_again lexemes.now) }
+{
+    let mut blocks = Blocks {
+        labels: Names::new(alloc),
+        braces: Items::new(alloc),
+        brace: 0,
+        again: None,
+    };
+    for lexeme in lexemes {
+        blocks.step(alloc, lexeme)?;
+    }
+    Ok(blocks.again)
+}

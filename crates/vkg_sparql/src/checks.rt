@@ -1,0 +1,238 @@
+ghost use Rattle.std.specs.Prelude.{◌≡◌, ◌&&◌, IfOk, map, filter, option_map, slice_get};
+ghost use Rattle.vkg_sparql.specs.Checks.{is_missing, is_unknown, is_relative, is_float_type, is_float, is_literal, fails, first_place, is_node, node_places, place_in, subject_place, triples_over, nodes_over, size_over, lesser};
+ghost use Rattle.vkg_sparql.specs.Environment.{iri_of};
+ghost use Rattle.vkg_sparql.specs.Lawful.{is_wide};
+ghost use Rattle.vkg_cells.specs.WellTyped.{is_well_typed as well_typed, is_too_wide as too_wide};
+
+use crate::environment::Environment;
+use crate::lexeme::Lexeme;
+use crate::literals::term_of;
+use crate::meaning::TripleTokens;
+use std::alloc::Global;
+use vkg_base::{Memory, Text};
+use vkg_cells::{is_too_wide, is_well_typed};
+use vkg_terms::{Annotation, Term, is_absolute};
+use vkg_turtle::Word;
+
+/// A check of one token.
+#[derive(Clone, Copy)]
+pub enum Check {
+    /// A prefix is not declared.
+    Unknown,
+    /// An IRI is not absolute.
+    Relative,
+    /// A literal of xsd:double or xsd:float.
+    Float,
+    /// A well-typed number past 38 digits.
+    Wide,
+}
+
+const XSD_DOUBLE: &str = "http://www.w3.org/2001/XMLSchema#double";
+
+const XSD_FLOAT: &str = "http://www.w3.org/2001/XMLSchema#float";
+
+fn is_missing(iri: &Option<Text>) -> bool
+    ensures { result ≡ is_missing iri.now }
+{
+    match iri {
+        None => true,
+        Some(_) => false,
+    }
+}
+
+fn is_unknown(alloc: Global, environment: &Environment, word: &Word) -> Result<bool, Memory>
+    ensures { IfOk result (λ b. b ≡ is_unknown environment.now word.now) }
+{
+    match word {
+        Word::Name(_, _) => {
+            let iri = environment.iri_of(alloc, word)?;
+            Ok(is_missing(&iri))
+        }
+        _ => Ok(false),
+    }
+}
+
+fn is_relative(iri: &Option<Text>) -> bool
+    ensures { result ≡ is_relative iri.now }
+{
+    match iri {
+        None => false,
+        Some(iri) => !is_absolute(iri.as_str()),
+    }
+}
+
+fn is_float_type(datatype: &str) -> bool
+    ensures { result ≡ is_float_type datatype.now }
+{
+    datatype == XSD_DOUBLE || datatype == XSD_FLOAT
+}
+
+fn is_wide_text(datatype: &str, text: &str) -> bool
+    ensures { result ≡ (well_typed datatype.now text.now && too_wide datatype.now text.now) }
+{
+    is_well_typed(datatype, text) && is_too_wide(datatype, text)
+}
+
+fn is_float(term: &Term) -> bool
+    ensures { result ≡ is_float term.now }
+{
+    match term {
+        Term::Lit(_, Annotation::Typed(datatype)) => { is_float_type(datatype.iri().as_str()) }
+        _ => false,
+    }
+}
+
+fn is_wide(term: &Term) -> bool
+    ensures { result ≡ is_wide term.now }
+{
+    match term {
+        Term::Lit(text, Annotation::Typed(datatype)) => {
+            is_wide_text(datatype.iri().as_str(), text.as_str())
+        }
+        _ => false,
+    }
+}
+
+fn is_literal(kind: usize) -> bool
+    ensures { result ≡ is_literal kind }
+{
+    kind == 31 || kind == 33 || kind == 34
+}
+
+fn is_relative_word(alloc: Global, environment: &Environment, word: &Word) -> Result<bool, Memory>
+    ensures { IfOk result (λ b. b ≡ is_relative (iri_of environment.now word.now)) }
+{
+    let iri = environment.iri_of(alloc, word)?;
+    Ok(is_relative(&iri))
+}
+
+#[tactic(auto, unfolding(crate::specs::Checks::fails))]
+fn fails(
+    alloc: Global,
+    check: Check,
+    environment: &Environment,
+    lexeme: &Lexeme,
+    rest: &[Lexeme],
+) -> Result<bool, Memory>
+    ensures { IfOk result (λ b. b ≡ fails check environment.now lexeme.now rest.now) }
+{
+    match check {
+        Check::Unknown => is_unknown(alloc, environment, &lexeme.word),
+        Check::Relative => is_relative_word(alloc, environment, &lexeme.word),
+        Check::Float => if is_literal(lexeme.kind) {
+            let term = term_of(alloc, environment, &lexeme.word, rest)?;
+            Ok(is_float(&term))
+        } else {
+            Ok(false)
+        },
+        Check::Wide => if is_literal(lexeme.kind) {
+            let term = term_of(alloc, environment, &lexeme.word, rest)?;
+            Ok(is_wide(&term))
+        } else {
+            Ok(false)
+        },
+    }
+}
+
+/// The place of the first token at which the check fails.
+pub fn first_place(
+    alloc: Global,
+    check: Check,
+    environment: &Environment,
+    lexemes: &[Lexeme],
+) -> Result<Option<usize>, Memory>
+    ensures { IfOk result (λ at. at ≡ first_place check environment.now lexemes.now) }
+{
+    let mut rest = lexemes;
+    while let Some((lexeme, more)) = rest.split_first() {
+        if fails(alloc, check, environment, lexeme, more)? {
+            return Ok(Some(lexeme.at));
+        }
+        rest = more;
+    }
+    Ok(None)
+}
+
+fn is_node(kind: usize) -> bool
+    ensures { result ≡ is_node kind }
+{
+    kind == 0 || (9 <= kind && kind <= 17) || (45 <= kind && kind <= 58)
+}
+
+fn node_places(alloc: Global, lexemes: &[Lexeme]) -> Result<Vec<usize>, Memory>
+    ensures { IfOk result (λ places. places.items ≡ node_places lexemes.now) }
+{
+    let mut places = Vec::new(alloc);
+    for lexeme in lexemes {
+        if is_node(lexeme.kind) {
+            places.push(lexeme.at)?;
+        }
+    }
+    Ok(places)
+}
+
+/// The place of the 1,025th node.
+pub fn nodes_over(alloc: Global, lexemes: &[Lexeme]) -> Result<Option<usize>, Memory>
+    ensures { IfOk result (λ at. at ≡ nodes_over lexemes.now) }
+{
+    let places = node_places(alloc, lexemes)?;
+    Ok(number_at(&places, 1024))
+}
+
+fn number_at(numbers: &[usize], at: usize) -> Option<usize>
+    ensures { result ≡ slice_get numbers.now at }
+{
+    match numbers.get(at) {
+        Some(number) => Some(*number),
+        None => None,
+    }
+}
+
+fn place_in(lexemes: &[Lexeme], token: usize) -> Option<usize>
+    ensures { result ≡ place_in lexemes.now token }
+{
+    match lexemes.get(token) {
+        Some(lexeme) => Some(lexeme.at),
+        None => None,
+    }
+}
+
+fn triple_at(triples: &[TripleTokens], at: usize) -> Option<TripleTokens>
+    ensures { result ≡ slice_get triples.now at }
+{
+    match triples.get(at) {
+        Some(triple) => Some(*triple),
+        None => None,
+    }
+}
+
+/// Where the subject of the 129th triple pattern begins.
+pub fn triples_over(lexemes: &[Lexeme], triples: &[TripleTokens]) -> Option<usize>
+    ensures { result ≡ triples_over lexemes.now triples.now }
+{
+    match triple_at(triples, 128) {
+        Some(triple) => place_in(lexemes, triple.subject),
+        None => None,
+    }
+}
+
+/// The place that is named where a text has too many bytes.
+pub fn size_over(size: usize) -> Option<usize>
+    ensures { result ≡ size_over size }
+{
+    if 2147483647 < size {
+        Some(2147483647)
+    } else {
+        None
+    }
+}
+
+pub fn lesser(a: Option<usize>, b: Option<usize>) -> Option<usize>
+    ensures { result ≡ lesser a b }
+{
+    match (a, b) {
+        (None, b) => b,
+        (Some(a), None) => Some(a),
+        (Some(a), Some(b)) => Some(a.min(b)),
+    }
+}

@@ -1,0 +1,222 @@
+ghost use Rattle.std.specs.Prelude.{◌≡◌, ◌<◌, ◌++◌, option_map, slice_get, Some, [], IfOk, OnOk};
+ghost use Rattle.std.specs.Option.{option_copied};
+ghost use Rattle.vkg_grammar.specs.Forest.{tree, node_count};
+ghost use Rattle.vkg_turtle.specs.Document.{earlier};
+ghost use Rattle.vkg_sparql.specs.Environment.{iri_of, iri_text, begun, relative_or, prefix_of, with_base, with_prefix, declaration, declarations, environment_of, body_start};
+
+use crate::lexeme::Lexeme;
+use crate::meaning::first_token;
+use std::alloc::Global;
+use vkg_base::{Memory, Text};
+use vkg_grammar::{Forest, Node};
+use vkg_terms::{is_absolute, resolve};
+use vkg_turtle::{Prefixes, Word};
+
+/// What a query's IRIs are read against: the base and the prefixes, with the place of the first IRI of the prologue that is
+/// not absolute.
+#[derive(Drop)]
+pub struct Environment {
+    pub base: Text,
+    pub prefixes: Prefixes,
+    pub relative: Option<usize>,
+}
+
+// What a prefix stands for, and a local part.
+fn joined(alloc: Global, namespace: Option<&Text>, local: &Text) -> Result<Option<Text>, Memory>
+    ensures { IfOk result (λ o. o ≡ option_map (λ iri. iri ++ local.now) (option_copied namespace.entry)) }
+{
+    let Some(namespace) = namespace else {
+        return Ok(None);
+    };
+    let mut iri = String::from_str(alloc, namespace.as_str())?;
+    iri.push_str(local.as_str())?;
+    Ok(Some(Text::from_string(iri)))
+}
+
+fn prefix_of(alloc: Global, word: &Word) -> Result<Text, Memory>
+    ensures { IfOk result (λ t. t ≡ prefix_of word.now) }
+{
+    match word {
+        Word::Name(prefix, _) => prefix.copy(),
+        _ => Text::new(alloc, ""),
+    }
+}
+
+fn earlier(first: Option<usize>, at: usize) -> Option<usize>
+    ensures { result ≡ earlier first at }
+{
+    match first {
+        Some(first) => Some(first),
+        None => Some(at),
+    }
+}
+
+fn relative_or(before: Option<usize>, iri: &str, at: usize) -> Option<usize>
+    ensures { result ≡ relative_or before iri.now at }
+{
+    if is_absolute(iri) {
+        before
+    } else {
+        earlier(before, at)
+    }
+}
+
+impl Environment {
+    fn new(alloc: Global, base: &str) -> Result<Environment, Memory>
+        ensures { IfOk result (λ e. e ≡ begun base.now) }
+    {
+        Ok(Environment {
+            base: Text::new(alloc, base)?,
+            prefixes: Prefixes::new(alloc),
+            relative: None,
+        })
+    }
+
+    /// The IRI of a reference or of a name, if its prefix is declared.
+    pub fn iri_of(&self, alloc: Global, word: &Word) -> Result<Option<Text>, Memory>
+        ensures { IfOk result (λ o. o ≡ iri_of self.now word.now) }
+    {
+        match word {
+            Word::Reference(text) => {
+                let iri = resolve(alloc, self.base.as_str(), text.as_str())?;
+                Ok(Some(Text::from_string(iri)))
+            }
+            Word::Name(prefix, local) => {
+                joined(alloc, self.prefixes.namespace(prefix.as_str()), local)
+            }
+            _ => Ok(None),
+        }
+    }
+
+    /// The same, or no bytes.
+    pub fn iri_text(&self, alloc: Global, word: &Word) -> Result<Text, Memory>
+        ensures { IfOk result (λ t. t ≡ iri_text self.now word.now) }
+    {
+        match self.iri_of(alloc, word)? {
+            Some(iri) => Ok(iri),
+            None => Text::new(alloc, ""),
+        }
+    }
+
+    fn set_base(&mut self, alloc: Global, lexeme: Option<&Lexeme>) -> Result<(), Memory>
+        ensures { OnOk result (self.new ≡ with_base self.old (option_copied lexeme.entry)) }
+    {
+        let Some(lexeme) = lexeme else {
+            return Ok(());
+        };
+        let iri = self.iri_text(alloc, &lexeme.word)?;
+        self.relative = relative_or(self.relative, iri.as_str(), lexeme.at);
+        self.base = iri;
+        Ok(())
+    }
+
+    fn declare(&mut self, alloc: Global, name: &Lexeme, lexeme: &Lexeme) -> Result<(), Memory>
+        ensures { OnOk result (self.new ≡ with_prefix self.old (Some name.now) (Some lexeme.now)) }
+    {
+        let prefix = prefix_of(alloc, &name.word)?;
+        let iri = self.iri_text(alloc, &lexeme.word)?;
+        self.relative = relative_or(self.relative, iri.as_str(), lexeme.at);
+        self.prefixes.declare(alloc, prefix.as_str(), iri)
+    }
+
+    fn set_prefix(
+        &mut self,
+        alloc: Global,
+        name: Option<&Lexeme>,
+        lexeme: Option<&Lexeme>,
+    ) -> Result<(), Memory>
+        ensures { OnOk result (self.new ≡ with_prefix self.old (option_copied name.entry) (option_copied lexeme.entry)) }
+    {
+        match (name, lexeme) {
+            (Some(name), Some(lexeme)) => self.declare(alloc, name, lexeme),
+            _ => Ok(()),
+        }
+    }
+
+    // BASE IRIREF | PREFIX PNAME_NS IRIREF
+    fn read_declaration(
+        &mut self,
+        alloc: Global,
+        lexemes: &[Lexeme],
+        forest: &Forest,
+        at: usize,
+    ) -> Result<(), Memory>
+        requires { at < node_count forest.now }
+        ensures { OnOk result (self.new ≡ declaration lexemes.now self.old (tree forest.now at)) }
+    {
+        match forest.node(at) {
+            Node::First(step) => {
+                let Node::Pair(_, iri) = forest.node(step) else {
+                    return Ok(());
+                };
+                self.set_base(alloc, lexeme_at(lexemes, first_token(forest, iri)))
+            }
+            Node::Second(step) => {
+                let Node::Pair(_, rest) = forest.node(step) else {
+                    return Ok(());
+                };
+                let Node::Pair(name, iri) = forest.node(rest) else {
+                    return Ok(());
+                };
+                let name = lexeme_at(lexemes, first_token(forest, name));
+                self.set_prefix(alloc, name, lexeme_at(lexemes, first_token(forest, iri)))
+            }
+            _ => Ok(()),
+        }
+    }
+
+    // { declaration }
+    fn read_declarations(
+        &mut self,
+        alloc: Global,
+        lexemes: &[Lexeme],
+        forest: &Forest,
+        at: usize,
+    ) -> Result<(), Memory>
+        requires { at < node_count forest.now }
+        ensures { OnOk result (self.new ≡ declarations lexemes.now self.old (tree forest.now at)) }
+    {
+        let mut rest = at;
+        while let Node::Pair(step, more) = forest.node(rest) {
+            self.read_declaration(alloc, lexemes, forest, step)?;
+            rest = more;
+        }
+        Ok(())
+    }
+}
+
+fn lexeme_at(lexemes: &[Lexeme], token: usize) -> Option<&Lexeme>
+    ensures { option_copied result ≡ slice_get lexemes.now token }
+{
+    lexemes.get(token)
+}
+
+/// What the prologue of a query declares.
+pub fn environment_of(
+    alloc: Global,
+    lexemes: &[Lexeme],
+    base: &str,
+    forest: &Forest,
+    at: usize,
+) -> Result<Environment, Memory>
+    requires { at < node_count forest.now }
+    ensures { IfOk result (λ e. e ≡ environment_of lexemes.now base.now (tree forest.now at)) }
+{
+    let mut environment = Environment::new(alloc, base)?;
+    let Node::Pair(prologue, _) = forest.node(at) else {
+        return Ok(environment);
+    };
+    environment.read_declarations(alloc, lexemes, forest, prologue)?;
+    Ok(environment)
+}
+
+/// The number of the token behind the prologue.
+pub fn body_start(forest: &Forest, at: usize) -> usize
+    requires { at < node_count forest.now }
+    ensures { result ≡ body_start (tree forest.now at) }
+{
+    match forest.node(at) {
+        Node::Pair(_, rest) => first_token(forest, rest),
+        _ => 0,
+    }
+}

@@ -1,0 +1,181 @@
+ghost use Rattle.std.specs.Prelude.{◌≡◌, IfOk};
+ghost use Rattle.std.specs.Str.{str_to_ascii_lowercase};
+ghost use Rattle.vkg_turtle.specs.Document.{annotation_of_type};
+ghost use Rattle.vkg_sparql.specs.Lexemes.{key_of, number_in};
+ghost use Rattle.vkg_sparql.specs.Literals.{type_behind, tag_or_type, annotation, term_of, operator_of, is_term, meaning_of, meanings_of};
+
+use crate::environment::Environment;
+use crate::lexeme::Lexeme;
+use crate::meaning::Meaning;
+use crate::names::{Names, number_in};
+use std::alloc::Global;
+use vkg_base::{Memory, Text};
+use vkg_terms::{Annotation, Term};
+use vkg_turtle::Word;
+use vkg_values::{Compare, Take, Test};
+
+const XSD_INTEGER: &str = "http://www.w3.org/2001/XMLSchema#integer";
+
+const XSD_DECIMAL: &str = "http://www.w3.org/2001/XMLSchema#decimal";
+
+const XSD_BOOLEAN: &str = "http://www.w3.org/2001/XMLSchema#boolean";
+
+const RDF_TYPE: &str = "http://www.w3.org/1999/02/22-rdf-syntax-ns#type";
+
+fn type_behind(
+    alloc: Global,
+    environment: &Environment,
+    rest: &[Lexeme],
+) -> Result<Annotation, Memory>
+    ensures { IfOk result (λ a. a ≡ type_behind environment.now rest.now) }
+{
+    match rest.first() {
+        None => Ok(Annotation::Plain),
+        Some(lexeme) => Ok(Annotation::typed(environment.iri_text(alloc, &lexeme.word)?)),
+    }
+}
+
+fn tag_or_type(
+    alloc: Global,
+    environment: &Environment,
+    word: &Word,
+    is_type: bool,
+    rest: &[Lexeme],
+) -> Result<Annotation, Memory>
+    ensures { IfOk result (λ a. a ≡ tag_or_type environment.now word.now is_type rest.now) }
+{
+    match word {
+        Word::Tag(tag) => Ok(Annotation::Lang(tag.copy()?)),
+        _ => if is_type {
+            type_behind(alloc, environment, rest)
+        } else {
+            Ok(Annotation::Plain)
+        },
+    }
+}
+
+// A string's language tag or datatype, from the tokens behind it.
+fn annotation(
+    alloc: Global,
+    environment: &Environment,
+    rest: &[Lexeme],
+) -> Result<Annotation, Memory>
+    ensures { IfOk result (λ a. a ≡ annotation environment.now rest.now) }
+{
+    let Some((lexeme, rest)) = rest.split_first() else {
+        return Ok(Annotation::Plain);
+    };
+    tag_or_type(alloc, environment, &lexeme.word, lexeme.kind == 22, rest)
+}
+
+// A literal of a datatype.
+fn typed(alloc: Global, text: Text, datatype: &str) -> Result<Term, Memory>
+    ensures { IfOk result (λ t. t ≡ Term.Lit text (annotation_of_type datatype.now)) }
+{
+    let datatype = Text::new(alloc, datatype)?;
+    Ok(Term::Lit(text, Annotation::typed(datatype)))
+}
+
+fn lowered(alloc: Global, text: &str) -> Result<Text, Memory>
+    ensures { IfOk result (λ t. t ≡ str_to_ascii_lowercase text.now) }
+{
+    let mut out = String::from_str(alloc, text)?;
+    out.make_ascii_lowercase();
+    Ok(Text::from_string(out))
+}
+
+/// The term that begins with a token, where the rest follows.
+pub fn term_of(
+    alloc: Global,
+    environment: &Environment,
+    word: &Word,
+    rest: &[Lexeme],
+) -> Result<Term, Memory>
+    ensures { IfOk result (λ t. t ≡ term_of environment.now word.now rest.now) }
+{
+    match word {
+        Word::Quoted(text) => {
+            let annotation = annotation(alloc, environment, rest)?;
+            Ok(Term::Lit(text.copy()?, annotation))
+        }
+        Word::Integer(text) => typed(alloc, text.copy()?, XSD_INTEGER),
+        Word::Decimal(text) => typed(alloc, text.copy()?, XSD_DECIMAL),
+        Word::Boolean(text) => typed(alloc, lowered(alloc, text.as_str())?, XSD_BOOLEAN),
+        Word::IsA => Ok(Term::Iri(Text::new(alloc, RDF_TYPE)?)),
+        _ => Ok(Term::Iri(environment.iri_text(alloc, word)?)),
+    }
+}
+
+fn operator_of(kind: usize) -> Meaning
+    ensures { result ≡ operator_of kind }
+{
+    match kind {
+        9 => Meaning::Compare(Compare::Equal),
+        10 => Meaning::Compare(Compare::NotEqual),
+        11 => Meaning::Compare(Compare::Less),
+        12 => Meaning::Compare(Compare::Greater),
+        13 => Meaning::Compare(Compare::LessOrEqual),
+        14 => Meaning::Compare(Compare::GreaterOrEqual),
+        51 | 52 => Meaning::Test(Test::IsIri),
+        53 => Meaning::Test(Test::IsBlank),
+        54 => Meaning::Test(Test::IsLiteral),
+        55 => Meaning::Test(Test::IsNumeric),
+        56 => Meaning::Take(Take::Str),
+        57 => Meaning::Take(Take::Lang),
+        58 => Meaning::Take(Take::Datatype),
+        _ => Meaning::Mark,
+    }
+}
+
+fn is_term(kind: usize) -> bool
+    ensures { result ≡ is_term kind }
+{
+    kind == 26
+        || kind == 27
+        || kind == 28
+        || kind == 31
+        || kind == 33
+        || kind == 34
+        || kind == 36
+        || kind == 37
+        || kind == 38
+}
+
+#[tactic(auto, unfolding(crate::specs::Literals::meaning_of))]
+fn meaning_of(
+    alloc: Global,
+    environment: &Environment,
+    keys: &Names,
+    lexeme: &Lexeme,
+    rest: &[Lexeme],
+) -> Result<Meaning, Memory>
+    ensures { IfOk result (λ m. m ≡ meaning_of environment.now keys.now lexeme.now rest.now) }
+{
+    if lexeme.kind == 30 {
+        Ok(Meaning::Variable(number_in(alloc, keys, lexeme)?))
+    } else if lexeme.kind == 29 || lexeme.kind == 4 {
+        Ok(Meaning::Label(number_in(alloc, keys, lexeme)?))
+    } else if is_term(lexeme.kind) {
+        Ok(Meaning::Fixed(term_of(alloc, environment, &lexeme.word, rest)?))
+    } else {
+        Ok(operator_of(lexeme.kind))
+    }
+}
+
+/// What each token stands for.
+pub fn meanings_of(
+    alloc: Global,
+    environment: &Environment,
+    keys: &Names,
+    lexemes: &[Lexeme],
+) -> Result<Vec<Meaning>, Memory>
+    ensures { IfOk result (λ ms. ms.items ≡ meanings_of environment.now keys.now lexemes.now) }
+{
+    let mut meanings = Vec::new(alloc);
+    let mut rest = lexemes;
+    while let Some((lexeme, more)) = rest.split_first() {
+        meanings.push(meaning_of(alloc, environment, keys, lexeme, more)?)?;
+        rest = more;
+    }
+    Ok(meanings)
+}

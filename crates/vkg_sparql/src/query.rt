@@ -1,0 +1,37 @@
+use crate::condition::Condition;
+use crate::pattern::{GraphName, TriplePattern};
+use vkg_base::{Items, Text};
+
+/// What stands in a group between its braces (SPARQL 1.1, 5.2), in the order of the text.
+#[derive(Drop)]
+pub enum Part {
+    /// A block of triples (5.1).
+    Triples(Items<TriplePattern>),
+    /// FILTER (5.2.2).
+    Filter(Condition),
+    /// OPTIONAL (6.1).
+    Optional(Items<Part>),
+    /// GRAPH (13.3).
+    Graph(GraphName, Items<Part>),
+    /// A group, and those that UNION joins to it (7).
+    Groups(Items<Part>, Items<Items<Part>>),
+}
+
+/// What stands behind SELECT (SPARQL 1.1, 16.1): `*`, or variables by their numbers.
+#[derive(Drop)]
+pub enum Selected {
+    All,
+    Listed(Items<usize>),
+}
+
+/// A query. Variables and blank node labels are numbers: their places in `names`.
+#[derive(Drop)]
+pub struct Query {
+    /// The name of each variable, without `?`, and of each label, without `_:`; that of `[]` is empty.
+    pub names: Items<Text>,
+    /// Whether DISTINCT is asked (15.3). REDUCED keeps all solutions.
+    pub distinct: bool,
+    pub selected: Selected,
+    /// The parts of the outermost group.
+    pub group: Items<Part>,
+}

@@ -1,0 +1,145 @@
+ghost use Rattle.std.specs.Prelude.{◌≡◌, ◌<◌, length, map, slice_index_or, Ok, IfOk, IfErr, OnOk};
+ghost use Rattle.vkg_grammar.specs.Forest.{tree, node_count};
+ghost use Rattle.vkg_grammar.specs.Form.{IsShallow};
+ghost use Rattle.vkg_grammar.specs.Kinds.{kinds_of, AreBelow};
+ghost use Rattle.vkg_grammar.specs.OneTree.{IsTheTree};
+ghost use Rattle.vkg_grammar.specs.Parsing.{Fails as Refuses};
+ghost use Rattle.vkg_sparql.specs.Reading.{IsQuery, Fails, IsQueryText, TextFails, sparql, sparql_tokens, start_at, kind_at, fault, dead_check, is_outside};
+ghost use Rattle.vkg_sparql.specs.declared.fault.QueryError.TheVariants.{Fault};
+
+use crate::body::read_tokens;
+use crate::fault::{QueryError, fault};
+use crate::grammar_table::SPARQL;
+use crate::query::Query;
+use std::alloc::Global;
+use std::str;
+use vkg_grammar::{Grammar, ParseFault, Parsed, Rule, parse_tree};
+use vkg_tokens::{Lang, Token, TokensError, tokens, without_mark};
+
+fn rules() -> &'static [Rule]
+    ensures { result.now ≡ SPARQL }
+{
+    &SPARQL
+}
+
+const OPENERS: [usize; 3] = [0, 2, 4];
+
+const CLOSERS: [usize; 3] = [1, 3, 5];
+
+fn openers() -> &'static [usize]
+    ensures { result.now ≡ OPENERS }
+{
+    &OPENERS
+}
+
+fn closers() -> &'static [usize]
+    ensures { result.now ≡ CLOSERS }
+{
+    &CLOSERS
+}
+
+// The one tree of these tokens.
+fn tree_of(alloc: Global, tokens: &[Token]) -> Result<Parsed, ParseFault>
+    requires { AreBelow 61 tokens.now }
+    ensures shallow { OnOk result (IsShallow sparql (kinds_of tokens.now)) }
+    ensures tree { IfOk result (λ p. IsTheTree SPARQL (kinds_of tokens.now) (tree p.forest p.root)) }
+    ensures root { IfOk result (λ p. p.root < node_count p.forest) }
+    ensures fails { IfErr result (Refuses sparql (kinds_of tokens.now)) }
+{
+    let grammar = Grammar::with_limit(rules(), 61, openers(), closers(), 64);
+    parse_tree(alloc, &grammar, tokens)
+}
+
+fn start_of(tokens: &[Token], index: usize) -> usize
+    requires { index < length tokens.now }
+    ensures { result ≡ start_at tokens.now index }
+{
+    tokens[index].start
+}
+
+fn kind_of(tokens: &[Token], index: usize) -> usize
+    requires { index < length tokens.now }
+    ensures { result ≡ kind_at tokens.now index }
+{
+    tokens[index].kind
+}
+
+fn is_outside(kind: usize) -> bool
+    ensures { result ≡ is_outside kind }
+{
+    kind == 2
+        || (18 <= kind && kind <= 21)
+        || (23 <= kind && kind <= 25)
+        || kind == 35
+        || kind == 41
+        || kind == 59
+}
+
+fn dead_check(kind: usize) -> u8
+    ensures { result ≡ dead_check kind }
+{
+    if is_outside(kind) { 7 } else { 2 }
+}
+
+// The fault of a token that no query goes on with.
+fn dead(tokens: &[Token], index: usize) -> QueryError
+    requires { index < length tokens.now }
+    ensures { result ≡ Fault (fault (dead_check (kind_at tokens.now index)) (start_at tokens.now index)) }
+{
+    let check = dead_check(kind_of(tokens, index));
+    let at = start_of(tokens, index);
+    fault(check, at)
+}
+
+fn read_cut(alloc: Global, text: &str, base: &str, tokens: &[Token]) -> Result<Query, QueryError>
+    requires cut { sparql_tokens text.now ≡ Ok tokens.now }
+    requires kinds { AreBelow 61 tokens.now }
+    ensures ok { IfOk result (IsQueryText text.now base.now) }
+    ensures err { IfErr result (TextFails text.now base.now) }
+{
+    match tree_of(alloc, tokens) {
+        Ok(parsed) => read_tokens(alloc, text, base, tokens, &parsed),
+        Err(ParseFault::Memory) => Err(QueryError::Memory),
+        Err(ParseFault::TooDeep { index }) => Err(fault(3, start_of(tokens, index))),
+        Err(ParseFault::Dead { index }) => Err(dead(tokens, index)),
+        Err(ParseFault::Ended) => Err(fault(2, text.len())),
+    }
+}
+
+fn read_str(alloc: Global, text: &str, base: &str) -> Result<Query, QueryError>
+    ensures ok { IfOk result (IsQueryText text.now base.now) }
+    ensures err { IfErr result (TextFails text.now base.now) }
+{
+    match tokens(alloc, Lang::Sparql, text) {
+        Ok(tokens) => read_cut(alloc, text, base, &tokens),
+        Err(TokensError::Memory) => Err(QueryError::Memory),
+        Err(TokensError::LexFault { at }) => Err(fault(1, at)),
+    }
+}
+
+fn read_text(alloc: Global, bytes: &[u8], base: &str) -> Result<Query, QueryError>
+    ensures ok { IfOk result (IsQueryText bytes.now base.now) }
+    ensures err { IfErr result (TextFails bytes.now base.now) }
+{
+    match str::from_utf8(bytes) {
+        Ok(text) => read_str(alloc, text, base),
+        Err(e) => Err(fault(1, e.valid_up_to())),
+    }
+}
+
+/// The query of a text (SPARQL 1.1, in the profile of this project), whose IRI references are resolved against `base`, an
+/// absolute IRI, where its prologue gives no other.
+///
+/// Faults, the first of which is named: 1, no token begins here, or the bytes are not UTF-8 from here; 3, the bracket that
+/// makes depth 65; at the first token that no query goes on with, 7 where SPARQL 1.1 has it and the profile leaves it out, and
+/// else 2, or 2 at the length of a text that ends too early; then the least of these checks, at its least place: 4, a prefix
+/// that is not declared; 5, an IRI that is not absolute, also one of the prologue; 6, a blank node label in a second basic
+/// graph pattern; 7, a string with the datatype xsd:double or xsd:float; 8, a well-typed integer or decimal literal past 38
+/// digits; 9, a limit: the subject of the 129th triple pattern, the 257th variable or blank node, the 1,025th node (a `{`,
+/// OPTIONAL, GRAPH, FILTER, UNION, an operator's sign, a call's word), 2147483647 for a longer text.
+pub fn read_query(alloc: Global, bytes: &[u8], base: &str) -> Result<Query, QueryError>
+    ensures ok { IfOk result (IsQuery bytes.now base.now) }
+    ensures err { IfErr result (Fails bytes.now base.now) }
+{
+    read_text(alloc, without_mark(bytes), base)
+}

@@ -1,0 +1,32 @@
+-- The text of a Left from the texts of its sides.
+use Rattle.std.proofs.Common.{◌≡◌, ◌∙◌, ℕ, List, [], ◌∷◌, ◌++◌, ap, sym}
+use Rattle.std.specs.Prelude.{IfOk, IsOkAnd, Result, Ok, Err, codes}
+use Rattle.vkg_expr.specs.declared.expr.Expr.{Expr as ExprValue}
+use Rattle.vkg_expr.specs.Seen.{expr_seen}
+use Rattle.vkg_plan.specs.declared.plan.Plan.{Plan as PlanValue, map-Plan}
+use Rattle.vkg_plan.specs.declared.plan.Plan.TheOpen.{Plan-F}
+use Rattle.vkg_plan.specs.declared.plan.Plan.TheFolds.{fold_out-Plan}
+use Rattle.vkg_plan.specs.Plan.{Plan, Left}
+use Rattle.vkg_plan.specs.declared.plan.Plan.TheVariants as value
+use Rattle.vkg_plan.specs.Kinds.{Tables}
+use Rattle.vkg_plan.specs.Seen.{plan_seen, plan_step}
+use Rattle.vkg_sqltext.specs.Text.{expr_text, separated, sources, sql_text}
+
+seen-Left : (p q : PlanValue) (c : ExprValue) → plan_seen (value.Left p q c) ≡ Left (plan_seen p) (plan_seen q) (expr_seen c)
+seen-Left p q c = fold_out-Plan Plan plan_step (value.Left p q c) ∙ ap (λ (x : Plan-F PlanValue). plan_step (map-Plan PlanValue Plan plan_seen x)) (value.outs-Left p q c)
+
+abbrev left_of : List ℕ → ExprValue → List ℕ → List ℕ
+left_of x c y = codes "SELECT * FROM " ++ separated (codes " LEFT JOIN ") (sources 1 (x ∷ y ∷ [])) ++ codes " ON " ++ expr_text (expr_seen c)
+
+pub left_case : {E : Type 0} (s : Tables) (e p q p' q' : PlanValue) (c : ExprValue) (r a b : Result (List ℕ) E) →
+    e ≡ value.Left p q c → p' ≡ p → q' ≡ q →
+    IfOk a (λ t. t ≡ sql_text s (plan_seen p')) → IfOk b (λ t. t ≡ sql_text s (plan_seen q')) →
+    IfOk r (λ t. IsOkAnd a (λ x. IsOkAnd b (λ y. t ≡ left_of x c y))) →
+    IfOk r (λ t. t ≡ sql_text s (plan_seen e))
+left_case s e p q p' q' c (Err m) a b is ip iq ha hb h = tt
+left_case s e p q p' q' c (Ok t) (Err m) b is ip iq ha hb h = absurd h
+left_case s e p q p' q' c (Ok t) (Ok x) (Err m) is ip iq ha hb h = absurd h
+left_case s e p q p' q' c (Ok t) (Ok x) (Ok y) is ip iq ha hb h =
+    let first : x ≡ sql_text s (plan_seen p) = ha ∙ ap (λ z. sql_text s (plan_seen z)) ip in
+    let second : y ≡ sql_text s (plan_seen q) = hb ∙ ap (λ z. sql_text s (plan_seen z)) iq in
+    h ∙ (λ i. left_of (first i) c (second i)) ∙ sym (ap (sql_text s) (seen-Left p q c)) ∙ sym (ap (λ z. sql_text s (plan_seen z)) is)
