@@ -1,3 +1,4 @@
+pub mod Groups
 pub mod InMemory
 pub mod Outside
 pub mod Status

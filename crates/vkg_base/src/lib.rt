@@ -1,6 +1,7 @@
 //! What stands outside of the program and what every part of it shares: stores of files and sinks of bytes that count
 //! their faults, in memory and of the system; lines of text that are made before the first is written; the statuses;
-//! want of memory; and the containers `Box`, `Items` and `Text`, which contracts see as what they hold.
+//! want of memory; the least of places, and numbers grouped by texts; and the containers `Box`, `Items` and `Text`, which
+//! contracts see as what they hold.
 //!
 //! It promises: a fault is answered only where its count rose, lines are sorted by their bytes and written in order.
 //! It stands on vkg_lists, and on itoa for the decimal digits of a number.
@@ -8,6 +9,7 @@
 
 mod boxed;
 mod fixed_line;
+mod groups;
 mod host_sink;
 mod host_store;
 mod items;
@@ -16,6 +18,7 @@ mod lines;
 mod mem_sink;
 mod mem_store;
 mod memory;
+mod places;
 mod sink;
 mod status;
 mod store;
@@ -23,6 +26,7 @@ mod text;
 
 pub use boxed::Box;
 pub use fixed_line::FixedLine;
+pub use groups::{Groups, put};
 pub use host_sink::HostSink;
 pub use host_store::HostStore;
 pub use items::{Items, at};
@@ -30,6 +34,7 @@ pub use lines::Lines;
 pub use mem_sink::MemSink;
 pub use mem_store::MemStore;
 pub use memory::Memory;
+pub use places::{earlier, lesser, place_if};
 pub use sink::{Failed, Sink, WriteFault};
 pub use status::Status;
 pub use store::{LoadFault, Store};

@@ -1,6 +1,7 @@
-ghost use Rattle.std.specs.Prelude.{◌≡◌, ◌≤◌, ◌↔◌, [], nat_eq, find, IsTrue, IsNone, IfOk};
+ghost use Rattle.std.specs.Prelude.{◌≡◌, [], nat_eq, find, is_ok, IfOk, OnOk, OnErr};
 ghost use Rattle.std.specs.Option.{option_copied};
-ghost use Rattle.vkg_base.specs.InMemory.{seen, listed, count_taken};
+ghost use Rattle.vkg_base.specs.InMemory.{seen, listed, count_taken, is_whole, takes_all, after_write};
+ghost use Rattle.vkg_base.specs.Outside.{Took, Broke};
 
 use crate::{Failed, Memory, Sink};
 use std::alloc::Global;
@@ -83,7 +84,7 @@ fn told(failing: &[(u64, usize)], write: u64) -> Option<usize>
 // How many bytes a write takes, and whether it takes its whole piece.
 fn part(told: Option<usize>, len: usize, free: usize) -> (usize, bool)
     ensures count { result.0 ≡ count_taken told len free }
-    ensures whole { IsTrue result.1 ↔ (IsNone told × (len ≤ free)) }
+    ensures whole { result.1 ≡ is_whole told len free }
 {
     match told {
         Some(told) => (told.min(len.min(free)), false),
@@ -94,7 +95,12 @@ fn part(told: Option<usize>, len: usize, free: usize) -> (usize, bool)
 impl Sink for MemSink {
     ghost state = { seen };
 
-    fn write(&mut self, piece: &[u8]) -> Result<(), Failed> {
+    fn write(&mut self, piece: &[u8]) -> Result<(), Failed>
+        ensures ok { OnOk result (Took (seen self.old) (seen self.new) piece.now) }
+        ensures failed { OnErr result (Broke (seen self.old) (seen self.new) piece.now) }
+        ensures whole { is_ok result ≡ takes_all self.old piece.now }
+        ensures exactly { self.new ≡ after_write self.old piece.now }
+    {
         self.writes = self.writes.saturating_add(1);
         let free = self.room - self.taken.len();
         let told = told(&self.failing, self.writes);

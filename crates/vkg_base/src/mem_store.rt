@@ -1,8 +1,8 @@
-ghost use Rattle.std.specs.Prelude.{◌≡◌, ◌++◌, [], ◌∷◌, map, take, is_ok, if◌then◌else◌, nat_eq, string_bytes, Some, None, IfOk, find, bytes_eq};
+ghost use Rattle.std.specs.Prelude.{◌≡◌, ◌≤◌, length, ◌++◌, [], ◌∷◌, map, take, is_ok, if◌then◌else◌, nat_eq, string_bytes, Some, None, IfOk, find, bytes_eq};
 ghost use Rattle.std.specs.List.{list_any};
 ghost use Rattle.std.specs.Option.{option_map, option_copied};
-ghost use Rattle.vkg_base.specs.InMemory.{files_of};
-ghost use Rattle.vkg_base.specs.Outside.{held};
+ghost use Rattle.vkg_base.specs.InMemory.{files_of, Loads};
+ghost use Rattle.vkg_base.specs.Outside.{held, LoadCounts, Gives};
 
 use crate::{LoadFault, Store};
 use std::alloc::{AllocError, Global};
@@ -104,7 +104,13 @@ fn cut(alloc: Global, bytes: &[u8], limit: u64) -> Result<Vec<u8>, AllocError>
 impl Store for MemStore {
     ghost state = { λ s. s.store };
 
-    fn load(&mut self, alloc: Global, name: &str, limit: u64) -> Result<Vec<u8>, LoadFault> {
+    fn load(&mut self, alloc: Global, name: &str, limit: u64) -> Result<Vec<u8>, LoadFault>
+        ensures files { self.new.store.files ≡ self.old.store.files }
+        ensures counts { LoadCounts self.old.store self.new.store name.now result }
+        ensures bytes { IfOk result (λ v. Gives self.old.store.files name.now limit v.items) }
+        ensures limit { IfOk result (λ v. length v.items ≤ limit) }
+        ensures exactly { Loads self.old self.new name.now limit result }
+    {
         ask(&mut self.asked, alloc, name)?;
         let number = self.asked.len() as u64;
         if let Some(bytes) = given(&self.files, &self.failing, number, name) {

@@ -1,8 +1,9 @@
 use crate::{
     Box, FixedLine, HostSink, HostStore, Items, Lines, LoadFault, MemSink, MemStore, Sink, Status,
-    Store, Text, WriteFault,
+    Store, Text, WriteFault, earlier, lesser, place_if, put,
 };
 use std::alloc::Global;
+use std::collections::HashMap;
 use std::fs;
 use std::test::Fail;
 
@@ -162,5 +163,26 @@ fn containers_give_back_what_they_hold(rt: HostRuntime) -> Result<(), Fail> {
     assert_eq!(rt; items.pop(), Some(7));
     assert_eq!(rt; items.get(1).copied(), Some(3));
     assert_eq!(rt; items.len(), 3);
+    Ok(())
+}
+
+#[test]
+fn the_least_place_counts(rt: HostRuntime) {
+    assert_eq!(rt; lesser(Some(2), Some(1)), Some(1));
+    assert_eq!(rt; lesser(None, Some(1)), Some(1));
+    assert_eq!(rt; earlier(Some(2), 1), Some(2));
+    assert_eq!(rt; earlier(None, 1), Some(1));
+    assert_eq!(rt; place_if(true, 1), Some(1));
+    assert_eq!(rt; place_if(false, 1), None);
+}
+
+#[test]
+fn numbers_are_put_under_their_texts(rt: HostRuntime) -> Result<(), Fail> {
+    let alloc = rt.alloc();
+    let mut groups = HashMap::new(alloc);
+    for (number, key) in ["a", "b", "a"].into_iter().enumerate() {
+        put(&mut groups, String::from_str(alloc, key)?, number)?;
+    }
+    assert_eq!(rt; groups.len(), 2);
     Ok(())
 }

@@ -6,7 +6,7 @@ ghost use Rattle.vkg_cells.specs.Number.{is_decimal, number_cmp, scale, size};
 ghost use Rattle.vkg_cells.specs.Order.{HasNumber, order as order_of};
 
 use crate::cell::Cell;
-use crate::compare::family;
+use crate::compare::family_of;
 use crate::number::{fraction, is_below_zero, trim_leading_zeros, trim_trailing_zeros, whole};
 use crate::term_order::order_terms;
 use std::cmp::Ordering;
@@ -40,7 +40,7 @@ fn order_cells(a: &Cell, b: &Cell) -> Ordering
         (Cell::Stamp(x), Cell::Stamp(y)) => x.as_str().cmp(&y.as_str()),
         (Cell::Bin(x), Cell::Bin(y)) => x.as_str().cmp(&y.as_str()),
         (Cell::Term(x), Cell::Term(y)) => order_terms(x, y),
-        _ => family(a).cmp(&family(b)),
+        _ => family_of(a).cmp(&family_of(b)),
     }
 }
 

@@ -14,8 +14,11 @@ abbrev pub same_name : Name → Name → Bool
 same_name a b = str_eq_ignore_ascii_case a.text b.text
 
 -- SQL 92, 5.2: a delimited name matches exactly, an undelimited one whatever its case
+abbrev pub text_matches : List ℕ → Bool → List ℕ → Bool
+text_matches text delimited declared = if delimited then bytes_eq text declared else str_eq_ignore_ascii_case text declared
+
 abbrev pub matches : Name → Name → Bool
-matches n declared = if n.delimited then bytes_eq n.text declared.text else str_eq_ignore_ascii_case n.text declared.text
+matches n declared = text_matches n.text n.delimited declared.text
 
 -- the table at i has a name that an earlier one has
 abbrev pub table_again : List WrittenTable → Option WrittenTable → ℕ → Option ℕ

@@ -1,8 +1,8 @@
 -- What a text says, by its one derivation.
 use Rattle.vkg_grammar.specs.declared.note.Note.{Note}
-use Rattle.std.specs.Prelude.{◌≡◌, ℕ, ◌⊎◌, Bool, true, false, List, [], ◌∷◌, length, map, slice_index_or, slice_get, unwrap_or, Ok, Err, if◌then◌else◌}
+use Rattle.std.specs.Prelude.{◌≡◌, ℕ, Bool, true, false, List, [], ◌∷◌, slice_get, unwrap_or, Ok, Err, if◌then◌else◌}
 use Rattle.vkg_grammar.specs.Kinds.{kinds_of}
-use Rattle.vkg_grammar.specs.Parsing.{IsFirstDead, IsCutOff, IsTheText}
+use Rattle.vkg_grammar.specs.Parsing.{IsTheText, NoTextAt}
 use Rattle.vkg_tokens.specs.declared.cutting.Token.{Token}
 use Rattle.vkg_tokens.specs.declared.lang.Lang.TheVariants.{Ddl}
 use Rattle.vkg_tokens.specs.Cut.{tokens_of}
@@ -37,9 +37,6 @@ unfoldable pub written_of : List Note → List Name → List WrittenTable → Li
 written_of [] ts tables = tables
 written_of (n ∷ ns) ts tables = with_note (role_of n.symbol) ts tables (λ us next. written_of ns us next)
 
-abbrev pub start_at : List Token → ℕ → ℕ
-start_at ts i = slice_index_or (map (λ t. t.start) ts) i 0
-
 -- The text is one of the grammar, and says this.
 pub record Says (text : List ℕ) (draft : List WrittenTable) : Type 0 where
   pub tokens : List Token
@@ -52,7 +49,7 @@ pub record Says (text : List ℕ) (draft : List WrittenTable) : Type 0 where
 pub record IsNoText (text : List ℕ) (at : ℕ) : Type 0 where
   pub tokens : List Token
   pub cut : tokens_of Ddl text ≡ Ok tokens
-  pub place : ((i : ℕ) × IsFirstDead DDL (kinds_of tokens) i × (at ≡ start_at tokens i)) ⊎ (IsCutOff DDL (kinds_of tokens) × (at ≡ length text))
+  pub place : NoTextAt DDL text tokens at
 
 abbrev pub TextFails : List ℕ → TextFault → Type 0
 TextFails text Memory = Unit {0}

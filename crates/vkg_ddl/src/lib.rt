@@ -6,7 +6,6 @@ mod grammar_table;
 mod limits;
 mod matching;
 mod name;
-mod places;
 mod reading;
 mod role;
 mod targets;
@@ -18,7 +17,7 @@ mod written;
 
 pub use faults::first_fault;
 pub use grammar_table::{DDL, ROLES};
-pub use matching::{column_place, matches, primary_of, table_named};
+pub use matching::{column_place, matches, primary_of, table_named, text_matches};
 pub use name::Name;
 pub use reading::{TextFault, read_written};
 pub use role::Role;

@@ -1,8 +1,8 @@
 ghost use Rattle.std.specs.Prelude.{◌≡◌, slice_get};
 ghost use Rattle.vkg_ddl.specs.NameChecks.{limit_passed, at_none};
 
-use crate::places::lesser;
 use crate::written::{WrittenColumn, WrittenTable};
+use vkg_base::lesser;
 
 fn table_past(tables: &[WrittenTable]) -> Option<usize>
     ensures { result ≡ at_none (λ t. t.name.at) (slice_get tables.now 256) }

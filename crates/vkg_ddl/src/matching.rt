@@ -1,12 +1,12 @@
 ghost use Rattle.std.specs.Prelude.{◌≡◌, find};
-ghost use Rattle.vkg_ddl.specs.NameChecks.{same_name, matches, names_column, unknown_column, column_place, one_column};
+ghost use Rattle.vkg_ddl.specs.NameChecks.{same_name, matches, text_matches, names_column, unknown_column, column_place, one_column};
 ghost use Rattle.std.specs.Option.{option_copied};
 ghost use Rattle.vkg_lists.specs.Places.{least_of};
 ghost use Rattle.std.specs.List.{list_any};
 
 use crate::name::Name;
-use crate::places::{lesser, place_if};
 use crate::written::{WrittenColumn, WrittenKey, WrittenTable};
+use vkg_base::{lesser, place_if};
 
 pub fn same_name(a: &Name, b: &Name) -> bool
     ensures { result ≡ same_name a.now b.now }
@@ -17,10 +17,17 @@ pub fn same_name(a: &Name, b: &Name) -> bool
 pub fn matches(n: &Name, declared: &Name) -> bool
     ensures { result ≡ matches n.now declared.now }
 {
-    if n.delimited {
-        n.text.as_str() == declared.text.as_str()
+    text_matches(n.text.as_str(), n.delimited, declared.text.as_str())
+}
+
+/// Whether a name with this text means what is declared with the other.
+pub fn text_matches(text: &str, delimited: bool, declared: &str) -> bool
+    ensures { result ≡ text_matches text.now delimited declared.now }
+{
+    if delimited {
+        text == declared
     } else {
-        same_name(n, declared)
+        text.eq_ignore_ascii_case(declared)
     }
 }
 

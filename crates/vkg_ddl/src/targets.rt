@@ -3,15 +3,14 @@ ghost use Rattle.vkg_ddl.specs.ReferenceChecks.{are_columns, columns_fault, targ
 ghost use Rattle.vkg_ddl.specs.NameChecks.{matches, one_column};
 ghost use Rattle.vkg_lists.specs.Places.{least_of};
 ghost use Rattle.std.specs.List.{list_any, list_all};
-ghost use Rattle.vkg_cells.specs.Order.{family};
 
 use crate::matching::{column_named, one_column, primary_of, table_named, unknown_columns};
 use crate::name::Name;
-use crate::places::{lesser, place_if};
 use crate::twice::name_twice;
 use crate::types::column_kind;
 use crate::written::{WrittenColumn, WrittenReference, WrittenTable};
-use vkg_cells::SqlType;
+use vkg_base::{lesser, place_if};
+use vkg_cells::family;
 
 fn are_columns(t: &WrittenTable, left: &[Name], right: &[Name]) -> bool
     ensures { result ≡ are_columns t.now left.now right.now }
@@ -142,22 +141,7 @@ pub fn no_key(tables: &[WrittenTable]) -> Option<usize>
     )
 }
 
-fn family(kind: SqlType) -> usize
-    ensures { result ≡ family kind }
-{
-    match kind {
-        SqlType::Text => 1,
-        SqlType::Int => 2,
-        SqlType::Dec => 2,
-        SqlType::Bool => 3,
-        SqlType::Date => 4,
-        SqlType::Stamp => 5,
-        SqlType::Bin => 6,
-        SqlType::Term => 7,
-    }
-}
-
-fn family_of(columns: &[WrittenColumn], n: &Name) -> usize
+fn family_of(columns: &[WrittenColumn], n: &Name) -> u8
     ensures { result ≡ family_named columns.now (Some n.now) }
 {
     match column_named(columns, n) {
@@ -166,7 +150,7 @@ fn family_of(columns: &[WrittenColumn], n: &Name) -> usize
     }
 }
 
-fn family_named(columns: &[WrittenColumn], names: &[Name], i: usize) -> usize
+fn family_named(columns: &[WrittenColumn], names: &[Name], i: usize) -> u8
     ensures { result ≡ family_named columns.now (slice_get names.now i) }
 {
     match names.get(i) {

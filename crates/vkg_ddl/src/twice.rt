@@ -4,8 +4,8 @@ ghost use Rattle.vkg_ddl.specs.NameChecks.{same_name, table_again, table_twice, 
 
 use crate::matching::{any_one_column, same_name};
 use crate::name::Name;
-use crate::places::{lesser, place_if};
 use crate::written::{WrittenColumn, WrittenKey, WrittenTable};
+use vkg_base::{lesser, place_if};
 
 fn any_table(seen: &[WrittenTable], n: &Name) -> bool
     ensures { result ≡ list_any (λ u. same_name n.now u.name) seen.now }

@@ -3,9 +3,9 @@ ghost use Rattle.vkg_ddl.specs.TypeChecks.{column_kind, is_no_kind, unknown_type
 ghost use Rattle.vkg_lists.specs.Places.{least_of};
 
 use crate::name::Name;
-use crate::places::{lesser, place_if};
 use crate::type_word::kind_named;
 use crate::written::{WrittenColumn, WrittenTable};
+use vkg_base::{lesser, place_if};
 use vkg_cells::SqlType;
 
 fn is_no_kind(kind: Option<SqlType>) -> bool

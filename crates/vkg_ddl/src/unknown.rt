@@ -4,8 +4,8 @@ ghost use Rattle.vkg_lists.specs.Places.{least_of};
 
 use crate::matching::{matches, unknown_columns};
 use crate::name::Name;
-use crate::places::{lesser, place_if};
 use crate::written::{WrittenReference, WrittenTable};
+use vkg_base::{lesser, place_if};
 
 fn unknown_in_table(t: &WrittenTable) -> Option<usize>
     ensures { result ≡ unknown_in_table t.now }

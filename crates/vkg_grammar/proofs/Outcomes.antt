@@ -1,17 +1,19 @@
 -- A list of tokens has one outcome.
-use Rattle.std.proofs.Common.{◌≡◌, ℕ, ◌+◌, ◌<◌, Bool, true, false, inl, inr, List, [], take, drop, refl, ap, sym, ◌∙◌, subst, arith, take-append-drop}
+use Rattle.std.proofs.Common.{◌≡◌, ℕ, ◌+◌, ◌<◌, Bool, true, false, inl, inr, List, [], ◌∷◌, take, drop, refl, ap, sym, ◌∙◌, subst, arith, take-append-drop}
 use Rattle.std.proofs.lemmas.Bool.{cases_lt}
 use Rattle.vkg_grammar.specs.declared.note.Note.{Note}
 use Rattle.vkg_grammar.specs.declared.parsing.ParseFault.{ParseFault}
 use Rattle.vkg_grammar.specs.declared.parsing.ParseFault.TheVariants.{Memory, TooDeep, Dead, Ended}
 use Rattle.vkg_grammar.specs.declared.rule.Rule.{Rule}
 use Rattle.vkg_grammar.specs.Form.{Form, IsTooDeep, IsShallow}
-use Rattle.vkg_grammar.specs.Grammar.{IsAlive}
+use Rattle.vkg_grammar.specs.Grammar.{Derives, IsAlive}
+use Rattle.vkg_grammar.specs.Kinds.{kinds_of, start_at}
 use Rattle.vkg_grammar.specs.Laws.{HaveOneOutcome}
 use Rattle.std.proofs.lemmas.List.{append-nil}
 use Rattle.vkg_grammar.proofs.Core.{spelled}
 use Rattle.vkg_grammar.proofs.Outer.{alive_front}
-use Rattle.vkg_grammar.specs.Parsing.{IsFirstDead, IsTheText, Fails}
+use Rattle.vkg_grammar.specs.Parsing.{IsFirstDead, IsCutOff, IsTheText, Fails, NoTextAt}
+use Rattle.vkg_tokens.specs.declared.cutting.Token.{Token}
 
 -- the least of a kind is one
 least : (m n : ℕ) → (m < n → ⊥) → (n < m → ⊥) → m ≡ n
@@ -20,10 +22,10 @@ least m n p q = elim (cases_lt m n) [ inl l ↦ absurd (p l) | inr g ↦ (elim (
 clash : {b : Bool} → b ≡ true → b ≡ false → ⊥
 clash p q = let e : true ≡ false = sym p ∙ q in cc
 
-not_deep : (g : Form) (ks : List ℕ) (n : ℕ) → IsShallow g ks → IsTooDeep g ks n → ⊥
+pub not_deep : (g : Form) (ks : List ℕ) (n : ℕ) → IsShallow g ks → IsTooDeep g ks n → ⊥
 not_deep g ks n s t = clash (s n t.inside) t.deep
 
-one_deep : (g : Form) (ks : List ℕ) (m n : ℕ) → IsTooDeep g ks m → IsTooDeep g ks n → m ≡ n
+pub one_deep : (g : Form) (ks : List ℕ) (m n : ℕ) → IsTooDeep g ks m → IsTooDeep g ks n → m ≡ n
 one_deep g ks m n a b = least m n (λ l. clash (b.before m l) a.deep) (λ l. clash (a.before n l) b.deep)
 
 -- what begins a text is not dead
@@ -33,8 +35,27 @@ alive_part g ts n a = alive_front (take (n + 1) ts) (drop (n + 1) ts) (subst (Is
 pub one_dead : (g : List Rule) (ts : List ℕ) (m n : ℕ) → IsFirstDead g ts m → IsFirstDead g ts n → m ≡ n
 one_dead g ts m n a b = least m n (λ l. a.dead (b.alive m l)) (λ l. b.dead (a.alive n l))
 
-text_alive : (g : List Rule) (ts : List ℕ) (ws : List Note) → IsTheText g ts ws → IsAlive g ts
-text_alive g ts ws w = ([], ws, spelled (sym (append-nil ts)) w.derives)
+text_alive : (g : List Rule) (ts : List ℕ) (ws : List Note) → Derives g (0 ∷ []) ts ws → IsAlive g ts
+text_alive g ts ws d = ([], ws, spelled (sym (append-nil ts)) d)
+
+-- no token of a text is dead
+pub alive_text : (g : List Rule) (ts : List ℕ) (ws : List Note) (n : ℕ) → Derives g (0 ∷ []) ts ws → IsFirstDead g ts n → ⊥
+alive_text g ts ws n d dead = dead.dead (alive_part g ts n (text_alive g ts ws d))
+
+-- nor of what begins one
+pub not_cut : (g : List Rule) (ts : List ℕ) (n : ℕ) → IsFirstDead g ts n → IsCutOff g ts → ⊥
+not_cut g ts n a b = a.dead (alive_part g ts n b.alive)
+
+pub no_text : (g : List Rule) (text : List ℕ) (ts : List Token) (ws : List Note) (at : ℕ) → Derives g (0 ∷ []) (kinds_of ts) ws → NoTextAt g text ts at → ⊥
+no_text g text ts ws at d (inl p) = alive_text g (kinds_of ts) ws p.0 d p.1
+no_text g text ts ws at d (inr p) = p.0.no_text ws d
+
+-- tokens are no text at one place
+pub one_place : (g : List Rule) (text : List ℕ) (ts : List Token) (a b : ℕ) → NoTextAt g text ts a → NoTextAt g text ts b → a ≡ b
+one_place g text ts a b (inl p) (inl q) = p.2 ∙ ap (start_at ts) (one_dead g (kinds_of ts) p.0 q.0 p.1 q.1) ∙ sym q.2
+one_place g text ts a b (inl p) (inr q) = absurd (not_cut g (kinds_of ts) p.0 p.1 q.0)
+one_place g text ts a b (inr p) (inl q) = absurd (not_cut g (kinds_of ts) q.0 q.1 p.0)
+one_place g text ts a b (inr p) (inr q) = p.1 ∙ sym q.1
 
 one_fault : (g : Form) (ks : List ℕ) (e f : ParseFault) → Fails g ks e → Fails g ks f → (e ≡ Memory → ⊥) → (f ≡ Memory → ⊥) → e ≡ f
 one_fault g ks Memory f a b p q = absurd (p refl)
@@ -44,15 +65,15 @@ one_fault g ks (TooDeep m) (Dead n) a b p q = absurd (not_deep g ks m b.0 a)
 one_fault g ks (TooDeep m) Ended a b p q = absurd (not_deep g ks m b.0 a)
 one_fault g ks (Dead m) (TooDeep n) a b p q = absurd (not_deep g ks n a.0 b)
 one_fault g ks (Dead m) (Dead n) a b p q = ap Dead (one_dead g.rules ks m n a.1 b.1)
-one_fault g ks (Dead m) Ended a b p q = absurd (a.1.dead (alive_part g.rules ks m b.1.alive))
+one_fault g ks (Dead m) Ended a b p q = absurd (not_cut g.rules ks m a.1 b.1)
 one_fault g ks Ended (TooDeep n) a b p q = absurd (not_deep g ks n a.0 b)
-one_fault g ks Ended (Dead n) a b p q = absurd (b.1.dead (alive_part g.rules ks n a.1.alive))
+one_fault g ks Ended (Dead n) a b p q = absurd (not_cut g.rules ks n b.1 a.1)
 one_fault g ks Ended Ended a b p q = refl
 
 no_fault : (g : Form) (ks : List ℕ) (ws : List Note) (e : ParseFault) → IsShallow g ks → IsTheText g.rules ks ws → Fails g ks e → e ≡ Memory
 no_fault g ks ws Memory s w f = refl
 no_fault g ks ws (TooDeep n) s w f = absurd (not_deep g ks n s f)
-no_fault g ks ws (Dead n) s w f = absurd (f.1.dead (alive_part g.rules ks n (text_alive g.rules ks ws w)))
+no_fault g ks ws (Dead n) s w f = absurd (alive_text g.rules ks ws n w.derives f.1)
 no_fault g ks ws Ended s w f = absurd (f.1.no_text ws w.derives)
 
 pub one_outcome : HaveOneOutcome

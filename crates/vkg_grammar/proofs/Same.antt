@@ -13,7 +13,7 @@ use Rattle.vkg_grammar.specs.Decoding.{acts_of, decoded, steps_of}
 use Rattle.vkg_grammar.proofs.Decode.{decodes}
 use Rattle.vkg_grammar.specs.OneTree.{rule, parts, IsTreeOf, IsTheTree}
 use Rattle.vkg_grammar.proofs.BySteps.{Derives, done, read, by}
-use Rattle.vkg_grammar.proofs.Growing.{has_tree, one_tree}
+use Rattle.vkg_grammar.proofs.Growing.{derives, has_tree, one_tree}
 
 token_of : (r : Rule) (n k : ℕ) → shape n r ≡ One k → r ≡ Token k
 token_of (Token j) n k e = cc
@@ -88,6 +88,10 @@ to_engine {g = g} (by {n = n} {step = act} {xs = xs} {s = s} {ts = ts} {q = q} e
     on (only_way f h) r = record { notes = noted n (at_parts xs) ∷ r.notes; derives = engine.parts f r.derives; acts = ap (λ a. a ∷ acts_of r.notes) (sym h) ∙ ap (λ z. act ∷ z) r.acts }
     on (first_way ys f h) r = record { notes = noted n (at_first xs) ∷ r.notes; derives = engine.first f r.derives; acts = ap (λ a. a ∷ acts_of r.notes) (sym h) ∙ ap (λ z. act ∷ z) r.acts }
     on (second_way ys f h) r = record { notes = noted n (at_second xs) ∷ r.notes; derives = engine.second f r.derives; acts = ap (λ a. a ∷ acts_of r.notes) (sym h) ∙ ap (λ z. act ∷ z) r.acts }
+
+-- a tree of the text is derived
+pub tree_derives : {g : List Rule} {kinds : List ℕ} {t : Tree} → IsTreeOf g kinds t → (ws : List Note) × engine.Derives g (0 ∷ []) kinds ws
+tree_derives t = let r = to_engine (derives t) in (r.notes, r.derives)
 
 -- the engine's acts are those of the one tree, and what is built of them is that tree
 pub the_tree : {g : List Rule} {kinds : List ℕ} {ws : List Note} → IsTheText g kinds ws → (t : Tree) × IsTheTree g kinds t × ((decoded (length kinds) (acts_of ws)).trees ≡ t ∷ [])

@@ -8,6 +8,11 @@ lesser None b = b
 lesser (Some a) None = Some a
 lesser (Some a) (Some b) = Some (min a b)
 
+-- the first place that was noted
+abbrev pub earlier : Option ℕ → ℕ → Option ℕ
+earlier None at = Some at
+earlier (Some first) at = Some first
+
 -- the least place of all items
 abbrev pub least_of : {A : Type 0} → (A → Option ℕ) → List A → Option ℕ
 least_of place xs = fold (λ best x. lesser best (place x)) None xs

@@ -1,17 +1,16 @@
 -- There is one answer.
-use Rattle.std.proofs.Common.{◌≡◌, ℕ, ◌+◌, ◌<◌, ◌⊎◌, inl, inr, List, [], ◌∷◌, ◌++◌, Result, Ok, Err, Option, Some, None, take, drop, length, ap, sym, ◌∙◌, subst, take-append-drop, append_assoc, arith}
+use Rattle.std.proofs.Common.{◌≡◌, ℕ, List, [], ◌∷◌, Result, Ok, Err, Option, Some, None, ap, sym, ◌∙◌, subst}
 use Rattle.vkg_grammar.specs.declared.note.Note.{Note}
-use Rattle.vkg_grammar.specs.declared.rule.Rule.{Rule}
 use Rattle.vkg_grammar.specs.Grammar.{Derives}
-use Rattle.vkg_grammar.specs.Parsing.{IsFirstDead, IsCutOff}
-use Rattle.vkg_grammar.proofs.Outcomes.{one_dead}
+use Rattle.vkg_grammar.specs.Parsing.{NoTextAt}
+use Rattle.vkg_grammar.proofs.Outcomes.{no_text as no_text_at, one_place}
 use Rattle.vkg_tokens.specs.declared.cutting.Token.{Token}
 use Rattle.vkg_ddl.specs.declared.grammar_table.TheConstants.{DDL}
 use Rattle.vkg_ddl.specs.declared.written.WrittenTable.{WrittenTable}
 use Rattle.vkg_ddl.specs.FirstFault.{first_fault}
 use Rattle.vkg_ddl.specs.Names.{names_of}
 use Rattle.vkg_grammar.specs.Kinds.{kinds_of}
-use Rattle.vkg_ddl.specs.Reading.{Says, IsNoText, written_of, start_at}
+use Rattle.vkg_ddl.specs.Reading.{Says, IsNoText, written_of}
 use Rattle.vkg_schema.specs.declared.reading.SchemaFault.{SchemaFault}
 use Rattle.vkg_schema.specs.declared.table.Table.{Table}
 use Rattle.vkg_tokens.specs.Mark.{without_mark}
@@ -33,31 +32,14 @@ one_text {text = text} a b =
     let n : b.notes ≡ a.notes = a.derived.only b.notes (subst (λ ts. Derives DDL (0 ∷ []) (kinds_of ts) b.notes) t b.derived.derives) in
     a.said ∙ (λ i. written_of (sym n i) (names_of text (sym t i)) []) ∙ sym b.said
 
-alive_text : (g : List Rule) (ts : List ℕ) (ws : List Note) (n : ℕ) → Derives g (0 ∷ []) ts ws → IsFirstDead g ts n → ⊥
-alive_text g ts ws n d dead = dead.dead (drop (n + 1) ts, ws, subst (λ y. Derives g (0 ∷ []) y ws) (sym (take-append-drop (n + 1) ts)) d)
-
 no_said : {text : List ℕ} {d : List WrittenTable} {at : ℕ} → Says text d → IsNoText text at → ⊥
 no_said a b =
     let t : b.tokens ≡ a.tokens = same_tokens b.cut a.cut in
     let d : Derives DDL (0 ∷ []) (kinds_of b.tokens) a.notes = subst (λ ts. Derives DDL (0 ∷ []) (kinds_of ts) a.notes) (sym t) a.derived.derives in
-    elim b.place [ inl p ↦ alive_text DDL (kinds_of b.tokens) a.notes p.0 d p.1 | inr p ↦ p.0.no_text a.notes d ]
-
-not_cut : (g : List Rule) (ts : List ℕ) (n : ℕ) → IsFirstDead g ts n → IsCutOff g ts → ⊥
-not_cut g ts n a b =
-    let w = b.alive in
-    a.dead (drop (n + 1) ts ++ w.0, w.1, subst (λ y. Derives g (0 ∷ []) y w.1) (ap (λ y. y ++ w.0) (sym (take-append-drop (n + 1) ts)) ∙ append_assoc (take (n + 1) ts) (drop (n + 1) ts) w.0) w.2)
-
-abbrev NoTextAt : List ℕ → List Token → ℕ → Type 0
-NoTextAt text ts at = ((i : ℕ) × IsFirstDead DDL (kinds_of ts) i × (at ≡ start_at ts i)) ⊎ (IsCutOff DDL (kinds_of ts) × (at ≡ length text))
-
-one_place : (text : List ℕ) (ts : List Token) (a b : ℕ) → NoTextAt text ts a → NoTextAt text ts b → a ≡ b
-one_place text ts a b (inl p) (inl q) = p.2 ∙ ap (start_at ts) (one_dead DDL (kinds_of ts) p.0 q.0 p.1 q.1) ∙ sym q.2
-one_place text ts a b (inl p) (inr q) = absurd (not_cut DDL (kinds_of ts) p.0 p.1 q.0)
-one_place text ts a b (inr p) (inl q) = absurd (not_cut DDL (kinds_of ts) q.0 q.1 p.0)
-one_place text ts a b (inr p) (inr q) = p.1 ∙ sym q.1
+    no_text_at DDL _ b.tokens a.notes _ d b.place
 
 one_no_text : {text : List ℕ} {a b : ℕ} → IsNoText text a → IsNoText text b → a ≡ b
-one_no_text {text = text} {a = a} {b = b} x y = one_place text x.tokens a b x.place (subst (λ ts. NoTextAt text ts b) (same_tokens y.cut x.cut) y.place)
+one_no_text {text = text} {a = a} {b = b} x y = one_place DDL text x.tokens a b x.place (subst (λ ts. NoTextAt DDL text ts b) (same_tokens y.cut x.cut) y.place)
 
 one_check : {o : Option (ℕ × ℕ)} {c d : ℕ} {a b : ℕ} → o ≡ Some (c, a) → o ≡ Some (d, b) → fault c a ≡ fault d b
 one_check {c = c} {d = d} {a = a} {b = b} e f = let same : ◌≡◌ {A = ℕ × ℕ} (c, a) (d, b) = cc in ap (λ p. fault p.0 p.1) same

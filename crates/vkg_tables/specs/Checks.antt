@@ -13,7 +13,7 @@ with_itself columns = map (λ c. (c, c)) columns
 abbrev pub repeats : List ℕ → List Row → Row → Bool
 repeats key before row = list_any (agree (with_itself key) row) before
 
--- SQL 92, 4.10.2, MATCH SIMPLE: there is no NULL in the foreign key, and no row that it refers to
+-- SQL:1999, 11.8, MATCH SIMPLE: there is no NULL in the foreign key, and no row that it refers to
 abbrev pub is_orphan : List (ℕ × ℕ) → List Row → Row → Bool
 is_orphan pairs targets row = has_no_null (map (λ p. p.0) pairs) row && not (list_any (agree pairs row) targets)
 

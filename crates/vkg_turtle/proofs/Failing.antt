@@ -2,7 +2,7 @@
 use Rattle.std.proofs.Common.{◌≡◌, ℕ, List, Some, Ok, Err, inl, inr, length, ap, sym, ◌∙◌, subst}
 use Rattle.std.specs.Prelude.{IsUtf8}
 use Rattle.vkg_grammar.specs.Form.{IsTooDeep, IsShallow}
-use Rattle.vkg_grammar.specs.Kinds.{kinds_of}
+use Rattle.vkg_grammar.specs.Kinds.{kinds_of, start_at}
 use Rattle.vkg_grammar.specs.Parsing.{IsFirstDead, IsCutOff}
 use Rattle.vkg_tokens.specs.declared.cutting.Token.{Token}
 use Rattle.vkg_turtle.specs.declared.document.Document.{Document}
@@ -10,7 +10,7 @@ use Rattle.vkg_turtle.specs.declared.grammar_table.TheConstants.{TURTLE}
 use Rattle.vkg_turtle.specs.declared.reading.TurtleError.{TurtleError}
 use Rattle.vkg_turtle.specs.declared.reading.TurtleError.TheVariants.{Fault}
 use Rattle.vkg_turtle.specs.declared.reading.TurtleFault.{TurtleFault}
-use Rattle.vkg_turtle.specs.Reading.{turtle, turtle_tokens, start_at, fault, fault_of, Says, IsFaultOf, TextFails, no_token, too_deep, no_text, no_document}
+use Rattle.vkg_turtle.specs.Reading.{turtle, turtle_tokens, fault, fault_of, Says, IsFaultOf, TextFails, no_token, too_deep, no_text, no_document}
 
 module _ (text base : List ℕ) (u : IsUtf8 text) where
   -- the error is the one that is made of the fault

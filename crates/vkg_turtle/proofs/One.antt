@@ -1,11 +1,11 @@
 -- There is one answer.
-use Rattle.std.proofs.Common.{◌≡◌, ℕ, ◌+◌, ◌<◌, ◌⊎◌, inl, inr, List, [], ◌∷◌, ◌++◌, Result, Ok, Err, Option, Some, None, take, drop, length, true, false, ap, sym, ◌∙◌, subst, take-append-drop, append_assoc, arith}
+use Rattle.std.proofs.Common.{◌≡◌, ℕ, List, [], ◌∷◌, Result, Ok, Err, Option, Some, None, ap, sym, ◌∙◌, subst}
 use Rattle.vkg_grammar.specs.declared.note.Note.{Note}
-use Rattle.vkg_grammar.specs.declared.rule.Rule.{Rule}
-use Rattle.vkg_grammar.specs.Form.{Form, IsTooDeep, IsShallow}
+use Rattle.vkg_grammar.specs.Form.{IsTooDeep, IsShallow}
 use Rattle.vkg_grammar.specs.Grammar.{Derives}
-use Rattle.vkg_grammar.specs.Kinds.{kinds_of}
-use Rattle.vkg_grammar.specs.Parsing.{IsFirstDead, IsCutOff}
+use Rattle.vkg_grammar.specs.Kinds.{kinds_of, start_at}
+use Rattle.vkg_grammar.specs.Parsing.{NoTextAt}
+use Rattle.vkg_grammar.proofs.Outcomes.{not_deep, one_deep, no_text as no_text_at, one_place}
 use Rattle.vkg_tokens.specs.declared.cutting.Token.{Token}
 use Rattle.vkg_turtle.specs.declared.document.Document.{Document}
 use Rattle.vkg_turtle.specs.declared.grammar_table.TheConstants.{TURTLE}
@@ -14,7 +14,7 @@ use Rattle.vkg_turtle.specs.declared.triple.Triple.{Triple}
 use Rattle.vkg_turtle.specs.Document.{document_of, begun, triples_of}
 use Rattle.vkg_turtle.specs.Words.{lexemes_of}
 use Rattle.vkg_tokens.specs.Mark.{without_mark}
-use Rattle.vkg_turtle.specs.Reading.{turtle, start_at, fault, fault_of, Says, IsTooDeepText, IsNoText, IsDocumentText, IsFaultOf, no_utf8, no_token, too_deep, no_text, no_document, IsDetermined}
+use Rattle.vkg_turtle.specs.Reading.{turtle, fault, fault_of, Says, IsTooDeepText, IsNoText, IsDocumentText, IsFaultOf, no_utf8, no_token, too_deep, no_text, no_document, IsDetermined}
 
 same_tokens : {r : Result (List Token) ℕ} {ts us : List Token} → r ≡ Ok ts → r ≡ Ok us → ts ≡ us
 same_tokens e f = cc
@@ -33,18 +33,6 @@ one_said {text = text} {base = base} a b =
 
 -- ---- too many brackets
 
-not_deep : (g : Form) (ks : List ℕ) (n : ℕ) → IsShallow g ks → IsTooDeep g ks n → ⊥
-not_deep g ks n s d = absurd (let e : true ≡ false = sym (s n d.inside) ∙ d.deep in cc)
-
-deep_before : (g : Form) (ks : List ℕ) (m n : ℕ) → IsTooDeep g ks m → IsTooDeep g ks n → m < n → ⊥
-deep_before g ks m n a b l = absurd (let e : true ≡ false = sym (b.before m l) ∙ a.deep in cc)
-
-one_deep : (g : Form) (ks : List ℕ) (m n : ℕ) → IsTooDeep g ks m → IsTooDeep g ks n → m ≡ n
-one_deep g ks m n a b =
-    let left : m < n → ⊥ = deep_before g ks m n a b in
-    let right : n < m → ⊥ = deep_before g ks n m b a in
-    omega (arith, left, right)
-
 one_too_deep : {text : List ℕ} {a b : ℕ} → IsTooDeepText text a → IsTooDeepText text b → a ≡ b
 one_too_deep {text = text} x y =
     let t : y.tokens ≡ x.tokens = same_tokens y.cut x.cut in
@@ -62,41 +50,14 @@ no_text_deep a x = deep_or_shallow a.tokens x (same_tokens x.cut a.cut) a.shallo
 
 -- ---- no text of the grammar
 
-alive_text : (g : List Rule) (ts : List ℕ) (ws : List Note) (n : ℕ) → Derives g (0 ∷ []) ts ws → IsFirstDead g ts n → ⊥
-alive_text g ts ws n d dead = dead.dead (drop (n + 1) ts, ws, subst (λ y. Derives g (0 ∷ []) y ws) (sym (take-append-drop (n + 1) ts)) d)
-
 no_said : {text base : List ℕ} {d : Document} {at : ℕ} → Says text base d → IsNoText text at → ⊥
 no_said a b =
     let t : b.tokens ≡ a.tokens = same_tokens b.cut a.cut in
     let d : Derives TURTLE (0 ∷ []) (kinds_of b.tokens) a.notes = subst (λ ts. Derives TURTLE (0 ∷ []) (kinds_of ts) a.notes) (sym t) a.derived.derives in
-    elim b.place [ inl p ↦ alive_text TURTLE (kinds_of b.tokens) a.notes p.0 d p.1 | inr p ↦ p.0.no_text a.notes d ]
-
--- of two places that are first dead neither is before the other
-not_before : (g : List Rule) (ts : List ℕ) (m n : ℕ) → IsFirstDead g ts m → IsFirstDead g ts n → m < n → ⊥
-not_before g ts m n a b l = a.dead (b.alive m l)
-
-one_dead : (g : List Rule) (ts : List ℕ) (m n : ℕ) → IsFirstDead g ts m → IsFirstDead g ts n → m ≡ n
-one_dead g ts m n a b =
-    let left : m < n → ⊥ = not_before g ts m n a b in
-    let right : n < m → ⊥ = not_before g ts n m b a in
-    omega (arith, left, right)
-
-not_cut : (g : List Rule) (ts : List ℕ) (n : ℕ) → IsFirstDead g ts n → IsCutOff g ts → ⊥
-not_cut g ts n a b =
-    let w = b.alive in
-    a.dead (drop (n + 1) ts ++ w.0, w.1, subst (λ y. Derives g (0 ∷ []) y w.1) (ap (λ y. y ++ w.0) (sym (take-append-drop (n + 1) ts)) ∙ append_assoc (take (n + 1) ts) (drop (n + 1) ts) w.0) w.2)
-
-abbrev NoTextAt : List ℕ → List Token → ℕ → Type 0
-NoTextAt text ts at = ((i : ℕ) × IsFirstDead TURTLE (kinds_of ts) i × (at ≡ start_at ts i)) ⊎ (IsCutOff TURTLE (kinds_of ts) × (at ≡ length text))
-
-one_place : (text : List ℕ) (ts : List Token) (a b : ℕ) → NoTextAt text ts a → NoTextAt text ts b → a ≡ b
-one_place text ts a b (inl p) (inl q) = p.2 ∙ ap (start_at ts) (one_dead TURTLE (kinds_of ts) p.0 q.0 p.1 q.1) ∙ sym q.2
-one_place text ts a b (inl p) (inr q) = absurd (not_cut TURTLE (kinds_of ts) p.0 p.1 q.0)
-one_place text ts a b (inr p) (inl q) = absurd (not_cut TURTLE (kinds_of ts) q.0 q.1 p.0)
-one_place text ts a b (inr p) (inr q) = p.1 ∙ sym q.1
+    no_text_at TURTLE _ b.tokens a.notes _ d b.place
 
 one_no_text : {text : List ℕ} {a b : ℕ} → IsNoText text a → IsNoText text b → a ≡ b
-one_no_text {text = text} {a = a} {b = b} x y = one_place text x.tokens a b x.place (subst (λ ts. NoTextAt text ts b) (same_tokens y.cut x.cut) y.place)
+one_no_text {text = text} {a = a} {b = b} x y = one_place TURTLE text x.tokens a b x.place (subst (λ ts. NoTextAt TURTLE text ts b) (same_tokens y.cut x.cut) y.place)
 
 -- ---- one answer
 

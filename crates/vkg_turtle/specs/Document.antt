@@ -2,6 +2,7 @@
 use Rattle.std.specs.Prelude.{ℕ, Bool, true, false, List, [], ◌∷◌, ◌++◌, codes, decimal, fold, length, map, slice_get, take, ◌-◌, Option, Some, None, unwrap_or, option_map, option_to_list, if◌then◌else◌}
 use Rattle.std.specs.List.{list_any}
 use Rattle.std.specs.Str.{bytes_eq}
+use Rattle.vkg_lists.specs.Places.{earlier}
 use Rattle.vkg_grammar.specs.declared.note.Note.{Note}
 use Rattle.vkg_terms.specs.declared.term.Term.{Term}
 use Rattle.vkg_terms.specs.declared.term.Term.TheVariants.{Iri, Blank, Lit}
@@ -63,11 +64,6 @@ term_of (Double text) d = typed text (codes "double")
 term_of (Boolean text) d = typed text (codes "boolean")
 term_of IsA d = Iri rdf_type
 term_of w d = Iri (unwrap_or (iri_of w d) [])
-
--- the first of the places that are noted
-abbrev pub earlier : Option ℕ → ℕ → Option ℕ
-earlier None at = Some at
-earlier (Some first) at = Some first
 
 abbrev pub noted_iri : Option (List ℕ) → ℕ → Document → Document
 noted_iri None at d = record d { unknown = earlier d.unknown at }

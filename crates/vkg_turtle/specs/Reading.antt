@@ -1,10 +1,10 @@
 -- Which bytes are a document, its triples, and the first fault of others.
-use Rattle.std.specs.Prelude.{◌≡◌, ℕ, ◌⊎◌, List, [], ◌∷◌, length, map, slice_index_or, IsUtf8, Option, Some, None, Ok, Err, Result}
+use Rattle.std.specs.Prelude.{◌≡◌, ℕ, List, [], ◌∷◌, IsUtf8, Option, Some, None, Ok, Err, Result}
 use Rattle.std.specs.Str.Lossy.{utf8_valid_len}
 use Rattle.vkg_grammar.specs.declared.note.Note.{Note}
 use Rattle.vkg_grammar.specs.Form.{Form, IsTooDeep, IsShallow}
-use Rattle.vkg_grammar.specs.Kinds.{kinds_of}
-use Rattle.vkg_grammar.specs.Parsing.{IsFirstDead, IsCutOff, IsTheText}
+use Rattle.vkg_grammar.specs.Kinds.{kinds_of, start_at}
+use Rattle.vkg_grammar.specs.Parsing.{IsTheText, NoTextAt}
 use Rattle.vkg_tokens.specs.declared.cutting.Token.{Token}
 use Rattle.vkg_tokens.specs.declared.lang.Lang.TheVariants.{Turtle}
 use Rattle.vkg_tokens.specs.Cut.{tokens_of}
@@ -32,10 +32,6 @@ turtle = record {
   limit = Some 64;
 }
 
--- where a token begins
-abbrev pub start_at : List Token → ℕ → ℕ
-start_at ts i = slice_index_or (map (λ t. t.start) ts) i 0
-
 -- The text is one of the grammar, and this is what was read of it.
 pub record Says (text base : List ℕ) (document : Document) : Type 0 where
   pub tokens : List Token
@@ -58,7 +54,7 @@ pub record IsNoText (text : List ℕ) (at : ℕ) : Type 0 where
   pub tokens : List Token
   pub cut : turtle_tokens text ≡ Ok tokens
   pub shallow : IsShallow turtle (kinds_of tokens)
-  pub place : ((i : ℕ) × IsFirstDead TURTLE (kinds_of tokens) i × (at ≡ start_at tokens i)) ⊎ (IsCutOff TURTLE (kinds_of tokens) × (at ≡ length text))
+  pub place : NoTextAt TURTLE text tokens at
 
 abbrev pub fault : ℕ → ℕ → TurtleFault
 fault check at = record { check = check; at = at }

@@ -1,7 +1,7 @@
 ghost use Rattle.std.specs.Prelude.{◌≡◌, ◌++◌, codes, IfOk, OnOk, option_map, unwrap_or, []};
 ghost use Rattle.std.specs.Option.{option_copied};
 ghost use Rattle.vkg_terms.specs.declared.term.Term.TheVariants.{Iri};
-ghost use Rattle.vkg_turtle.specs.Document.{begun, annotation_of_type, iri_of, iri_text, typed, term_of, earlier, noted_iri, noted, node_at, with_object, annotated, annotated_triple, with_annotation, outer_of, opened, restored, last_of, prefix_of, text_of_tag, with_subject, with_outer, act};
+ghost use Rattle.vkg_turtle.specs.Document.{begun, annotation_of_type, iri_of, iri_text, typed, term_of, noted_iri, noted, node_at, with_object, annotated, annotated_triple, with_annotation, outer_of, opened, restored, last_of, prefix_of, text_of_tag, with_subject, with_outer, act};
 ghost use Rattle.vkg_turtle.specs.declared.role.Role.TheVariants.{PrefixName, PrefixIri, BaseIri, Subject, Verb, Object, Datatype, Language};
 
 use crate::lexeme::{Lexeme, Word};
@@ -10,7 +10,7 @@ use crate::role::Role;
 use crate::triple::Triple;
 use itoa::Buffer;
 use std::alloc::Global;
-use vkg_base::{Items, Memory, Text};
+use vkg_base::{Items, Memory, Text, earlier};
 use vkg_terms::{Annotation, Term, is_absolute, resolve};
 
 /// A subject and a predicate, kept while the node of a bracket is the subject.
@@ -71,15 +71,6 @@ fn or_empty(alloc: Global, iri: Option<Text>) -> Result<Text, Memory>
     match iri {
         Some(iri) => Ok(iri),
         None => Text::new(alloc, ""),
-    }
-}
-
-fn earlier(first: Option<usize>, at: usize) -> Option<usize>
-    ensures { result ≡ earlier first at }
-{
-    match first {
-        Some(first) => Some(first),
-        None => Some(at),
     }
 }
 

@@ -1,6 +1,6 @@
-ghost use Rattle.std.specs.Prelude.{◌≡◌, ◌<◌, length, map, slice_get, slice_index_or, unwrap_or, IfOk, IfErr, OnOk};
+ghost use Rattle.std.specs.Prelude.{◌≡◌, ◌<◌, length, slice_get, unwrap_or, IfOk, IfErr, OnOk};
 ghost use Rattle.vkg_grammar.specs.Form.{IsShallow};
-ghost use Rattle.vkg_grammar.specs.Kinds.{kinds_of, AreBelow};
+ghost use Rattle.vkg_grammar.specs.Kinds.{kinds_of, start_at, AreBelow};
 ghost use Rattle.vkg_grammar.specs.Parsing.{IsTheText, Fails};
 ghost use Rattle.vkg_turtle.specs.Document.{begun, document_of, is_choice, role_of};
 ghost use Rattle.vkg_turtle.specs.Reading.{Says, TextFails as Refuses, turtle};
@@ -72,7 +72,7 @@ fn document_of(
 
 fn start_of(tokens: &[Token], index: usize) -> usize
     requires { index < length tokens.now }
-    ensures { result ≡ slice_index_or (map (λ t. t.start) tokens.now) index 0 }
+    ensures { result ≡ start_at tokens.now index }
 {
     tokens[index].start
 }

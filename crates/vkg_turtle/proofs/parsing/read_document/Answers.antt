@@ -1,6 +1,7 @@
 use Rattle.std.proofs.Common.{ap, refl, ◌∙◌}
 use Rattle.vkg_turtle.specs.declared.reading.TurtleError.TheVariants.{Fault}
-use Rattle.vkg_turtle.specs.Reading.{fault, start_at}
+use Rattle.vkg_grammar.specs.Kinds.{start_at}
+use Rattle.vkg_turtle.specs.Reading.{fault}
 use Rattle.vkg_turtle.proofs.Failing.{no_token_named, too_deep_named, dead_named, ended_named}
 use Rattle.vkg_turtle.proofs.parsing.read_document.Goals as goal
 
