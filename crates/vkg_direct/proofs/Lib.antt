@@ -11,3 +11,4 @@ pub mod Law
 pub mod Moments
 pub mod RuleCount
 mod Examples
+pub mod Within

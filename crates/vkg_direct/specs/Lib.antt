@@ -1,3 +1,4 @@
 pub mod DirectGraph
 pub mod DirectMapping
 pub mod Laws
+pub mod Within

@@ -9,6 +9,7 @@
 
 mod direct_error;
 mod iris;
+pub mod laws;
 mod mapping;
 mod rule_limit;
 #[cfg(test)]

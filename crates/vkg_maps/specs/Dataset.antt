@@ -1,5 +1,6 @@
 -- The dataset of a mapping over a database.
-use Rattle.std.specs.Prelude.{ℕ, Bool, true, false, ◌&&◌, List, [], ◌∷◌, flat_map, filter, filter_map, Option, Some, None, if◌then◌else◌, option_map}
+use Rattle.std.specs.Prelude.{ℕ, Bool, ◌&&◌, List, [], ◌∷◌, flat_map, filter, filter_map, Option, Some, None, if◌then◌else◌, option_map}
+use Rattle.std.specs.Option.{option_eq}
 use Rattle.vkg_lists.specs.Sets.{distinct}
 use Rattle.vkg_terms.specs.declared.term.Term.{Term}
 use Rattle.vkg_terms.specs.declared.term.Term.TheVariants.{Iri}
@@ -47,9 +48,7 @@ quads mapping db = flat_map (quads_of_rule mapping.base db) (quad_rules mapping)
 
 -- the same graph name, or both the default graph
 abbrev pub graph_eq : Option Term → Option Term → Bool
-graph_eq None None = true
-graph_eq (Some g) (Some h) = term_eq g h
-graph_eq g h = false
+graph_eq = option_eq term_eq
 
 -- RDF 1.1 Concepts, 3.1 and 4: the same terms in the same graph
 abbrev pub quad_eq : Quad → Quad → Bool

@@ -3,3 +3,4 @@ pub mod DataFaults
 pub mod LeastFault
 pub mod QuadRules
 pub mod Dataset
+pub mod Within

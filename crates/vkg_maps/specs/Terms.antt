@@ -43,7 +43,7 @@ abbrev pub template_value : TermType → Row → List Piece → Option (List ℕ
 template_value type row [] = Some []
 template_value type row (p ∷ ps) = joined (piece_text type row p) (template_value type row ps)
 
--- R2RML, 7.4, IRI: a value that is no absolute IRI is put behind the base
+-- R2RML, 11.2, IRI: a value that is no absolute IRI is put behind the base
 abbrev pub against : List ℕ → TermType → List ℕ → List ℕ
 against base sort.Iri text = if is_absolute text then text else base ++ text
 against base sort.Blank text = text

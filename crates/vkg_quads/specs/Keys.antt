@@ -1,8 +1,6 @@
 -- By which text a row is found in an index of rows.
-use Rattle.std.specs.Prelude.{ℕ, Bool, false, List, [], ◌∷◌, ◌++◌, Option, Some, None, option_map, Vec, String}
-use Rattle.std.specs.Option.{option_map_or}
+use Rattle.std.specs.Prelude.{ℕ, Bool, false, List, [], ◌∷◌, ◌++◌, Option, Some, None, option_map}
 use Rattle.std.specs.Str.{bytes_eq}
-use Rattle.std.specs.HashMap.{HashMap, get_by_text}
 use Rattle.vkg_cells.specs.declared.cell.Cell.{Cell}
 use Rattle.vkg_cells.specs.declared.cell.Cell.TheVariants as cell
 use Rattle.vkg_cells.specs.Form.{lexical_form}
@@ -25,7 +23,3 @@ is_key q (Some key) = bytes_eq q key
 
 abbrev pub has_key : List ℕ → List ℕ → Row → Bool
 has_key columns q row = is_key q (row_key row columns)
-
--- the numbers that a map has at a text
-abbrev pub group : {Y S Z : Type 0} → HashMap (String Y) (Vec ℕ Z) S → List ℕ → List ℕ
-group m q = option_map_or (λ g. g.items) (get_by_text m q) []

@@ -5,14 +5,14 @@ ghost use Rattle.vkg_terms.specs.NQuads.{line};
 ghost use Rattle.vkg_schema.specs.Rows.{agree as rows_agree};
 ghost use Rattle.vkg_maps.specs.Dataset.{quad_of, quads_of_rule, dataset};
 ghost use Rattle.vkg_quads.specs.Dump.{IsDump, dump};
-ghost use Rattle.vkg_quads.specs.Keys.{group, has_key};
+ghost use Rattle.vkg_base.specs.Groups.{group};
+ghost use Rattle.vkg_quads.specs.Keys.{has_key};
 
 use crate::index::{grouped, key_of};
 use crate::quad::line_of_rows;
 use crate::rule_list::rules;
 use std::alloc::Global;
-use std::collections::HashMap;
-use vkg_base::{Items, Lines, Memory};
+use vkg_base::{Groups, Items, Lines, Memory};
 use vkg_cells::Cell;
 use vkg_maps::{Mapping, QuadRule};
 use vkg_schema::agree;
@@ -151,7 +151,7 @@ fn push_partners(
     theirs: &[usize],
     row: &[Cell],
     parents: &[Items<Cell>],
-    groups: &HashMap<String, Vec<usize>>,
+    groups: &Groups,
 ) -> Result<(), Memory>
     requires children { own.now ≡ map (λ p. p.0) conditions.now }
     requires parents { theirs.now ≡ map (λ p. p.1) conditions.now }

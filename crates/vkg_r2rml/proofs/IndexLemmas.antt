@@ -23,7 +23,7 @@ use Rattle.vkg_schema.specs.declared.table.Table.{Table}
 use Rattle.vkg_r2rml.specs.TriplesMaps.{shows_triples_map, nodes_of_maps, map_node, place_of}
 use Rattle.vkg_r2rml.specs.Index.{IsIndexOf, with_triple}
 use Rattle.vkg_r2rml.proofs.Positions.{place_push, any_at}
-use Rattle.vkg_r2rml.proofs.Terms.{terms_apart}
+use Rattle.vkg_terms.proofs.SameLemmas.{terms_apart}
 
 -- what is found under the text of a term, by whether it is that of the new triples map
 step : (maps : List MapNode) (m : MapNode) (t : Term) (before : Option ℕ) (b : Bool) → bytes_eq (term_text m.node) (term_text t) ≡ b → place_of maps m.node ≡ None → IsOnlyTerm m.node (term_text m.node) → HoldsText t → before ≡ place_of maps t → cond b (Some (length maps)) before ≡ place_of (maps ++ m ∷ []) t

@@ -7,4 +7,5 @@ pub mod LeastFault
 pub mod MappingLemmas
 pub mod Positions
 pub mod RuleCount
-pub mod Terms
+pub mod Parts
+pub mod Within

@@ -8,3 +8,4 @@ pub mod RuleCount
 pub mod Index
 pub mod Mapping
 pub mod Faults
+pub mod Within

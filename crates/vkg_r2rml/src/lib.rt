@@ -12,6 +12,7 @@
 
 mod checked;
 mod gathered;
+pub mod laws;
 mod logical_table;
 mod map_error;
 mod map_node;

@@ -1,6 +1,5 @@
 // Referencing object maps (R2RML, 8).
 ghost use Rattle.std.specs.Prelude.{◌≡◌, map, IfOk};
-ghost use Rattle.vkg_cells.specs.Order.{family};
 ghost use Rattle.vkg_r2rml.specs.Checked.{all_of, exactly_one};
 ghost use Rattle.vkg_r2rml.specs.ReferencingMap.{no_term_map as without_term_map, parent_of as parent_among, table_of_parent as parents_table, column_named as column_of_term, columns_of as columns_of_table, column_if_known as known_column, side as one_side, family_at as family_of_column, comparable as comparable_pair, condition as one_condition, same_table as one_table, conditions as all_conditions, reference as whole_reference, referencing_map as whole_map};
 
@@ -10,7 +9,7 @@ use crate::maps::Maps;
 use crate::vocabulary::{RR_CHILD, RR_JOIN_CONDITION, RR_PARENT};
 use std::alloc::Global;
 use vkg_base::{Items, Memory};
-use vkg_cells::SqlType;
+use vkg_cells::family;
 use vkg_maps::ObjectMap;
 use vkg_schema::{Column, Schema};
 use vkg_term_maps::vocabulary::{RR_COLUMN, RR_CONSTANT, RR_TEMPLATE};
@@ -254,21 +253,5 @@ fn family_at(schema: &Schema, table: usize, column: usize) -> u8
     match columns_of(schema, table).get(column) {
         None => 0,
         Some(c) => family(c.kind),
-    }
-}
-
-/// The family of a kind: Int and Dec are one.
-fn family(kind: SqlType) -> u8
-    ensures { result ≡ family kind }
-{
-    match kind {
-        SqlType::Text => 1,
-        SqlType::Int => 2,
-        SqlType::Dec => 2,
-        SqlType::Bool => 3,
-        SqlType::Date => 4,
-        SqlType::Stamp => 5,
-        SqlType::Bin => 6,
-        SqlType::Term => 7,
     }
 }

@@ -1,3 +1,4 @@
 pub mod IndexLemmas
 pub mod Counting
 pub mod FirstCheckLemmas
+pub mod OverColumns

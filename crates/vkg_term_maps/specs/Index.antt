@@ -1,9 +1,9 @@
 -- The index of a graph: the places of its triples, by the texts of their subjects.
-use Rattle.std.specs.Prelude.{◌≡◌, ℕ, List, [], filter_map, slice_get, Option, Some, None, if◌then◌else◌, option_and_then, Vec, String}
+use Rattle.std.specs.Prelude.{◌≡◌, ℕ, List, filter_map, slice_get, Option, Some, None, if◌then◌else◌, option_and_then, Vec, String}
 use Rattle.std.specs.List.{enumerate_from}
-use Rattle.std.specs.Option.{option_map_or}
 use Rattle.std.specs.Str.{bytes_eq}
-use Rattle.std.specs.HashMap.{HashMap, get_by_text}
+use Rattle.std.specs.HashMap.{HashMap}
+use Rattle.vkg_base.specs.Groups.{group}
 use Rattle.vkg_terms.specs.Same.{term_name}
 use Rattle.vkg_turtle.specs.declared.triple.Triple.{Triple}
 
@@ -13,10 +13,6 @@ number_if_named name t = if bytes_eq name (term_name t.1.subject) then Some t.0 
 -- the numbers of the triples whose subject has this text
 abbrev pub numbers_named : List ℕ → List (ℕ × Triple) → List ℕ
 numbers_named name numbered = filter_map (number_if_named name) numbered
-
--- the numbers that an index has under a text
-abbrev pub group : {Y S Z : Type 0} → HashMap (String Y) (Vec ℕ Z) S → List ℕ → List ℕ
-group index name = option_map_or (λ g. g.items) (get_by_text index name) []
 
 abbrev pub IsIndexOf : {Y S Z : Type 0} → List Triple → HashMap (String Y) (Vec ℕ Z) S → Type 0
 IsIndexOf triples index = (name : List ℕ) → group index name ≡ numbers_named name (enumerate_from 0 triples)

@@ -6,7 +6,7 @@ ghost use Rattle.vkg_term_maps.specs.Graph.{object_if as object_of_triple, objec
 ghost use Rattle.vkg_term_maps.specs.Index.{given_at, numbers_named};
 ghost use Rattle.vkg_term_maps.specs.Vocabulary.{map_property as map_property_of, shortcut as shortcut_of};
 
-use crate::index::{Index, index_of, text_of};
+use crate::index::{index_of, text_of};
 use crate::place::{Place, Role};
 use crate::vocabulary::{
     RR_GRAPH, RR_GRAPH_MAP, RR_OBJECT, RR_OBJECT_MAP, RR_PREDICATE, RR_PREDICATE_MAP, RR_SUBJECT,
@@ -14,7 +14,7 @@ use crate::vocabulary::{
 };
 use std::alloc::Global;
 use std::marker::Model;
-use vkg_base::{Items, Memory};
+use vkg_base::{Groups, Items, Memory};
 use vkg_terms::Term;
 use vkg_turtle::Triple;
 
@@ -22,7 +22,7 @@ use vkg_turtle::Triple;
 #[derive(Drop)]
 pub struct Graph<'a> {
     triples: &'a [Triple],
-    index: Index,
+    index: Groups,
 }
 
 impl<'a> Model for Graph<'a> {

@@ -2,17 +2,16 @@
 ghost use Rattle.std.specs.Prelude.{◌≡◌, ◌++◌, ◌∷◌, [], ℕ, List, IfOk, OnOk, if◌then◌else◌};
 ghost use Rattle.std.specs.Str.{bytes_eq};
 ghost use Rattle.vkg_terms.specs.Same.{term_name};
-ghost use Rattle.vkg_term_maps.specs.Index.{IsIndexOf, group};
+ghost use Rattle.vkg_base.specs.Groups.{group};
+ghost use Rattle.vkg_term_maps.specs.Index.{IsIndexOf};
 
 use std::alloc::Global;
 use std::collections::HashMap;
-use vkg_base::Memory;
+use vkg_base::{Groups, Memory, put};
 use vkg_terms::Term;
 use vkg_turtle::Triple;
 
-pub(crate) type Index = HashMap<String, Vec<usize>>;
-
-pub(crate) fn index_of(alloc: Global, triples: &[Triple]) -> Result<Index, Memory>
+pub(crate) fn index_of(alloc: Global, triples: &[Triple]) -> Result<Groups, Memory>
     ensures { IfOk result (λ index. IsIndexOf triples.now index) }
 {
     let mut index = HashMap::new(alloc);
@@ -22,12 +21,11 @@ pub(crate) fn index_of(alloc: Global, triples: &[Triple]) -> Result<Index, Memor
     Ok(index)
 }
 
-fn add(alloc: Global, index: &mut Index, name: &str, k: usize) -> Result<(), Memory>
+fn add(alloc: Global, index: &mut Groups, name: &str, k: usize) -> Result<(), Memory>
     ensures { OnOk result ((q : List ℕ) → group index.new q ≡ group index.old q ++ (if bytes_eq q name.now then k ∷ [] else [])) }
 {
     let key = String::from_str(alloc, name)?;
-    index.entry(key)?.or_default().push(k)?;
-    Ok(())
+    put(index, key, k)
 }
 
 /// The IRI of a term, its label or its lexical form.

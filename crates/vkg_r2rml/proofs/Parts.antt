@@ -1,0 +1,71 @@
+-- What is known of the parts of a part that no check fails of.
+use Rattle.std.proofs.Common.{◌≡◌, ℕ, List, [], ◌∷◌, map, refl, sym, ap, subst}
+use Rattle.std.specs.Prelude.{Option, Some, None, Ok, Err, filter_map, ok_or, fold, min}
+use Rattle.std.specs.List.{AllByRecursion, cons_option}
+use Rattle.vkg_lists.specs.Places.{least_of, lesser}
+use Rattle.vkg_r2rml.specs.Checked.{Checked, value_if_any, fault_if_any, both, unless, all_of, and_then}
+
+pub ok_same : {A : Type 0} (a b : A) → ◌≡◌ {A = Checked A} (Ok a) (Ok b) → a ≡ b
+ok_same a b e = cc
+
+module _ {A B : Type 0} where
+  pub of_both : (a : Checked A) (b : Checked B) (p : A × B) → both a b ≡ Ok p → (a ≡ Ok p.0) × (b ≡ Ok p.1)
+  of_both (Ok x) (Ok y) p e = let s : (x, y) ≡ p = ok_same (x, y) p e in (ap (λ (q : A × B). Ok q.0) s, ap (λ (q : A × B). Ok q.1) s)
+  of_both (Ok x) (Err d) p e = cc
+  of_both (Err c) (Ok y) p e = cc
+  of_both (Err c) (Err d) p e = cc
+
+  pub of_then : (a : Checked A) (next : A → Checked B) (b : B) → and_then a next ≡ Ok b → (x : A) × (a ≡ Ok x) × (next x ≡ Ok b)
+  of_then (Ok x) next b e = (x, refl, e)
+  of_then (Err c) next b e = cc
+
+  values : (P : B → Type 0) (f : A → Checked B) (xs : List A) → ((x : A) (y : B) → f x ≡ Ok y → P y) → AllByRecursion P (filter_map value_if_any (map f xs))
+  values P f [] h = tt
+  values P f (x ∷ xs) h = of (f x) refl (values P f xs h)
+    where
+      of : (c : Checked B) → f x ≡ c → AllByRecursion P (filter_map value_if_any (map f xs)) → AllByRecursion P (cons_option (value_if_any c) (filter_map value_if_any (map f xs)))
+      of (Ok y) e rest = (h x y e, rest)
+      of (Err check) e rest = rest
+
+  pub of_all : (P : B → Type 0) (f : A → Checked B) (xs : List A) (ys : List B) → ((x : A) (y : B) → f x ≡ Ok y → P y) → all_of (map f xs) ≡ Ok ys → AllByRecursion P ys
+  of_all P f xs ys h e = subst (AllByRecursion P) (unfailed (least_of fault_if_any (map f xs)) e) (values P f xs h)
+    where
+      unfailed : (o : Option ℕ) → unless o (filter_map value_if_any (map f xs)) ≡ Ok ys → filter_map value_if_any (map f xs) ≡ ys
+      unfailed None e = ok_same (filter_map value_if_any (map f xs)) ys e
+      unfailed (Some check) e = cc
+
+module _ {A : Type 0} where
+  pub of_option : (o : Option A) (check : ℕ) (a : A) → ok_or o check ≡ Ok a → o ≡ Some a
+  of_option None check a e = cc
+  of_option (Some x) check a e = ap Some (ok_same x a e)
+
+-- ---- the first of several parts
+
+some_stays : {A : Type 0} (place : A → Option ℕ) (a : ℕ) (xs : List A) → fold (λ best x. lesser best (place x)) (Some a) xs ≡ None → ⊥
+some_stays place a [] e = cc
+some_stays place a (x ∷ xs) e = of (place x) (some_stays place a xs) (λ b. some_stays place (min a b) xs) e
+  where
+    of : (o : Option ℕ) → (fold (λ best x. lesser best (place x)) (Some a) xs ≡ None → ⊥) → ((b : ℕ) → fold (λ best x. lesser best (place x)) (Some (min a b)) xs ≡ None → ⊥) →
+        fold (λ best x. lesser best (place x)) (lesser (Some a) o) xs ≡ None → ⊥
+    of None h g e = h e
+    of (Some b) h g e = g b e
+
+module _ {A B : Type 0} where
+  -- where there is a part, there is a value
+  pub of_first : (f : A → Checked B) (x : A) (xs : List A) (ys : List B) → all_of (map f (x ∷ xs)) ≡ Ok ys → (y : B) × (zs : List B) × (ys ≡ y ∷ zs)
+  of_first f x xs ys e = of (f x) e
+    where
+      parts : Checked B → List (Checked B)
+      parts c = c ∷ map f xs
+
+      of : (c : Checked B) → all_of (parts c) ≡ Ok ys → (y : B) × (zs : List B) × (ys ≡ y ∷ zs)
+      of (Ok y) e = (y, filter_map value_if_any (map f xs), unfailed (least_of fault_if_any (parts (Ok y))) e)
+        where
+          unfailed : (o : Option ℕ) → unless o (y ∷ filter_map value_if_any (map f xs)) ≡ Ok ys → ys ≡ y ∷ filter_map value_if_any (map f xs)
+          unfailed None e = sym (ok_same (y ∷ filter_map value_if_any (map f xs)) ys e)
+          unfailed (Some check) e = cc
+      of (Err check) e = failed (least_of fault_if_any (parts (Err check))) refl e
+        where
+          failed : (o : Option ℕ) → least_of fault_if_any (parts (Err check)) ≡ o → unless o (filter_map value_if_any (map f xs)) ≡ Ok ys → (y : B) × (zs : List B) × (ys ≡ y ∷ zs)
+          failed None w e = absurd (some_stays fault_if_any check (map f xs) w)
+          failed (Some least) w e = cc
