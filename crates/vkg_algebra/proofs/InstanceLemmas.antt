@@ -11,7 +11,8 @@ use Rattle.vkg_lists.proofs.Distinct.{IsDistinct-cons, IsDistinct-filter, IsDist
 use Rattle.vkg_lists.proofs.Members.{Contains-none, Contains-here, Contains-there, Contains-cons_cases, Contains-flat_map, Contains-from_filter, Contains-from_flat_map, each_from_recursion, recursion_from_each}
 use Rattle.vkg_lists.proofs.Tests.{nat_test}
 use Rattle.vkg_maps.specs.Dataset.{graph_eq, quad_eq}
-use Rattle.vkg_maps.proofs.Quads.{quads_apart}
+use Rattle.vkg_maps.proofs.Quads.{quads_apart, graphs_apart}
+use Rattle.vkg_terms.proofs.SameLemmas.{terms_apart}
 use Rattle.vkg_terms.specs.declared.term.Term.{Term}
 use Rattle.vkg_terms.specs.declared.term.Term.TheVariants.{Iri}
 use Rattle.vkg_terms.specs.NQuads.{Quad}
@@ -24,7 +25,7 @@ use Rattle.vkg_algebra.specs.Evaluation.{Dataset, graph_of}
 use Rattle.vkg_algebra.specs.Laws.{AreBelow, HasInstances, IsInstance, IsInstanceOf, node_numbers, node_term, pattern_numbers}
 use Rattle.vkg_algebra.specs.Patterns.{instances, node_solutions, pattern_solutions, triple_solutions}
 use Rattle.vkg_algebra.specs.Solutions.{Solution, lookup, only, unbound}
-use Rattle.vkg_algebra.proofs.MapLemmas.{in_one, same_map, solution_test, term_test}
+use Rattle.vkg_algebra.proofs.MapLemmas.{in_one, same_map, solution_test}
 use Rattle.vkg_algebra.proofs.PatternLemmas.{Describes, IsMapOf, both_join, once_join, one_distinct, same_bound}
 
 -- ---- a place of a pattern
@@ -78,8 +79,8 @@ is_unbound n s e p = record {
 
 fixed : (n : ℕ) (u t : Term) → Describes n [] (λ s. Some u ≡ Some t) (cond (term_eq u t) (unbound n ∷ []) [])
 fixed n u t = record {
-  onto = λ s c. let one = in_one (term_eq u t) (unbound n) s c in is_unbound n s (sym one.1) (ap Some ((term_test.decides u t).0 one.0));
-  back = λ s m. back s m (term_eq u t) ((term_test.decides u t).1 (let f : Some u ≡ Some t = m.fact in cc));
+  onto = λ s c. let one = in_one (term_eq u t) (unbound n) s c in is_unbound n s (sym one.1) (ap Some ((terms_apart.decides u t).0 one.0));
+  back = λ s m. back s m (term_eq u t) ((terms_apart.decides u t).1 (let f : Some u ≡ Some t = m.fact in cc));
   binds = λ s p v c. absurd (Contains-none v c);
   moves = λ s v p h. p;
 }
@@ -181,12 +182,6 @@ instances_once n triples g d one (p ∷ ps) h =
 
 -- ---- in the words of the standard
 
-abbrev in_graph : Option Term → Quad
-in_graph g = record { subject = Iri []; predicate = Iri []; object = Iri []; graph = g }
-
-same_graph : (g h : Option Term) → graph_eq g h ≡ true → g ≡ h
-same_graph g h e = ap (λ (q : Quad). q.graph) ((quads_apart.decides (in_graph g) (in_graph h)).0 e)
-
 module _ (n : ℕ) (ps : List TriplePattern) (d : Dataset) (g : Option Term) (h : AreBelow n ps) where
   pub has_instances : HasInstances n ps d g
   has_instances =
@@ -207,5 +202,5 @@ module _ (n : ℕ) (ps : List TriplePattern) (d : Dataset) (g : Option Term) (h 
             fact = recursion_from_each (λ p. (q : Quad) × (Contains (graph_of d g) q × Makes p q s)) ps (λ p k. let e = i.each p k in (e.0, (e.1, (e.2.subject, (e.2.predicate, e.2.object)))));
           }),
         );
-        once = λ k. instances_once n (graph_of d g) g (IsDistinct-filter quad_eq (λ q. graph_eq q.graph g) d k) (λ q c. same_graph q.graph g (Contains-from_filter (λ q. graph_eq q.graph g) d q c).1) ps h;
+        once = λ k. instances_once n (graph_of d g) g (IsDistinct-filter quad_eq (λ q. graph_eq q.graph g) d k) (λ q c. (graphs_apart.decides q.graph g).0 (Contains-from_filter (λ q. graph_eq q.graph g) d q c).1) ps h;
       }

@@ -12,11 +12,8 @@ use Rattle.vkg_lists.proofs.Counts.{Decides-list_any, eq_same}
 use Rattle.vkg_lists.proofs.Members.{Contains-none, Contains-here, Contains-there, Contains-cons_cases, Contains-filter, Contains-from_filter, Contains-flat_map, Contains-from_flat_map}
 use Rattle.vkg_lists.proofs.Rows.{Decides-compatible, length-merge, value_at-merge}
 use Rattle.vkg_lists.proofs.Tests.{list_test, nat_test, option_test}
-use Rattle.vkg_maps.specs.Dataset.{quad_eq}
-use Rattle.vkg_maps.proofs.Quads.{quads_apart}
 use Rattle.vkg_terms.specs.declared.term.Term.{Term}
-use Rattle.vkg_terms.specs.declared.term.Term.TheVariants.{Iri}
-use Rattle.vkg_terms.specs.NQuads.{Quad}
+use Rattle.vkg_terms.proofs.SameLemmas.{terms_apart}
 use Rattle.vkg_terms.specs.Same.{term_eq}
 use Rattle.vkg_algebra.specs.Answer.{solution_eq}
 use Rattle.vkg_algebra.specs.Laws.{AreCompatible, IsAlone, IsJoined, IsLeftJoin, KeepsMaps}
@@ -24,27 +21,8 @@ use Rattle.vkg_algebra.specs.Solutions.{Solution, compatible, difference, join, 
 
 -- ---- tests of terms and of solutions
 
-abbrev about : Term → Quad
-about t = record { subject = t; predicate = Iri []; object = Iri []; graph = None }
-
-all_true : (b : Bool) → b ≡ true → ((b && true) && true) && true ≡ true
-all_true true h = refl
-all_true false h = h
-
-one_true : (b : Bool) → ((b && true) && true) && true ≡ true → b ≡ true
-one_true true h = refl
-one_true false h = h
-
-pub term_test : IsEqualityTest term_eq
-term_test = record {
-  decides = λ s t. (
-    λ h. ap (λ (q : Quad). q.subject) ((quads_apart.decides (about s) (about t)).0 (all_true (term_eq s t) h)),
-    λ e. one_true (term_eq s t) ((quads_apart.decides (about s) (about t)).1 (ap about e)),
-  );
-}
-
 pub solution_test : IsEqualityTest solution_eq
-solution_test = list_test (option_test term_test)
+solution_test = list_test (option_test terms_apart)
 
 -- ---- maps
 
@@ -57,7 +35,7 @@ same_map (x ∷ s) (y ∷ t) e h = λ i. h 0 i ∷ same_map s t (omega arith) (�
 
 -- compatible in words
 pub says_compatible : (l r : Solution) → Decides (compatible l r) (AreCompatible l r)
-says_compatible l r = Decides-compatible term_test l r
+says_compatible l r = Decides-compatible terms_apart l r
 
 pub keeps_maps : (l r : Solution) → KeepsMaps l r
 keeps_maps l r = record { tested = says_compatible l r; merged = value_at-merge l r }

@@ -17,7 +17,7 @@ use Rattle.vkg_terms.specs.Same.{term_eq}
 use Rattle.vkg_algebra.specs.Answer.{solution_eq}
 use Rattle.vkg_algebra.specs.Laws.{AreCompatible}
 use Rattle.vkg_algebra.specs.Solutions.{Solution, compatible, join, lookup, merge, only, unbound}
-use Rattle.vkg_algebra.proofs.MapLemmas.{IsPair, Contains-from_join, Contains-join, in_one, same_map, says_compatible, solution_test, term_test}
+use Rattle.vkg_algebra.proofs.MapLemmas.{IsPair, Contains-from_join, Contains-join, in_one, same_map, says_compatible, solution_test}
 
 -- ---- what a merged map binds
 

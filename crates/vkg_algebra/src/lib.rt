@@ -14,9 +14,11 @@ mod algebra;
 mod filters;
 mod join;
 pub mod laws;
+mod selected;
 mod translation;
 mod visible_variables;
 
 pub use algebra::{Algebra, Var};
+pub use selected::{each_once, selected_variables};
 pub use translation::translate;
 pub use visible_variables::visible;

@@ -81,7 +81,7 @@ fn add_name(found: &mut Items<Var>, name: &GraphName) -> Result<(), Memory>
 }
 
 /// Adds a number that is not there.
-fn add(found: &mut Items<Var>, number: usize) -> Result<(), Memory>
+pub(crate) fn add(found: &mut Items<Var>, number: usize) -> Result<(), Memory>
     ensures { OnOk result (AddsEach (number ∷ []) found.old found.new) }
 {
     if contains(found.as_slice(), number) {

@@ -1,9 +1,8 @@
 // Tests of kinds.
 ghost use Rattle.std.specs.Prelude.{◌≡◌};
-ghost use Rattle.vkg_cells.specs.Order.{family as family_place};
 ghost use Rattle.vkg_expr.specs.Typing.{fits as is_null_or_of, giving as giving_kind, is_one, kind_number as number_of, same_family as one_family, same_kind as one_kind};
 
-use vkg_cells::{Cell, SqlType};
+use vkg_cells::{Cell, SqlType, family};
 
 fn kind_number(kind: SqlType) -> u8
     ensures { result ≡ number_of kind }
@@ -25,20 +24,6 @@ pub fn same_kind(a: SqlType, b: SqlType) -> bool
     ensures { result ≡ one_kind a b }
 {
     kind_number(a) == kind_number(b)
-}
-
-fn family(kind: SqlType) -> u8
-    ensures { result ≡ family_place kind }
-{
-    match kind {
-        SqlType::Text => 1,
-        SqlType::Int | SqlType::Dec => 2,
-        SqlType::Bool => 3,
-        SqlType::Date => 4,
-        SqlType::Stamp => 5,
-        SqlType::Bin => 6,
-        SqlType::Term => 7,
-    }
 }
 
 /// Whether their cells can be compared: Int and Dec are one family, each other kind is one by itself.

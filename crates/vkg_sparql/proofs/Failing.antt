@@ -2,7 +2,7 @@
 use Rattle.std.proofs.Common.{◌≡◌, ℕ, List, None, Some, Ok, Err, drop, length, ap, refl, sym, ◌∙◌, subst}
 use Rattle.std.specs.Prelude.{IsUtf8}
 use Rattle.vkg_grammar.specs.Form.{IsTooDeep, IsShallow}
-use Rattle.vkg_grammar.specs.Kinds.{kinds_of}
+use Rattle.vkg_grammar.specs.Kinds.{kinds_of, start_at}
 use Rattle.vkg_grammar.specs.OneTree.{IsTheTree}
 use Rattle.vkg_grammar.specs.Parsing.{IsFirstDead, IsCutOff}
 use Rattle.vkg_grammar.specs.Trees.{Tree}
@@ -17,7 +17,7 @@ use Rattle.vkg_sparql.specs.declared.names.Named.{Named}
 use Rattle.vkg_sparql.specs.declared.query.Query.{Query}
 use Rattle.vkg_sparql.specs.Environment.{environment_of, body_start}
 use Rattle.vkg_sparql.specs.Lexemes.{lexemes_of, named_of}
-use Rattle.vkg_sparql.specs.Reading.{sparql, sparql_tokens, start_at, kind_at, dead_check, fault, fault_of, query_of, parts, read, Says, IsQueryText, IsFaultOf, TextFails, no_token, too_deep, dead, cut_off, checked}
+use Rattle.vkg_sparql.specs.Reading.{sparql, sparql_tokens, kind_at, dead_check, fault, fault_of, query_of, parts, read, Says, IsQueryText, IsFaultOf, TextFails, no_token, too_deep, dead, cut_off, checked}
 
 module _ (text base : List ℕ) (u : IsUtf8 text) where
   -- the error is the one that is made of the fault

@@ -1,5 +1,12 @@
+pub mod Accepted
 pub mod Certificate
 pub mod Dropping
 pub mod Failing
+pub mod LawfulParts
+pub mod Made
 pub mod NamesLemmas
+pub mod Numbering
+pub mod One
+pub mod SeenForms
+pub mod Standing
 pub mod Steps

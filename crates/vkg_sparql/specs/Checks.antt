@@ -1,7 +1,8 @@
 -- What may be wrong with a query that is a text of the grammar.
-use Rattle.std.specs.Prelude.{ℕ, Bool, true, false, ◌||◌, ◌&&◌, not, List, [], ◌∷◌, ◌++◌, codes, drop, filter, fold, length, map, min, position, slice_get, Option, Some, None, option_map, if◌then◌else◌, ◌==◌, nat_le, nat_lt, nat_eq}
+use Rattle.std.specs.Prelude.{ℕ, Bool, true, false, ◌||◌, ◌&&◌, not, List, [], ◌∷◌, ◌++◌, codes, drop, filter, fold, length, map, position, slice_get, Option, Some, None, option_map, if◌then◌else◌, ◌==◌, nat_le, nat_lt, nat_eq}
 use Rattle.std.specs.List.{list_any}
 use Rattle.std.specs.Str.{bytes_eq}
+use Rattle.vkg_lists.specs.Places.{earlier}
 use Rattle.vkg_terms.specs.declared.term.Term.{Term}
 use Rattle.vkg_terms.specs.declared.term.Term.TheVariants.{Lit}
 use Rattle.vkg_terms.specs.declared.term.Annotation.TheVariants.{Typed}
@@ -9,7 +10,6 @@ use Rattle.vkg_terms.specs.Iri.{is_absolute}
 use Rattle.vkg_terms.specs.Vocabulary.{xsd}
 use Rattle.vkg_turtle.specs.declared.lexeme.Word.{Word}
 use Rattle.vkg_turtle.specs.declared.lexeme.Word.TheVariants.{Name, Label}
-use Rattle.vkg_turtle.specs.Document.{earlier}
 use Rattle.vkg_sparql.specs.declared.checks.Check.{Check}
 use Rattle.vkg_sparql.specs.declared.checks.Check.TheVariants.{Unknown, Relative, Float, Wide}
 use Rattle.vkg_sparql.specs.declared.blocks.Blocks.{Blocks}
@@ -109,8 +109,3 @@ nodes_over xs = slice_get (node_places xs) 1024
 -- own: at most 2,147,483,647 bytes
 abbrev pub size_over : ℕ → Option ℕ
 size_over size = if nat_lt 2147483647 size then Some 2147483647 else None
-
-abbrev pub lesser : Option ℕ → Option ℕ → Option ℕ
-lesser None b = b
-lesser (Some a) None = Some a
-lesser (Some a) (Some b) = Some (min a b)

@@ -1,11 +1,12 @@
 -- SPARQL 1.1, 4.1.1 and 19.5: what IRI references and prefixed names stand for in a query.
 use Rattle.std.specs.Prelude.{ℕ, Bool, List, [], ◌∷◌, ◌++◌, slice_get, Option, Some, None, option_map, unwrap_or, if◌then◌else◌}
 use Rattle.vkg_grammar.specs.Trees.{Tree, pair, first, second}
+use Rattle.vkg_lists.specs.Places.{earlier}
 use Rattle.vkg_terms.specs.Iri.{is_absolute}
 use Rattle.vkg_terms.specs.Resolve.{resolve}
 use Rattle.vkg_turtle.specs.declared.lexeme.Word.{Word}
 use Rattle.vkg_turtle.specs.declared.lexeme.Word.TheVariants.{Reference, Name}
-use Rattle.vkg_turtle.specs.Document.{declared, namespace, earlier}
+use Rattle.vkg_turtle.specs.Document.{declared, namespace}
 use Rattle.vkg_sparql.specs.declared.environment.Environment.{Environment}
 use Rattle.vkg_sparql.specs.declared.lexeme.Lexeme.{Lexeme}
 use Rattle.vkg_sparql.specs.Meanings.{first_token}

@@ -2,10 +2,11 @@
 use Rattle.std.specs.Prelude.{◌≡◌, ℕ, Bool, ◌||◌, List, [], ◌∷◌, drop, length, map, slice_index_or, IsUtf8, Option, Some, None, Ok, Err, if◌then◌else◌, ◌==◌, nat_le, ◌&&◌, Result}
 use Rattle.std.specs.Str.Lossy.{utf8_valid_len}
 use Rattle.vkg_grammar.specs.Form.{Form, IsTooDeep, IsShallow}
-use Rattle.vkg_grammar.specs.Kinds.{kinds_of}
+use Rattle.vkg_grammar.specs.Kinds.{kinds_of, start_at}
 use Rattle.vkg_grammar.specs.OneTree.{IsTheTree}
 use Rattle.vkg_grammar.specs.Parsing.{IsFirstDead, IsCutOff}
 use Rattle.vkg_grammar.specs.Trees.{Tree}
+use Rattle.vkg_lists.specs.Places.{lesser}
 use Rattle.vkg_tokens.specs.declared.cutting.Token.{Token}
 use Rattle.vkg_tokens.specs.declared.lang.Lang.TheVariants.{Sparql}
 use Rattle.vkg_tokens.specs.Cut.{tokens_of}
@@ -19,7 +20,7 @@ use Rattle.vkg_sparql.specs.declared.query.Query.{Query}
 use Rattle.vkg_sparql.specs.declared.fault.QueryError.{QueryError}
 use Rattle.vkg_sparql.specs.declared.fault.QueryError.TheVariants.{Fault, Memory}
 use Rattle.vkg_sparql.specs.declared.fault.QueryFault.{QueryFault}
-use Rattle.vkg_sparql.specs.Checks.{first_place, label_again, triples_over, nodes_over, size_over, lesser}
+use Rattle.vkg_sparql.specs.Checks.{first_place, label_again, triples_over, nodes_over, size_over}
 use Rattle.vkg_sparql.specs.Environment.{environment_of, body_start}
 use Rattle.vkg_sparql.specs.Groups.{query_value, query_triples}
 use Rattle.vkg_sparql.specs.Lexemes.{lexemes_of, named_of}
@@ -38,10 +39,6 @@ sparql = record {
   closers = 1 ∷ 3 ∷ 5 ∷ [];
   limit = Some 64;
 }
-
--- where a token begins
-abbrev pub start_at : List Token → ℕ → ℕ
-start_at ts i = slice_index_or (map (λ t. t.start) ts) i 0
 
 abbrev pub kind_at : List Token → ℕ → ℕ
 kind_at ts i = slice_index_or (map (λ t. t.kind) ts) i 0
@@ -168,3 +165,13 @@ IsQuery bytes base q = IsQueryText (without_mark bytes) base q
 -- why bytes are no query; places are counted behind the byte order mark
 abbrev pub Fails : List ℕ → List ℕ → QueryError → Type 0
 Fails bytes base e = TextFails (without_mark bytes) base e
+
+-- this is the first fault of these bytes; its place is counted behind the byte order mark
+abbrev pub IsFirstFault : List ℕ → List ℕ → QueryFault → Type 0
+IsFirstFault bytes base f = IsFaultOf (without_mark bytes) base f
+
+-- Bytes are one query at most, and have one first fault at most, and never both.
+pub record IsDetermined : Type 0 where
+  pub one_value : (bytes base : List ℕ) (q other : Query) → IsQuery bytes base q → IsQuery bytes base other → q ≡ other
+  pub one_fault : (bytes base : List ℕ) (f g : QueryFault) → IsFirstFault bytes base f → IsFirstFault bytes base g → f ≡ g
+  pub not_both : (bytes base : List ℕ) (q : Query) (f : QueryFault) → IsQuery bytes base q → IsFirstFault bytes base f → ⊥

@@ -1,12 +1,11 @@
 ghost use Rattle.std.specs.Prelude.{◌≡◌, position, slice_get, OnOk, IfOk};
 ghost use Rattle.std.specs.Str.{bytes_eq};
 ghost use Rattle.vkg_sparql.specs.Checks.{is_here, with_found, with_label, block_step, label_again};
-ghost use Rattle.vkg_turtle.specs.Document.{earlier};
 
 use crate::lexeme::Lexeme;
 use crate::names::Names;
 use std::alloc::Global;
-use vkg_base::{Items, Memory};
+use vkg_base::{Items, Memory, earlier};
 use vkg_turtle::Word;
 
 /// The blank node labels of a query, each with the last brace before its first use; the last brace; and the first use of a
@@ -17,15 +16,6 @@ pub struct Blocks {
     pub braces: Items<usize>,
     pub brace: usize,
     pub again: Option<usize>,
-}
-
-fn earlier(first: Option<usize>, at: usize) -> Option<usize>
-    ensures { result ≡ earlier first at }
-{
-    match first {
-        Some(first) => Some(first),
-        None => Some(at),
-    }
 }
 
 fn brace_at(braces: &[usize], number: usize) -> Option<usize>

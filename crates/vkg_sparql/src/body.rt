@@ -3,14 +3,15 @@ ghost use Rattle.vkg_grammar.specs.Forest.{tree, node_count};
 ghost use Rattle.vkg_grammar.specs.Form.{IsShallow};
 ghost use Rattle.vkg_grammar.specs.Kinds.{kinds_of};
 ghost use Rattle.vkg_grammar.specs.OneTree.{IsTheTree};
-ghost use Rattle.vkg_sparql.specs.Checks.{triples_over, nodes_over, size_over, lesser};
+ghost use Rattle.vkg_sparql.specs.Checks.{triples_over, nodes_over, size_over};
+ghost use Rattle.vkg_lists.specs.Places.{lesser as lesser_of};
 ghost use Rattle.vkg_sparql.specs.Groups.{query_value, query_triples};
 ghost use Rattle.vkg_sparql.specs.Lexemes.{lexemes_of};
 ghost use Rattle.vkg_sparql.specs.Literals.{meanings_of};
 ghost use Rattle.vkg_sparql.specs.Reading.{IsQueryText, TextFails, sparql, sparql_tokens, parts, fault_if, or_first, fault_of};
 
 use crate::blocks::label_again;
-use crate::checks::{Check, first_place, lesser, nodes_over, size_over, triples_over};
+use crate::checks::{Check, first_place, nodes_over, size_over, triples_over};
 use crate::environment::{Environment, body_start, environment_of};
 use crate::fault::{QueryError, QueryFault};
 use crate::grammar_table::SPARQL;
@@ -20,7 +21,7 @@ use crate::names::{Named, named_of};
 use crate::query::Query;
 use crate::query_reader::{read_all_triples, read_tree};
 use std::alloc::Global;
-use vkg_base::Memory;
+use vkg_base::{Memory, lesser};
 use vkg_grammar::{Forest, Parsed};
 use vkg_tokens::Token;
 
@@ -65,7 +66,7 @@ fn limit_over(
     at: usize,
 ) -> Result<Option<usize>, Memory>
     requires { at < node_count forest.now }
-    ensures { IfOk result (λ p. p ≡ lesser (lesser (triples_over lexemes.now (query_triples (tree forest.now at))) (nodes_over lexemes.now)) (lesser over (size_over size))) }
+    ensures { IfOk result (λ p. p ≡ lesser_of (lesser_of (triples_over lexemes.now (query_triples (tree forest.now at))) (nodes_over lexemes.now)) (lesser_of over (size_over size))) }
 {
     let triples = triples_place(alloc, lexemes, forest, at)?;
     let nodes = nodes_over(alloc, lexemes)?;

@@ -1,5 +1,5 @@
 ghost use Rattle.std.specs.Prelude.{◌≡◌, ◌&&◌, IfOk, map, filter, option_map, slice_get};
-ghost use Rattle.vkg_sparql.specs.Checks.{is_missing, is_unknown, is_relative, is_float_type, is_float, is_literal, fails, first_place, is_node, node_places, place_in, subject_place, triples_over, nodes_over, size_over, lesser};
+ghost use Rattle.vkg_sparql.specs.Checks.{is_missing, is_unknown, is_relative, is_float_type, is_float, is_literal, fails, first_place, is_node, node_places, place_in, subject_place, triples_over, nodes_over, size_over};
 ghost use Rattle.vkg_sparql.specs.Environment.{iri_of};
 ghost use Rattle.vkg_sparql.specs.Lawful.{is_wide};
 ghost use Rattle.vkg_cells.specs.WellTyped.{is_well_typed as well_typed, is_too_wide as too_wide};
@@ -224,15 +224,5 @@ pub fn size_over(size: usize) -> Option<usize>
         Some(2147483647)
     } else {
         None
-    }
-}
-
-pub fn lesser(a: Option<usize>, b: Option<usize>) -> Option<usize>
-    ensures { result ≡ lesser a b }
-{
-    match (a, b) {
-        (None, b) => b,
-        (Some(a), None) => Some(a),
-        (Some(a), Some(b)) => Some(a.min(b)),
     }
 }

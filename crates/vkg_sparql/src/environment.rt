@@ -1,13 +1,12 @@
 ghost use Rattle.std.specs.Prelude.{◌≡◌, ◌<◌, ◌++◌, option_map, slice_get, Some, [], IfOk, OnOk};
 ghost use Rattle.std.specs.Option.{option_copied};
 ghost use Rattle.vkg_grammar.specs.Forest.{tree, node_count};
-ghost use Rattle.vkg_turtle.specs.Document.{earlier};
 ghost use Rattle.vkg_sparql.specs.Environment.{iri_of, iri_text, begun, relative_or, prefix_of, with_base, with_prefix, declaration, declarations, environment_of, body_start};
 
 use crate::lexeme::Lexeme;
 use crate::meaning::first_token;
 use std::alloc::Global;
-use vkg_base::{Memory, Text};
+use vkg_base::{Memory, Text, earlier};
 use vkg_grammar::{Forest, Node};
 use vkg_terms::{is_absolute, resolve};
 use vkg_turtle::{Prefixes, Word};
@@ -39,15 +38,6 @@ fn prefix_of(alloc: Global, word: &Word) -> Result<Text, Memory>
     match word {
         Word::Name(prefix, _) => prefix.copy(),
         _ => Text::new(alloc, ""),
-    }
-}
-
-fn earlier(first: Option<usize>, at: usize) -> Option<usize>
-    ensures { result ≡ earlier first at }
-{
-    match first {
-        Some(first) => Some(first),
-        None => Some(at),
     }
 }
 

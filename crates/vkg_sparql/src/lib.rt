@@ -39,4 +39,7 @@ pub use meaning::{Meaning, TripleTokens};
 pub use names::{Named, Names};
 pub use pattern::{GraphName, Node, TriplePattern, copy_patterns};
 pub use query::{Part, Query, Selected};
-pub use reading::read_query;
+pub use reading::{is_determined, read_query};
+
+#[cfg(test)]
+mod tests;

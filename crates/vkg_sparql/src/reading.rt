@@ -1,10 +1,12 @@
 ghost use Rattle.std.specs.Prelude.{◌≡◌, ◌<◌, length, map, slice_index_or, Ok, IfOk, IfErr, OnOk};
 ghost use Rattle.vkg_grammar.specs.Forest.{tree, node_count};
 ghost use Rattle.vkg_grammar.specs.Form.{IsShallow};
-ghost use Rattle.vkg_grammar.specs.Kinds.{kinds_of, AreBelow};
+ghost use Rattle.vkg_grammar.specs.Kinds.{kinds_of, start_at, AreBelow};
 ghost use Rattle.vkg_grammar.specs.OneTree.{IsTheTree};
 ghost use Rattle.vkg_grammar.specs.Parsing.{Fails as Refuses};
-ghost use Rattle.vkg_sparql.specs.Reading.{IsQuery, Fails, IsQueryText, TextFails, sparql, sparql_tokens, start_at, kind_at, fault, dead_check, is_outside};
+ghost use Rattle.vkg_sparql.specs.Lawful.{IsLawfulQuery};
+ghost use Rattle.vkg_sparql.specs.Seen.{query_seen};
+ghost use Rattle.vkg_sparql.specs.Reading.{IsDetermined, IsQuery, Fails, IsQueryText, TextFails, sparql, sparql_tokens, kind_at, fault, dead_check, is_outside};
 ghost use Rattle.vkg_sparql.specs.declared.fault.QueryError.TheVariants.{Fault};
 
 use crate::body::read_tokens;
@@ -139,7 +141,13 @@ fn read_text(alloc: Global, bytes: &[u8], base: &str) -> Result<Query, QueryErro
 /// OPTIONAL, GRAPH, FILTER, UNION, an operator's sign, a call's word), 2147483647 for a longer text.
 pub fn read_query(alloc: Global, bytes: &[u8], base: &str) -> Result<Query, QueryError>
     ensures ok { IfOk result (IsQuery bytes.now base.now) }
+    ensures lawful { IfOk result (λ q. IsLawfulQuery (query_seen q)) }
     ensures err { IfErr result (Fails bytes.now base.now) }
 {
     read_text(alloc, without_mark(bytes), base)
 }
+
+/// What `read_query` answers is determined by the bytes and the base, but for want of memory.
+pub fn is_determined()
+    ensures { IsDetermined }
+{}

@@ -1,6 +1,7 @@
 use Rattle.std.proofs.Common.{ap, refl, ◌∙◌}
 use Rattle.vkg_sparql.specs.declared.fault.QueryError.TheVariants.{Fault}
-use Rattle.vkg_sparql.specs.Reading.{fault, start_at, kind_at, dead_check}
+use Rattle.vkg_grammar.specs.Kinds.{start_at}
+use Rattle.vkg_sparql.specs.Reading.{fault, kind_at, dead_check}
 use Rattle.vkg_sparql.proofs.Failing.{too_deep_named, dead_named, ended_named}
 use Rattle.vkg_sparql.proofs.reading.read_cut.Goals as goal
 

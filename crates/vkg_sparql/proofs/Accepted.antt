@@ -1,0 +1,117 @@
+-- A query that is read is lawful.
+use Rattle.std.proofs.Common.{◌≡◌, ◌∙◌, ℕ, ◌+◌, ◌<◌, Bool, true, false, not, IsTrue, List, [], ◌∷◌, Result, Ok, Err, Option, Some, None, length, zero, suc, refl, sym, ap, subst, arith}
+use Rattle.std.specs.Prelude.{IfOk}
+use Rattle.vkg_grammar.specs.Kinds.{kinds_of}
+use Rattle.vkg_grammar.specs.OneTree.{IsTree}
+use Rattle.vkg_grammar.proofs.Shapes.{made}
+use Rattle.vkg_grammar.specs.Trees.{Tree, leaf, pair, size, IsFrom}
+use Rattle.vkg_lists.proofs.Members.{each_from_recursion}
+use Rattle.vkg_tokens.specs.declared.cutting.Token.{Token}
+use Rattle.vkg_sparql.specs.declared.checks.Check.TheVariants.{Wide}
+use Rattle.vkg_sparql.specs.declared.fault.QueryError.{QueryError}
+use Rattle.vkg_sparql.specs.declared.fault.QueryFault.{QueryFault}
+use Rattle.vkg_sparql.specs.declared.grammar_table.TheConstants.{SPARQL}
+use Rattle.vkg_sparql.specs.declared.meaning.Meaning.{Meaning}
+use Rattle.vkg_sparql.specs.declared.pattern.Node.{Node}
+use Rattle.vkg_sparql.specs.declared.pattern.Node.TheVariants as node
+use Rattle.vkg_sparql.specs.declared.query.Query.{Query}
+use Rattle.vkg_sparql.specs.Checks.{first_place}
+use Rattle.vkg_sparql.specs.Groups.{query_value}
+use Rattle.vkg_sparql.specs.Lawful.{IsLawful, IsLawfulQuery, IsWithin}
+use Rattle.vkg_sparql.specs.Meanings.{first_token}
+use Rattle.vkg_sparql.specs.Reading.{Read, IsQueryText, Says, fault_if, fault_of, query_of, read}
+use Rattle.vkg_sparql.specs.Seen.{query_seen}
+use Rattle.vkg_sparql.proofs.LawfulParts.{Fits, Good, good_query}
+use Rattle.vkg_sparql.proofs.Made.{Has, has}
+use Rattle.vkg_sparql.proofs.Numbering.{Marked, as_many}
+use Rattle.vkg_sparql.proofs.Standing.{all_meanings, node_at, operand_at, variable_at}
+
+-- ---- nodes whose keys are of their kinds are lawful
+
+marked_below : (keys : List (List ℕ)) (v : ℕ) (b : Bool) → Marked keys v b → v < length keys
+marked_below [] zero b h = absurd (cc)
+marked_below [] (suc v) b h = absurd (cc)
+marked_below (k ∷ keys) zero b h = omega arith
+marked_below (k ∷ keys) (suc v) b h = let l = marked_below keys v b h in omega (arith, l)
+
+narrow : (b : Bool) → b ≡ false → IsTrue (not b)
+narrow b e = ap not e
+
+within : (keys : List (List ℕ)) (n : ℕ) → length keys ≡ n → (x : Node) → Fits keys x → IsWithin n x
+within keys n e (node.Variable v) h = subst (λ m. v < m) e (marked_below keys v true h)
+within keys n e (node.Label v) h = subst (λ m. v < m) e (marked_below keys v false h)
+within keys n e (node.Fixed t) h = narrow _ h
+
+not_both : (o : Option Bool) → o ≡ Some true → o ≡ Some false → ⊥
+not_both o e f = absurd (let g : ◌≡◌ {A = Option Bool} (Some true) (Some false) = sym e ∙ f in cc)
+
+lawful_nodes : (keys : List (List ℕ)) (n : ℕ) (xs : List Node) → length keys ≡ n → Good keys xs → IsLawful n xs
+lawful_nodes keys n xs e g = record {
+  within = λ x c. within keys n e x (each_from_recursion (Fits keys) xs g x c);
+  apart = λ v c d. not_both _ (each_from_recursion (Fits keys) xs g (node.Variable v) c) (each_from_recursion (Fits keys) xs g (node.Label v) d);
+}
+
+-- ---- of a text without fault
+
+fault_free : (check : ℕ) (at : Option ℕ) (later : Option QueryFault) → fault_if check at later ≡ None → (at ≡ None) × (later ≡ None)
+fault_free check None later h = (refl, h)
+fault_free check (Some at) later h = absurd (cc)
+
+no_wide : (r : Read) → fault_of r ≡ None → first_place Wide r.environment r.body ≡ None
+no_wide r h =
+    let a = fault_free 4 _ _ h in
+    let b = fault_free 5 _ _ a.1 in
+    let c = fault_free 6 _ _ b.1 in
+    let d = fault_free 7 _ _ c.1 in
+    (fault_free 8 _ _ d.1).0
+
+names_stay : (names : List (List ℕ)) (ms : List Meaning) (t : Tree) → (query_value names ms t).names ≡ names
+names_stay names ms (pair prologue (pair select (pair kind (pair selection (pair where_ g))))) = refl
+names_stay names ms t = refl
+
+zero_more : (n : ℕ) → 0 + n ≡ n
+zero_more n = omega arith
+
+-- where what is behind the prologue begins
+begins : (ks : List ℕ) (at : ℕ) (t : Tree) → Has SPARQL ks 0 t 166 → IsFrom at t → first_token t ≡ at
+begins ks at (pair (leaf i) t) h f = f.0
+begins ks at (pair t u) h f = absurd (h.0)
+begins ks at t h f = absurd (h)
+
+record Behind (ks : List ℕ) (prologue rest : Tree) : Type 0 where
+  has : Has SPARQL ks (first_token rest) rest 166
+
+behind : (ks : List ℕ) (prologue rest : Tree) → IsTree SPARQL ks 166 rest → IsFrom 0 (pair prologue rest) → Behind ks prologue rest
+behind ks prologue rest w f =
+    let at : ℕ = 0 + size prologue in
+    let begun : first_token rest ≡ at = begins ks at rest (has SPARQL ks 0 rest 166 at w f.1 (omega arith)) f.1 in
+    record { has = has SPARQL ks (first_token rest) rest 166 at w f.1 (omega (arith, begun)) }
+
+module _ (text base : List ℕ) (tokens : List Token) where
+  lawful_pair : (prologue rest : Tree) → Behind (kinds_of tokens) prologue rest → fault_of (read text tokens base (pair prologue rest)) ≡ None
+      → IsLawfulQuery (query_seen (query_of (read text tokens base (pair prologue rest))))
+  lawful_pair prologue rest w h =
+      let r : Read = read text tokens base (pair prologue rest) in
+      let start : ℕ = first_token rest in
+      let fine : first_place Wide r.environment r.body ≡ None = no_wide r h in
+      let keys : List (List ℕ) = r.named.keys in
+      lawful_nodes keys _ _ (as_many r.body ∙ ap length (sym (names_stay r.named.names (all_meanings text tokens r.environment start) (pair prologue rest))))
+      (good_query keys (kinds_of tokens) start (all_meanings text tokens r.environment start)
+      (λ i k t p. node_at text tokens r.environment start fine i k t.behind t.kind p)
+      (λ i k t p. operand_at text tokens r.environment start fine i k t.behind t.kind p)
+      (λ i k t p. variable_at text tokens r.environment start fine i k t.behind t.kind p)
+      r.named.names prologue rest w.has)
+
+  lawful_tree : (t : Tree) → IsTree SPARQL (kinds_of tokens) 0 t → IsFrom 0 t → fault_of (read text tokens base t) ≡ None → IsLawfulQuery (query_seen (query_of (read text tokens base t)))
+  lawful_tree (pair prologue rest) w f h = lawful_pair prologue rest (behind (kinds_of tokens) prologue rest (made w).1 f) h
+  lawful_tree t w f h = absurd (made w)
+
+lawful_text : (text base : List ℕ) (q : Query) → IsQueryText text base q → IsLawfulQuery (query_seen q)
+lawful_text text base q h =
+    let s : Says text base h.said = h.says in
+    let r : h.said ≡ read text s.tokens base s.tree = s.said in
+    subst (λ p. IsLawfulQuery (query_seen p)) (sym (h.is ∙ ap query_of r)) (lawful_tree text base s.tokens s.tree s.the_tree.is.is s.the_tree.is.from (ap fault_of (sym r) ∙ h.fine))
+
+pub accepted_is_lawful : (text base : List ℕ) (result : Result Query QueryError) → IfOk result (IsQueryText text base) → IfOk result (λ q. IsLawfulQuery (query_seen q))
+accepted_is_lawful text base (Ok q) h = lawful_text text base q h
+accepted_is_lawful text base (Err e) h = tt

@@ -1,0 +1,338 @@
+-- What a tree of the grammar of queries names is numbered, and its terms are narrow, where its tokens are so.
+use Rattle.std.proofs.Common.{◌≡◌, ℕ, Bool, true, false, List, [], ◌∷◌, ◌++◌, fold, map, refl, sym, subst}
+use Rattle.std.specs.List.{AllByRecursion}
+use Rattle.vkg_grammar.specs.Trees.{Tree, pair, first, second, present}
+use Rattle.vkg_terms.specs.declared.term.Term.TheVariants.{Iri}
+use Rattle.vkg_sparql.specs.declared.condition.Condition.{Condition as ConditionValue}
+use Rattle.vkg_sparql.specs.declared.grammar_table.TheConstants.{SPARQL}
+use Rattle.vkg_sparql.specs.declared.meaning.Meaning.{Meaning}
+use Rattle.vkg_sparql.specs.declared.meaning.Meaning.TheVariants as meaning
+use Rattle.vkg_sparql.specs.declared.meaning.TripleTokens.{TripleTokens}
+use Rattle.vkg_sparql.specs.declared.pattern.Node.{Node}
+use Rattle.vkg_sparql.specs.declared.pattern.Node.TheVariants as node
+use Rattle.vkg_sparql.specs.declared.query.Part.{Part as PartValue}
+use Rattle.vkg_sparql.specs.Conditions.{or_joined, and_joined, negated, bound_value, operand_value, or_value, or_more, and_value, and_more, rel_value, rel_more, unary_value, primary_value, bracketed, call_value, same_value as same_term_value, filter_value}
+use Rattle.vkg_sparql.specs.Groups.{patterns_of, block_parts, no_part, group_value, parts_value, part_value, other_value, graph_value, union_value, groups_value, numbers_value, selection_value, query_value}
+use Rattle.vkg_sparql.specs.Lawful.{condition_nodes, patterns_nodes, name_node, part_nodes, group_nodes, unions_nodes, selected_nodes, query_nodes, is_wide}
+use Rattle.vkg_sparql.specs.Meanings.{first_token, meaning_at, node_of, number_of, operand_of, compare_of, applied, name_of}
+use Rattle.vkg_sparql.specs.declared.query.Part.TheVariants as part
+use Rattle.vkg_sparql.specs.Query.{Condition, And, Or, Part}
+use Rattle.vkg_sparql.specs.Seen.{condition_seen, group_seen, part_seen, unions_seen, query_seen}
+use Rattle.vkg_sparql.specs.Triples.{plist_value, plist_more, verb_value, olist_value, olist_more, object_value, inner_value, bracket_value, same_value, block_value}
+use Rattle.vkg_sparql.proofs.Made.{IsToken, Has, leads, lead}
+use Rattle.vkg_sparql.proofs.Numbering.{Marked}
+use Rattle.vkg_sparql.proofs.SeenForms.{seen-Variable, seen-Constant, seen-Bound, seen-Test, seen-Take, seen-Compare, seen-SameTerm, seen-Not, seen-And, seen-Or, seen-Triples, seen-Filter, seen-Optional, seen-Graph, seen-Groups}
+use Rattle.vkg_sparql.proofs.Standing.{IsNode, IsOperand, IsVariable, is_node_kind, is_operand_kind, is_variable_kind}
+
+module _ {X : Type 0} (P : X → Type 0) where
+  pub all_append : (xs ys : List X) → AllByRecursion P xs → AllByRecursion P ys → AllByRecursion P (xs ++ ys)
+  all_append [] ys h k = k
+  all_append (x ∷ xs) ys h k = (h.0, all_append xs ys h.1 k)
+
+  pub all_left : (xs ys : List X) → AllByRecursion P (xs ++ ys) → AllByRecursion P xs
+  all_left [] ys h = tt
+  all_left (x ∷ xs) ys h = (h.0, all_left xs ys h.1)
+
+  pub all_right : (xs ys : List X) → AllByRecursion P (xs ++ ys) → AllByRecursion P ys
+  all_right [] ys h = h
+  all_right (x ∷ xs) ys h = all_right xs ys h.1
+
+-- a node whose number is that of a key of its kind, or whose term is narrow
+abbrev pub Fits : List (List ℕ) → Node → Type 0
+Fits keys (node.Variable n) = Marked keys n true
+Fits keys (node.Label n) = Marked keys n false
+Fits keys (node.Fixed t) = is_wide t ≡ false
+
+module _ (keys : List (List ℕ)) where
+  abbrev pub Good : List Node → Type 0
+  Good xs = AllByRecursion (Fits keys) xs
+
+  beside : (xs ys : List Node) → Good xs → Good ys → Good (xs ++ ys)
+  beside xs ys h k = all_append (Fits keys) xs ys h k
+
+  fits_node : (m : Meaning) → IsNode keys m → Fits keys (node_of m)
+  fits_node (meaning.Variable n) h = h
+  fits_node (meaning.Label n) h = h
+  fits_node (meaning.Fixed t) h = h
+  fits_node m h = absurd (h)
+
+  fits_number : (m : Meaning) → IsVariable keys m → Marked keys (number_of m) true
+  fits_number (meaning.Variable n) h = h
+  fits_number m h = absurd (h)
+
+  fits_name : (m : Meaning) → IsOperand keys m → Fits keys (name_node (name_of m))
+  fits_name (meaning.Variable n) h = h
+  fits_name (meaning.Fixed t) h = fixed t
+    where
+      fixed : (t : _) → Fits keys (name_node (name_of (meaning.Fixed t)))
+      fixed (Iri iri) = refl
+      fixed t = refl
+  fits_name m h = absurd (h)
+
+  -- ---- conditions
+
+  abbrev GoodCondition : ConditionValue → Type 0
+  GoodCondition c = Good (condition_nodes (condition_seen c))
+
+  abbrev GoodConditions : List ConditionValue → Type 0
+  GoodConditions cs = AllByRecursion GoodCondition cs
+
+  by_seen : (c : ConditionValue) {s : Condition} → condition_seen c ≡ s → Good (condition_nodes s) → GoodCondition c
+  by_seen c e h = subst (λ x. Good (condition_nodes x)) (sym e) h
+
+  fits_operand : (m : Meaning) → IsOperand keys m → GoodCondition (operand_of m)
+  fits_operand (meaning.Variable n) h = by_seen _ (seen-Variable n) (h, tt)
+  fits_operand (meaning.Fixed t) h = by_seen _ (seen-Constant t) (h, tt)
+  fits_operand m h = absurd (h)
+
+  good_or : (cs : List ConditionValue) (a : Condition) → Good (condition_nodes a) → GoodConditions cs → Good (condition_nodes (fold Or a (map condition_seen cs)))
+  good_or [] a h k = h
+  good_or (c ∷ cs) a h k = good_or cs (Or a (condition_seen c)) (beside (condition_nodes a) (condition_nodes (condition_seen c)) h k.0) k.1
+
+  good_and : (cs : List ConditionValue) (a : Condition) → Good (condition_nodes a) → GoodConditions cs → Good (condition_nodes (fold And a (map condition_seen cs)))
+  good_and [] a h k = h
+  good_and (c ∷ cs) a h k = good_and cs (And a (condition_seen c)) (beside (condition_nodes a) (condition_nodes (condition_seen c)) h k.0) k.1
+
+  good_or_joined : (c : ConditionValue) (cs : List ConditionValue) → GoodCondition c → GoodConditions cs → GoodCondition (or_joined c cs)
+  good_or_joined c [] h k = h
+  good_or_joined c (d ∷ ds) h k = by_seen _ (seen-Or c (d ∷ ds)) (good_or (d ∷ ds) (condition_seen c) h k)
+
+  good_and_joined : (c : ConditionValue) (cs : List ConditionValue) → GoodCondition c → GoodConditions cs → GoodCondition (and_joined c cs)
+  good_and_joined c [] h k = h
+  good_and_joined c (d ∷ ds) h k = by_seen _ (seen-And c (d ∷ ds)) (good_and (d ∷ ds) (condition_seen c) h k)
+
+  good_negated : (b : Bool) (c : ConditionValue) → GoodCondition c → GoodCondition (negated b c)
+  good_negated true c h = by_seen _ (seen-Not c) h
+  good_negated false c h = h
+
+  good_applied : (m : Meaning) (c : ConditionValue) → GoodCondition c → GoodCondition (applied m c)
+  good_applied (meaning.Test op) c h = by_seen _ (seen-Test op c) h
+  good_applied (meaning.Take op) c h = by_seen _ (seen-Take op c) h
+  good_applied m c h = by_seen _ (seen-Not c) h
+
+  module _ (ks : List ℕ) (start : ℕ) (ms : List Meaning)
+      (node_at : (i k : ℕ) → IsToken SPARQL ks start k i → is_node_kind k ≡ true → IsNode keys (meaning_at ms i))
+      (operand_at : (i k : ℕ) → IsToken SPARQL ks start k i → is_operand_kind k ≡ true → IsOperand keys (meaning_at ms i))
+      (variable_at : (i k : ℕ) → IsToken SPARQL ks start k i → is_variable_kind k ≡ true → IsVariable keys (meaning_at ms i)) where
+    -- the tree is one of the symbol n
+    abbrev Of : Tree → ℕ → Type 0
+    Of t n = Has SPARQL ks start t n
+
+    abbrev Fit : ℕ → Type 0
+    Fit i = Fits keys (node_of (meaning_at ms i))
+
+    -- the first token of a tree of a symbol that is made of choices between tokens
+    node_first : (t : Tree) (n : ℕ) → leads SPARQL ks start 9 is_node_kind n ≡ true → Of t n → Fit (first_token t)
+    node_first t n e h = let l = lead SPARQL ks start 9 is_node_kind t n e h in fits_node (meaning_at ms (first_token t)) (node_at (first_token t) l.kind l.token l.passes)
+
+    operand_first : (t : Tree) (n : ℕ) → leads SPARQL ks start 9 is_operand_kind n ≡ true → Of t n → IsOperand keys (meaning_at ms (first_token t))
+    operand_first t n e h = let l = lead SPARQL ks start 9 is_operand_kind t n e h in operand_at (first_token t) l.kind l.token l.passes
+
+    variable_first : (t : Tree) (n : ℕ) → leads SPARQL ks start 9 is_variable_kind n ≡ true → Of t n → Marked keys (number_of (meaning_at ms (first_token t))) true
+    variable_first t n e h = let l = lead SPARQL ks start 9 is_variable_kind t n e h in fits_number (meaning_at ms (first_token t)) (variable_at (first_token t) l.kind l.token l.passes)
+
+    -- ---- the expression of a filter
+
+    good_bound : (t : Tree) → Of t 102 → GoodCondition (bound_value ms t)
+    good_bound (pair word (pair left (pair v right))) h = by_seen _ (seen-Bound (number_of (meaning_at ms (first_token v)))) (variable_first v 16 refl h.1.1.0, tt)
+    good_bound (pair word (pair left t)) h = absurd (h.1.1)
+    good_bound (pair word t) h = absurd (h.1)
+    good_bound t h = absurd (h)
+
+    good_operand : (t : Tree) → Of t 127 → GoodCondition (operand_value ms t)
+    good_operand t h = fits_operand (meaning_at ms (first_token t)) (operand_first t 127 refl h)
+
+    mutual
+      good_or_value : (t : Tree) → Of t 90 → GoodCondition (or_value ms t)
+      good_or_value (pair a more) h = good_or_joined (and_value ms a) (or_more ms more) (good_and_value a h.0) (good_or_more more h.1)
+      good_or_value t h = absurd (h)
+
+      good_or_more : (t : Tree) → Of t 147 → GoodConditions (or_more ms t)
+      good_or_more (pair (pair sign a) more) h = (good_and_value a h.0.1, good_or_more more h.1)
+      good_or_more t h = tt
+
+      good_and_value : (t : Tree) → Of t 91 → GoodCondition (and_value ms t)
+      good_and_value (pair a more) h = good_and_joined (rel_value ms a) (and_more ms more) (good_rel_value a h.0) (good_and_more more h.1)
+      good_and_value t h = absurd (h)
+
+      good_and_more : (t : Tree) → Of t 144 → GoodConditions (and_more ms t)
+      good_and_more (pair (pair sign a) more) h = (good_rel_value a h.0.1, good_and_more more h.1)
+      good_and_more t h = tt
+
+      good_rel_value : (t : Tree) → Of t 92 → GoodCondition (rel_value ms t)
+      good_rel_value (pair a more) h = good_rel_more (unary_value ms a) more (good_unary a h.0) h.1
+      good_rel_value t h = absurd (h)
+
+      good_rel_more : (c : ConditionValue) (t : Tree) → GoodCondition c → Of t 141 → GoodCondition (rel_more ms c t)
+      good_rel_more c (first (pair sign b)) g h =
+          by_seen _ (seen-Compare (compare_of (meaning_at ms (first_token sign))) c (unary_value ms b)) (beside (condition_nodes (condition_seen c)) (condition_nodes (condition_seen (unary_value ms b))) g (good_unary b h.1))
+      good_rel_more c t g h = g
+
+      good_unary : (t : Tree) → Of t 93 → GoodCondition (unary_value ms t)
+      good_unary (pair mark a) h = good_negated (present mark) (primary_value ms a) (good_primary a h.1)
+      good_unary t h = absurd (h)
+
+      good_primary : (t : Tree) → Of t 96 → GoodCondition (primary_value ms t)
+      good_primary (first t) h = good_bracketed t h
+      good_primary (second (first t)) h = good_call t h
+      good_primary (second (second t)) h = good_operand t h
+      good_primary t h = absurd (h)
+
+      good_bracketed : (t : Tree) → Of t 88 → GoodCondition (bracketed ms t)
+      good_bracketed (pair left (pair a right)) h = good_or_value a h.1.0
+      good_bracketed (pair left t) h = absurd (h.1)
+      good_bracketed t h = absurd (h)
+
+      good_call : (t : Tree) → Of t 97 → GoodCondition (call_value ms t)
+      good_call (first t) h = good_bound t h
+      good_call (second (first (pair word t))) h = good_same_term t h.1
+      good_call (second (second (pair word t))) h = good_applied (meaning_at ms (first_token word)) (bracketed ms t) (good_bracketed t h.1)
+      good_call t h = absurd (h)
+
+      good_same_term : (t : Tree) → Of t 107 → GoodCondition (same_term_value ms t)
+      good_same_term (pair left (pair a (pair comma (pair b right)))) h =
+          by_seen _ (seen-SameTerm (or_value ms a) (or_value ms b)) (beside (condition_nodes (condition_seen (or_value ms a))) (condition_nodes (condition_seen (or_value ms b))) (good_or_value a h.1.0) (good_or_value b h.1.1.1.0))
+      good_same_term (pair left (pair a (pair comma t))) h = absurd (h.1.1.1)
+      good_same_term (pair left (pair a t)) h = absurd (h.1.1)
+      good_same_term (pair left t) h = absurd (h.1)
+      good_same_term t h = absurd (h)
+
+    good_filter : (t : Tree) → Of t 87 → GoodCondition (filter_value ms t)
+    good_filter (first t) h = good_bracketed t h
+    good_filter (second t) h = good_call t h
+    good_filter t h = absurd (h)
+
+    -- ---- triple patterns
+
+    abbrev FitTokens : TripleTokens → Type 0
+    FitTokens t = Fit t.subject × Fit t.predicate × Fit t.object
+
+    abbrev AllFit : List TripleTokens → Type 0
+    AllFit ts = AllByRecursion FitTokens ts
+
+    along : (ts us : List TripleTokens) → AllFit ts → AllFit us → AllFit (ts ++ us)
+    along ts us h k = all_append FitTokens ts us h k
+
+    good_patterns : (ts : List TripleTokens) → AllFit ts → Good (patterns_nodes (patterns_of ms ts))
+    good_patterns [] h = tt
+    good_patterns (t ∷ ts) h = (h.0.0, (h.0.1, (h.0.2, good_patterns ts h.1)))
+
+    mutual
+      fit_plist : (s : ℕ) (t : Tree) → Fit s → Of t 48 → AllFit (plist_value s t)
+      fit_plist s (pair verb (pair objects more)) f h = along (olist_value s (first_token verb) objects) (plist_more s more) (fit_olist s (first_token verb) objects f (node_first verb 49 refl h.0) h.1.0) (fit_plist_more s more f h.1.1)
+      fit_plist s t f h = tt
+
+      fit_plist_more : (s : ℕ) (t : Tree) → Fit s → Of t 66 → AllFit (plist_more s t)
+      fit_plist_more s (pair (pair semicolon t) more) f h = along (verb_value s t) (plist_more s more) (fit_verb s t f h.0.1) (fit_plist_more s more f h.1)
+      fit_plist_more s t f h = tt
+
+      fit_verb : (s : ℕ) (t : Tree) → Fit s → Of t 64 → AllFit (verb_value s t)
+      fit_verb s (first (pair verb objects)) f h = fit_olist s (first_token verb) objects f (node_first verb 49 refl h.0) h.1
+      fit_verb s t f h = tt
+
+      fit_olist : (s p : ℕ) (t : Tree) → Fit s → Fit p → Of t 52 → AllFit (olist_value s p t)
+      fit_olist s p (pair o more) f g h = along (object_value s p o) (olist_more s p more) (fit_object s p o f g h.0) (fit_olist_more s p more f g h.1)
+      fit_olist s p t f g h = tt
+
+      fit_olist_more : (s p : ℕ) (t : Tree) → Fit s → Fit p → Of t 61 → AllFit (olist_more s p t)
+      fit_olist_more s p (pair (pair comma o) more) f g h = along (object_value s p o) (olist_more s p more) (fit_object s p o f g h.0.1) (fit_olist_more s p more f g h.1)
+      fit_olist_more s p t f g h = tt
+
+      fit_object : (s p : ℕ) (t : Tree) → Fit s → Fit p → Of t 53 → AllFit (object_value s p t)
+      fit_object s p (first t) f g h = ((f, g, node_first t 26 refl h), tt)
+      fit_object s p (second (pair left (pair inner right))) f g h =
+          let l : Fit (first_token left) = node_first left 54 refl h.0 in
+          ((f, g, l), fit_inner (first_token left) inner l h.1.0)
+      fit_object s p t f g h = tt
+
+      fit_inner : (s : ℕ) (t : Tree) → Fit s → Of t 55 → AllFit (inner_value s t)
+      fit_inner s (first t) f h = fit_plist s t f h
+      fit_inner s t f h = tt
+
+    fit_bracket : (s : ℕ) (t : Tree) → Fit s → Of t 72 → AllFit (bracket_value s t)
+    fit_bracket s (first (pair right list)) f h = fit_plist s list f h.1
+    fit_bracket s (second (pair list (pair right more))) f h = along (plist_value s list) (inner_value s more) (fit_plist s list f h.0) (fit_inner s more f h.1.1)
+    fit_bracket s t f h = tt
+
+    fit_same : (t : Tree) → Of t 25 → AllFit (same_value t)
+    fit_same (first (pair item list)) h = fit_plist (first_token item) list (node_first item 26 refl h.0) h.1
+    fit_same (second (pair left rest)) h = fit_bracket (first_token left) rest (node_first left 54 refl h.0) h.1
+    fit_same t h = tt
+
+    fit_block : (t : Tree) → Of t 24 → AllFit (block_value t)
+    fit_block (pair same (first (pair dot (first more)))) h = along (same_value same) (block_value more) (fit_same same h.0) (fit_block more h.1.1)
+    fit_block (pair same t) h = fit_same same h.0
+    fit_block t h = tt
+
+    -- ---- groups
+
+    abbrev GoodParts : List PartValue → Type 0
+    GoodParts ps = Good (group_nodes (group_seen ps))
+
+    good_parts_append : (ps qs : List PartValue) → GoodParts ps → GoodParts qs → GoodParts (ps ++ qs)
+    good_parts_append [] qs h k = k
+    good_parts_append (p ∷ ps) qs h k =
+        beside (part_nodes (part_seen p)) (group_nodes (group_seen (ps ++ qs))) (all_left (Fits keys) (part_nodes (part_seen p)) (group_nodes (group_seen ps)) h)
+        (good_parts_append ps qs (all_right (Fits keys) (part_nodes (part_seen p)) (group_nodes (group_seen ps)) h) k)
+
+    by_part : (p : PartValue) {s : Part} → part_seen p ≡ s → Good (part_nodes s) → Good (part_nodes (part_seen p))
+    by_part p e h = subst (λ x. Good (part_nodes x)) (sym e) h
+
+    good_no_part : Good (part_nodes (part_seen no_part))
+    good_no_part = by_part _ (seen-Triples []) tt
+
+    good_block_parts : (t : Tree) → Of t 78 → GoodParts (block_parts ms t)
+    good_block_parts (first t) h = beside (part_nodes (part_seen (part.Triples (patterns_of ms (block_value t))))) [] (by_part _ (seen-Triples (patterns_of ms (block_value t))) (good_patterns (block_value t) (fit_block t h))) tt
+    good_block_parts t h = tt
+
+    mutual
+      good_group : (t : Tree) → Of t 22 → GoodParts (group_value ms t)
+      good_group (pair left (pair block (pair more right))) h = good_parts_append (block_parts ms block) (parts_value ms more) (good_block_parts block h.1.0) (good_parts more h.1.1.0)
+      good_group t h = tt
+
+      good_parts : (t : Tree) → Of t 159 → GoodParts (parts_value ms t)
+      good_parts (pair (pair p (pair dot block)) more) h =
+          good_parts_append (part_value ms p ∷ block_parts ms block) (parts_value ms more)
+          (beside (part_nodes (part_seen (part_value ms p))) (group_nodes (group_seen (block_parts ms block))) (good_part p h.0.0) (good_block_parts block h.0.1.1))
+          (good_parts more h.1)
+      good_parts t h = tt
+
+      good_part : (t : Tree) → Of t 79 → Good (part_nodes (part_seen (part_value ms t)))
+      good_part (first (pair word g)) h = by_part _ (seen-Optional (group_value ms g)) (good_group g h.1)
+      good_part (second t) h = good_other t h
+      good_part t h = good_no_part
+
+      good_other : (t : Tree) → Of t 155 → Good (part_nodes (part_seen (other_value ms t)))
+      good_other (first t) h = good_graph t h
+      good_other (second (first (pair word t))) h = by_part _ (seen-Filter (filter_value ms t)) (good_filter t h.1)
+      good_other (second (second t)) h = good_union t h
+      good_other t h = good_no_part
+
+      good_graph : (t : Tree) → Of t 85 → Good (part_nodes (part_seen (graph_value ms t)))
+      good_graph (pair word (pair name g)) h =
+          by_part _ (seen-Graph (name_of (meaning_at ms (first_token name))) (group_value ms g)) (fits_name (meaning_at ms (first_token name)) (operand_first name 83 refl h.1.0), good_group g h.1.1)
+      good_graph t h = good_no_part
+
+      good_union : (t : Tree) → Of t 153 → Good (part_nodes (part_seen (union_value ms t)))
+      good_union (pair g more) h =
+          by_part _ (seen-Groups (group_value ms g) (groups_value ms more)) (beside (group_nodes (group_seen (group_value ms g))) (unions_nodes (unions_seen (groups_value ms more))) (good_group g h.0) (good_groups more h.1))
+      good_union t h = good_no_part
+
+      good_groups : (t : Tree) → Of t 152 → Good (unions_nodes (unions_seen (groups_value ms t)))
+      good_groups (pair (pair word g) more) h = beside (group_nodes (group_seen (group_value ms g))) (unions_nodes (unions_seen (groups_value ms more))) (good_group g h.0.1) (good_groups more h.1)
+      good_groups t h = tt
+
+    -- ---- the query
+
+    good_numbers : (t : Tree) → Of t 17 → Good (map node.Variable (numbers_value ms t))
+    good_numbers (pair v more) h = (variable_first v 16 refl h.0, good_numbers more h.1)
+    good_numbers t h = tt
+
+    good_selection : (t : Tree) → Of t 15 → Good (selected_nodes (selection_value ms t))
+    good_selection (first (pair v more)) h = (variable_first v 16 refl h.0, good_numbers more h.1)
+    good_selection t h = tt
+
+    pub good_query : (names : List (List ℕ)) (prologue rest : Tree) → Of rest 166 → Good (query_nodes (query_seen (query_value names ms (pair prologue rest))))
+    good_query names prologue (pair select (pair kind (pair selection (pair where_ g)))) h =
+        beside (selected_nodes (selection_value ms selection)) (group_nodes (group_seen (group_value ms g))) (good_selection selection h.1.1.0) (good_group g h.1.1.1.1)
+    good_query names prologue t h = tt

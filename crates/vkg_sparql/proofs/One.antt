@@ -1,0 +1,138 @@
+-- There is one answer.
+use Rattle.std.proofs.Common.{◌≡◌, ℕ, List, [], ◌∷◌, Result, Ok, Err, Option, Some, None, ap, sym, ◌∙◌, subst}
+use Rattle.vkg_grammar.specs.declared.note.Note.{Note}
+use Rattle.vkg_grammar.specs.Form.{IsTooDeep, IsShallow}
+use Rattle.vkg_grammar.specs.Grammar.{Derives}
+use Rattle.vkg_grammar.specs.Kinds.{kinds_of, start_at}
+use Rattle.vkg_grammar.specs.OneTree.{IsTheTree}
+use Rattle.vkg_grammar.specs.Parsing.{IsFirstDead, IsCutOff}
+use Rattle.vkg_grammar.specs.Trees.{Tree}
+use Rattle.vkg_grammar.proofs.Outcomes.{alive_text, not_cut, not_deep, one_dead, one_deep}
+use Rattle.vkg_grammar.proofs.Same.{tree_derives}
+use Rattle.vkg_tokens.specs.declared.cutting.Token.{Token}
+use Rattle.vkg_tokens.specs.Mark.{without_mark}
+use Rattle.vkg_sparql.specs.declared.fault.QueryFault.{QueryFault}
+use Rattle.vkg_sparql.specs.declared.grammar_table.TheConstants.{SPARQL}
+use Rattle.vkg_sparql.specs.declared.query.Query.{Query}
+use Rattle.vkg_sparql.specs.Reading.{sparql, sparql_tokens, kind_at, dead_check, fault, fault_of, query_of, read, Read, Says, IsTooDeepText, IsDeadText, IsCutOffText, IsQueryText, IsFaultOf, no_utf8, no_token, too_deep, dead, cut_off, checked, IsDetermined}
+
+same_tokens : {r : Result (List Token) ℕ} {ts us : List Token} → r ≡ Ok ts → r ≡ Ok us → ts ≡ us
+same_tokens e f = cc
+
+same_place : {r : Result (List Token) ℕ} {a b : ℕ} → r ≡ Err a → r ≡ Err b → a ≡ b
+same_place e f = cc
+
+not_tokens : {r : Result (List Token) ℕ} {ts : List Token} {a : ℕ} → r ≡ Ok ts → r ≡ Err a → ⊥
+not_tokens e f = cc
+
+-- what was read of a text
+one_said : {text base : List ℕ} {r s : Read} → Says text base r → Says text base s → r ≡ s
+one_said {text = text} {base = base} a b =
+    let t : b.tokens ≡ a.tokens = same_tokens b.cut a.cut in
+    let n : b.tree ≡ a.tree = a.the_tree.only b.tree (subst (λ ts. IsTheTree SPARQL (kinds_of ts) b.tree) t b.the_tree).is in
+    a.said ∙ (λ i. read text (sym t i) base (sym n i)) ∙ sym b.said
+
+-- ---- a text of the grammar has no fault of the grammar
+
+said_deep : {text base : List ℕ} {r : Read} {at : ℕ} → Says text base r → IsTooDeepText text at → ⊥
+said_deep a x =
+    let t : x.tokens ≡ a.tokens = same_tokens x.cut a.cut in
+    not_deep sparql (kinds_of a.tokens) x.bracket a.shallow (subst (λ ts. IsTooDeep sparql (kinds_of ts) x.bracket) t x.deep)
+
+said_dead : {text base : List ℕ} {r : Read} {f : QueryFault} → Says text base r → IsDeadText text f → ⊥
+said_dead a x =
+    let t : x.tokens ≡ a.tokens = same_tokens x.cut a.cut in
+    let d = tree_derives a.the_tree.is in
+    alive_text SPARQL (kinds_of a.tokens) d.0 x.token d.1 (subst (λ ts. IsFirstDead SPARQL (kinds_of ts) x.token) t x.dead)
+
+said_short : {text base : List ℕ} {r : Read} → Says text base r → IsCutOffText text → ⊥
+said_short a x =
+    let t : x.tokens ≡ a.tokens = same_tokens x.cut a.cut in
+    let d = tree_derives a.the_tree.is in
+    (subst (λ ts. IsCutOff SPARQL (kinds_of ts)) t x.short).no_text d.0 d.1
+
+-- ---- and else one
+
+one_too_deep : {text : List ℕ} {a b : ℕ} → IsTooDeepText text a → IsTooDeepText text b → a ≡ b
+one_too_deep {text = text} x y =
+    let t : y.tokens ≡ x.tokens = same_tokens y.cut x.cut in
+    let d : IsTooDeep sparql (kinds_of x.tokens) y.bracket = subst (λ ts. IsTooDeep sparql (kinds_of ts) y.bracket) t y.deep in
+    x.place ∙ (λ i. start_at (sym t i) (one_deep sparql (kinds_of x.tokens) x.bracket y.bracket x.deep d i)) ∙ sym y.place
+
+deep_or_shallow : {text : List ℕ} {a : ℕ} (ts : List Token) → IsTooDeepText text a → sparql_tokens text ≡ Ok ts → IsShallow sparql (kinds_of ts) → ⊥
+deep_or_shallow ts x cut s =
+    let t : x.tokens ≡ ts = same_tokens x.cut cut in
+    not_deep sparql (kinds_of ts) x.bracket s (subst (λ us. IsTooDeep sparql (kinds_of us) x.bracket) t x.deep)
+
+one_dead_text : {text : List ℕ} {f g : QueryFault} → IsDeadText text f → IsDeadText text g → f ≡ g
+one_dead_text x y =
+    let t : y.tokens ≡ x.tokens = same_tokens y.cut x.cut in
+    let d : IsFirstDead SPARQL (kinds_of x.tokens) y.token = subst (λ ts. IsFirstDead SPARQL (kinds_of ts) y.token) t y.dead in
+    let n : x.token ≡ y.token = one_dead SPARQL (kinds_of x.tokens) x.token y.token x.dead d in
+    x.named ∙ (λ i. fault (dead_check (kind_at (sym t i) (n i))) (start_at (sym t i) (n i))) ∙ sym y.named
+
+dead_or_short : {text : List ℕ} {f : QueryFault} → IsDeadText text f → IsCutOffText text → ⊥
+dead_or_short x y =
+    let t : y.tokens ≡ x.tokens = same_tokens y.cut x.cut in
+    not_cut SPARQL (kinds_of x.tokens) x.token x.dead (subst (λ ts. IsCutOff SPARQL (kinds_of ts)) t y.short)
+
+-- ---- one answer
+
+one_check : {o : Option QueryFault} {f g : QueryFault} → o ≡ Some f → o ≡ Some g → f ≡ g
+one_check e f = cc
+
+one_value : (text base : List ℕ) (q other : Query) → IsQueryText text base q → IsQueryText text base other → q ≡ other
+one_value text base q other a b = a.is ∙ ap query_of (one_said a.says b.says) ∙ sym b.is
+
+not_both : (text base : List ℕ) (q : Query) (f : QueryFault) → IsQueryText text base q → IsFaultOf text base f → ⊥
+not_both text base q f a (no_utf8 n e) = n a.utf8
+not_both text base q f a (no_token u e) = not_tokens a.says.cut e
+not_both text base q f a (too_deep u d) = said_deep a.says d
+not_both text base q f a (dead u d) = said_dead a.says d
+not_both text base q f a (cut_off u d e) = said_short a.says d
+not_both text base q f a (checked r u s e) = absurd (let g : ◌≡◌ {A = Option QueryFault} None (Some f) = sym a.fine ∙ ap fault_of (one_said a.says s) ∙ e in cc)
+
+one_fault : (text base : List ℕ) (f g : QueryFault) → IsFaultOf text base f → IsFaultOf text base g → f ≡ g
+one_fault text base f g (no_utf8 n e) (no_utf8 m d) = ap (fault 1) (e ∙ sym d)
+one_fault text base f g (no_utf8 n e) (no_token u d) = absurd (n u)
+one_fault text base f g (no_utf8 n e) (too_deep u d) = absurd (n u)
+one_fault text base f g (no_utf8 n e) (dead u d) = absurd (n u)
+one_fault text base f g (no_utf8 n e) (cut_off u d p) = absurd (n u)
+one_fault text base f g (no_utf8 n e) (checked r u d p) = absurd (n u)
+one_fault text base f g (no_token u e) (no_utf8 m d) = absurd (m u)
+one_fault text base f g (no_token u e) (no_token v d) = ap (fault 1) (same_place e d)
+one_fault text base f g (no_token u e) (too_deep v d) = absurd (not_tokens d.cut e)
+one_fault text base f g (no_token u e) (dead v d) = absurd (not_tokens d.cut e)
+one_fault text base f g (no_token u e) (cut_off v d p) = absurd (not_tokens d.cut e)
+one_fault text base f g (no_token u e) (checked r v d p) = absurd (not_tokens d.cut e)
+one_fault text base f g (too_deep u e) (no_utf8 m d) = absurd (m u)
+one_fault text base f g (too_deep u e) (no_token v d) = absurd (not_tokens e.cut d)
+one_fault text base f g (too_deep u e) (too_deep v d) = ap (fault 3) (one_too_deep e d)
+one_fault text base f g (too_deep u e) (dead v d) = absurd (deep_or_shallow d.tokens e d.cut d.shallow)
+one_fault text base f g (too_deep u e) (cut_off v d p) = absurd (deep_or_shallow d.tokens e d.cut d.shallow)
+one_fault text base f g (too_deep u e) (checked r v d p) = absurd (said_deep d e)
+one_fault text base f g (dead u e) (no_utf8 m d) = absurd (m u)
+one_fault text base f g (dead u e) (no_token v d) = absurd (not_tokens e.cut d)
+one_fault text base f g (dead u e) (too_deep v d) = absurd (deep_or_shallow e.tokens d e.cut e.shallow)
+one_fault text base f g (dead u e) (dead v d) = one_dead_text e d
+one_fault text base f g (dead u e) (cut_off v d p) = absurd (dead_or_short e d)
+one_fault text base f g (dead u e) (checked r v d p) = absurd (said_dead d e)
+one_fault text base f g (cut_off u e q) (no_utf8 m d) = absurd (m u)
+one_fault text base f g (cut_off u e q) (no_token v d) = absurd (not_tokens e.cut d)
+one_fault text base f g (cut_off u e q) (too_deep v d) = absurd (deep_or_shallow e.tokens d e.cut e.shallow)
+one_fault text base f g (cut_off u e q) (dead v d) = absurd (dead_or_short d e)
+one_fault text base f g (cut_off u e q) (cut_off v d p) = ap (fault 2) (q ∙ sym p)
+one_fault text base f g (cut_off u e q) (checked r v d p) = absurd (said_short d e)
+one_fault text base f g (checked s u e q) (no_utf8 m d) = absurd (m u)
+one_fault text base f g (checked s u e q) (no_token v d) = absurd (not_tokens e.cut d)
+one_fault text base f g (checked s u e q) (too_deep v d) = absurd (said_deep e d)
+one_fault text base f g (checked s u e q) (dead v d) = absurd (said_dead e d)
+one_fault text base f g (checked s u e q) (cut_off v d p) = absurd (said_short e d)
+one_fault text base f g (checked s u e q) (checked r v d p) = one_check q (ap fault_of (one_said e d) ∙ p)
+
+pub determined : IsDetermined
+determined = record {
+  one_value = λ bytes. one_value (without_mark bytes);
+  one_fault = λ bytes. one_fault (without_mark bytes);
+  not_both = λ bytes. not_both (without_mark bytes);
+}

@@ -1,0 +1,255 @@
+-- What the tokens of a query mean, where no check fails of them.
+use Rattle.std.proofs.Common.{◌≡◌, ◌∙◌, ℕ, ◌≤◌, ◌||◌, ◌&&◌, ◌==◌, Bool, true, false, if◌then◌else◌, zero, suc, List, [], ◌∷◌, codes, drop, map, Option, Some, None, option_map, refl, sym, ap, subst, arith, eqb-true}
+use Rattle.std.specs.Prelude.{slice_get}
+use Rattle.std.specs.Str.{str_to_ascii_lowercase}
+use Rattle.vkg_grammar.specs.Kinds.{kinds_of}
+use Rattle.vkg_cells.specs.WellTyped.{is_well_typed, is_too_wide}
+use Rattle.vkg_terms.specs.Vocabulary.{xsd}
+use Rattle.vkg_terms.specs.declared.term.Term.{Term}
+use Rattle.vkg_tokens.specs.declared.cutting.Token.{Token}
+use Rattle.vkg_turtle.specs.Document.{typed}
+use Rattle.vkg_turtle.specs.Words.{between}
+use Rattle.vkg_sparql.specs.declared.checks.Check.{Check}
+use Rattle.vkg_sparql.specs.declared.checks.Check.TheVariants.{Wide}
+use Rattle.vkg_sparql.specs.declared.environment.Environment.{Environment}
+use Rattle.vkg_sparql.specs.declared.lexeme.Lexeme.{Lexeme}
+use Rattle.vkg_sparql.specs.declared.meaning.Meaning.{Meaning}
+use Rattle.vkg_sparql.specs.declared.meaning.Meaning.TheVariants.{Variable, Label, Fixed}
+use Rattle.vkg_sparql.specs.Checks.{fails, first_place, is_literal}
+use Rattle.vkg_sparql.specs.Lawful.{is_wide}
+use Rattle.vkg_sparql.specs.Lexemes.{key_of, lexeme_of, lexeme_word, lexemes_of, named_of, number_in}
+use Rattle.vkg_sparql.specs.Literals.{is_term, meaning_of, meanings_of, operator_of, term_of}
+use Rattle.vkg_sparql.specs.Meanings.{meaning_at}
+use Rattle.vkg_sparql.proofs.Numbering.{Marked, is_variable_key, numbered}
+
+got-map : {X Y : Type 0} (f : X → Y) (xs : List X) (i : ℕ) → slice_get (map f xs) i ≡ option_map f (slice_get xs i)
+got-map f [] i = refl
+got-map f (x ∷ xs) zero = refl
+got-map f (x ∷ xs) (suc i) = got-map f xs i
+
+-- what stands behind the place i
+abbrev behind : {X : Type 0} → List X → ℕ → List X
+behind [] i = []
+behind (x ∷ xs) zero = xs
+behind (x ∷ xs) (suc i) = behind xs i
+
+record Dropped {X : Type 0} (start : ℕ) (xs : List X) (i : ℕ) (x : X) : Type 0 where
+  place : ℕ
+  at : slice_get (drop start xs) place ≡ Some x
+  rest : behind (drop start xs) place ≡ behind xs i
+
+dropped : {X : Type 0} (start : ℕ) (xs : List X) (i : ℕ) (x : X) → start ≤ i → slice_get xs i ≡ Some x → Dropped start xs i x
+dropped zero xs i x l e = record { place = i; at = e; rest = refl }
+dropped (suc s) [] zero x l e = absurd (cc)
+dropped (suc s) [] (suc i) x l e = absurd (cc)
+dropped (suc s) (y ∷ xs) zero x l e = absurd (omega (arith, l))
+dropped (suc s) (y ∷ xs) (suc i) x l e =
+    let d = dropped s xs i x (omega (arith, l)) e in
+    record { place = d.place; at = d.at; rest = d.rest }
+
+-- ---- a token's meaning is that of its lexeme
+
+meaning_is : (e : Environment) (keys : List (List ℕ)) (xs : List Lexeme) (i : ℕ) (x : Lexeme) → slice_get xs i ≡ Some x → meaning_at (meanings_of e keys xs) i ≡ meaning_of e keys x (behind xs i)
+meaning_is e keys [] zero x h = absurd (cc)
+meaning_is e keys [] (suc i) x h = absurd (cc)
+meaning_is e keys (y ∷ xs) zero x h =
+    let same : y ≡ x = cc in
+    ap (λ z. meaning_of e keys z xs) same
+meaning_is e keys (y ∷ xs) (suc i) x h = meaning_is e keys xs i x h
+
+no_place : (b : Bool) (at : ℕ) (later : Option ℕ) → (if b then Some at else later) ≡ None → (b ≡ false) × (later ≡ None)
+no_place true at later h = absurd (cc)
+no_place false at later h = (refl, h)
+
+passes_at : (check : Check) (e : Environment) (xs : List Lexeme) (i : ℕ) (x : Lexeme) → first_place check e xs ≡ None → slice_get xs i ≡ Some x → fails check e x (behind xs i) ≡ false
+passes_at check e [] zero x n h = absurd (cc)
+passes_at check e [] (suc i) x n h = absurd (cc)
+passes_at check e (y ∷ xs) zero x n h =
+    let same : y ≡ x = cc in
+    ap (λ z. fails check e z xs) (sym same) ∙ (no_place (fails check e y xs) y.at (first_place check e xs) n).0
+passes_at check e (y ∷ xs) (suc i) x n h = passes_at check e xs i x (no_place (fails check e y xs) y.at (first_place check e xs) n).1 h
+
+-- ---- terms that are no numbers
+
+no_and : (a b : Bool) → b ≡ false → (a && b) ≡ false
+no_and true b h = h
+no_and false b h = refl
+
+boolean_is_narrow : (text : List ℕ) → is_wide (typed text (codes "boolean")) ≡ false
+boolean_is_narrow text = no_and (is_well_typed (xsd (codes "boolean")) text) (is_too_wide (xsd (codes "boolean")) text) refl
+
+-- a number is another, or is not
+other : (P : ℕ → Type 0) (k n : ℕ) → P n → ((k == n) ≡ false → P k) → P k
+other P k n p f = by (k == n) refl
+  where
+    by : (b : Bool) → (k == n) ≡ b → P k
+    by true e = subst P (sym (eqb-true k n e)) p
+    by false e = f e
+
+one_of_three : (a b c : Bool) → (false || false || false || a || b || c || false || false || false) ≡ true → (a || b || c) ≡ true
+one_of_three true b c h = refl
+one_of_three false true c h = refl
+one_of_three false false true h = refl
+one_of_three false false false h = absurd (cc)
+
+abbrev IsNarrow : Environment → List ℕ → List Lexeme → ℕ → Type 0
+IsNarrow e token xs k = is_wide (term_of e (lexeme_word k token) xs) ≡ false
+
+-- a term, by the kind of its token
+narrow : (e : Environment) (token : List ℕ) (xs : List Lexeme) (k : ℕ) → is_term k ≡ true → (is_literal k ≡ true → IsNarrow e token xs k) → IsNarrow e token xs k
+narrow e token xs k t lit =
+    let P : ℕ → Type 0 = IsNarrow e token xs in
+    other P k 26 refl (λ a. other P k 27 refl (λ b. other P k 28 refl (λ c. other P k 36 refl (λ f.
+    other P k 37 (boolean_is_narrow (str_to_ascii_lowercase token)) (λ g. other P k 38 (boolean_is_narrow (str_to_ascii_lowercase token)) (λ h.
+    lit (one_of_three (k == 31) (k == 33) (k == 34) (sym (λ i. a i || b i || c i || (k == 31) || (k == 33) || (k == 34) || f i || g i || h i) ∙ t))))))))
+
+-- ---- the keys of tokens
+
+abbrev lexeme : ℕ → ℕ → List ℕ → Lexeme
+lexeme kind at token = record { kind = kind; at = at; word = lexeme_word kind token }
+
+record HasKey (x : Lexeme) (b : Bool) : Type 0 where
+  key : List ℕ
+  is : key_of x ≡ Some key
+  mark : is_variable_key key ≡ b
+
+variable_key : (kind at : ℕ) (token : List ℕ) → (kind == 30) ≡ true → HasKey (lexeme kind at token) true
+variable_key kind at token e = subst (λ k. HasKey (lexeme k at token) true) (sym (eqb-true kind 30 e)) (record { key = _; is = refl; mark = refl })
+
+labels_key : (kind at : ℕ) (token : List ℕ) (a b : Bool) → (kind == 29) ≡ a → (kind == 4) ≡ b → (a || b) ≡ true → HasKey (lexeme kind at token) false
+labels_key kind at token true b e f h = subst (λ k. HasKey (lexeme k at token) false) (sym (eqb-true kind 29 e)) (record { key = _; is = refl; mark = refl })
+labels_key kind at token false true e f h = subst (λ k. HasKey (lexeme k at token) false) (sym (eqb-true kind 4 f)) (record { key = _; is = refl; mark = refl })
+labels_key kind at token false false e f h = absurd (cc)
+
+-- ---- what stands where a pattern, an expression or a selection asks for a token
+
+abbrev pub is_node_kind : ℕ → Bool
+is_node_kind k = if k == 30 then true else if (k == 29) || (k == 4) then true else is_term k
+
+abbrev pub is_operand_kind : ℕ → Bool
+is_operand_kind k = if k == 30 then true else if (k == 29) || (k == 4) then false else is_term k
+
+abbrev pub is_variable_kind : ℕ → Bool
+is_variable_kind k = k == 30
+
+module _ (keys : List (List ℕ)) where
+  abbrev pub IsNode : Meaning → Type 0
+  IsNode (Variable n) = Marked keys n true
+  IsNode (Label n) = Marked keys n false
+  IsNode (Fixed t) = is_wide t ≡ false
+  IsNode m = ⊥
+
+  abbrev pub IsOperand : Meaning → Type 0
+  IsOperand (Variable n) = Marked keys n true
+  IsOperand (Fixed t) = is_wide t ≡ false
+  IsOperand m = ⊥
+
+  abbrev pub IsVariable : Meaning → Type 0
+  IsVariable (Variable n) = Marked keys n true
+  IsVariable m = ⊥
+
+  node_by : (a b c : Bool) (n : ℕ) (t : Term) (o : Meaning) → (if a then true else if b then true else c) ≡ true → (a ≡ true → Marked keys n true) → (b ≡ true → Marked keys n false) → (c ≡ true → is_wide t ≡ false)
+      → IsNode (if a then Variable n else if b then Label n else if c then Fixed t else o)
+  node_by true b c n t o h v l f = v refl
+  node_by false true c n t o h v l f = l refl
+  node_by false false true n t o h v l f = f refl
+  node_by false false false n t o h v l f = absurd (cc)
+
+  operand_by : (a b c : Bool) (n : ℕ) (t : Term) (o : Meaning) → (if a then true else if b then false else c) ≡ true → (a ≡ true → Marked keys n true) → (c ≡ true → is_wide t ≡ false)
+      → IsOperand (if a then Variable n else if b then Label n else if c then Fixed t else o)
+  operand_by true b c n t o h v f = v refl
+  operand_by false true c n t o h v f = absurd (cc)
+  operand_by false false true n t o h v f = f refl
+  operand_by false false false n t o h v f = absurd (cc)
+
+  variable_by : (a b c : Bool) (n : ℕ) (t : Term) (o : Meaning) → a ≡ true → (a ≡ true → Marked keys n true) → IsVariable (if a then Variable n else if b then Label n else if c then Fixed t else o)
+  variable_by true b c n t o h v = v refl
+  variable_by false b c n t o h v = absurd (cc)
+
+  module _ (e : Environment) (kind at : ℕ) (token : List ℕ) (xs : List Lexeme)
+      (numbers : (key : List ℕ) → key_of (lexeme kind at token) ≡ Some key → slice_get keys (number_in keys (key_of (lexeme kind at token))) ≡ Some key)
+      (fine : fails Wide e (lexeme kind at token) xs ≡ false) where
+    abbrev number : ℕ
+    number = number_in keys (key_of (lexeme kind at token))
+
+    marked : (b : Bool) → HasKey (lexeme kind at token) b → Marked keys number b
+    marked b k = ap (option_map is_variable_key) (numbers k.key k.is) ∙ ap Some k.mark
+
+    literal_by : (a : Bool) (b : Bool) → a ≡ true → (if a then b else false) ≡ false → b ≡ false
+    literal_by true b h f = f
+    literal_by false b h f = absurd (cc)
+
+    literal : is_literal kind ≡ true → is_wide (term_of e (lexeme_word kind token) xs) ≡ false
+    unfolding fails
+    literal h = literal_by (is_literal kind) (is_wide (term_of e (lexeme_word kind token) xs)) h fine
+
+    term : is_term kind ≡ true → is_wide (term_of e (lexeme_word kind token) xs) ≡ false
+    term h = narrow e token xs kind h literal
+
+    variable : (kind == 30) ≡ true → Marked keys number true
+    variable h = marked true (variable_key kind at token h)
+
+    label : ((kind == 29) || (kind == 4)) ≡ true → Marked keys number false
+    label h = marked false (labels_key kind at token (kind == 29) (kind == 4) refl refl h)
+
+    pub node : is_node_kind kind ≡ true → IsNode (meaning_of e keys (lexeme kind at token) xs)
+    unfolding meaning_of
+    node h = node_by (kind == 30) ((kind == 29) || (kind == 4)) (is_term kind) number (term_of e (lexeme_word kind token) xs) (operator_of kind) h variable label term
+
+    pub operand : is_operand_kind kind ≡ true → IsOperand (meaning_of e keys (lexeme kind at token) xs)
+    unfolding meaning_of
+    operand h = operand_by (kind == 30) ((kind == 29) || (kind == 4)) (is_term kind) number (term_of e (lexeme_word kind token) xs) (operator_of kind) h variable term
+
+    pub only_variable : is_variable_kind kind ≡ true → IsVariable (meaning_of e keys (lexeme kind at token) xs)
+    unfolding meaning_of
+    only_variable h = variable_by (kind == 30) ((kind == 29) || (kind == 4)) (is_term kind) number (term_of e (lexeme_word kind token) xs) (operator_of kind) h variable
+
+-- ---- at a token of the text
+
+record Stands (text : List ℕ) (tokens : List Token) (i k : ℕ) : Type 0 where
+  token : Token
+  at : slice_get (lexemes_of text tokens) i ≡ Some (lexeme_of text token)
+  kind : token.kind ≡ k
+
+stands_at : (text : List ℕ) (tokens : List Token) (i k : ℕ) (o : Option Token) → slice_get tokens i ≡ o → option_map (λ t. t.kind) o ≡ Some k → Stands text tokens i k
+stands_at text tokens i k None e h = absurd (cc)
+stands_at text tokens i k (Some t) e h = record { token = t; at = got-map (lexeme_of text) tokens i ∙ ap (option_map (lexeme_of text)) e; kind = cc }
+
+stands : (text : List ℕ) (tokens : List Token) (i k : ℕ) → slice_get (kinds_of tokens) i ≡ Some k → Stands text tokens i k
+stands text tokens i k h = stands_at text tokens i k (slice_get tokens i) refl (sym (got-map (λ t. t.kind) tokens i) ∙ h)
+
+module _ (text : List ℕ) (tokens : List Token) (e : Environment) (start : ℕ) where
+  abbrev pub lexed : List Lexeme
+  lexed = lexemes_of text tokens
+
+  abbrev pub body : List Lexeme
+  body = drop start lexed
+
+  abbrev pub body_keys : List (List ℕ)
+  body_keys = (named_of body).keys
+
+  abbrev pub all_meanings : List Meaning
+  all_meanings = meanings_of e body_keys lexed
+
+  module _ (fine : first_place Wide e body ≡ None) (i k : ℕ) (l : start ≤ i) (h : slice_get (kinds_of tokens) i ≡ Some k) where
+    at_token : (P : Meaning → Type 0)
+        → ((kind at : ℕ) (token : List ℕ) (xs : List Lexeme) → kind ≡ k
+        → ((key : List ℕ) → key_of (lexeme kind at token) ≡ Some key → slice_get body_keys (number_in body_keys (key_of (lexeme kind at token))) ≡ Some key)
+        → fails Wide e (lexeme kind at token) xs ≡ false → P (meaning_of e body_keys (lexeme kind at token) xs))
+        → P (meaning_at all_meanings i)
+    at_token P f =
+        let s = stands text tokens i k h in
+        let d = dropped start lexed i (lexeme_of text s.token) l s.at in
+        subst P (sym (meaning_is e body_keys lexed i (lexeme_of text s.token) s.at))
+        (f s.token.kind s.token.start (between text s.token.start s.token.end) (behind lexed i) s.kind
+        (λ key q. numbered body d.place (lexeme_of text s.token) key d.at q)
+        (subst (λ xs. fails Wide e (lexeme_of text s.token) xs ≡ false) d.rest (passes_at Wide e body d.place (lexeme_of text s.token) fine d.at)))
+
+    pub node_at : is_node_kind k ≡ true → IsNode body_keys (meaning_at all_meanings i)
+    node_at p = at_token (IsNode body_keys) (λ kind at token xs same numbers narrow. node body_keys e kind at token xs numbers narrow (ap is_node_kind same ∙ p))
+
+    pub operand_at : is_operand_kind k ≡ true → IsOperand body_keys (meaning_at all_meanings i)
+    operand_at p = at_token (IsOperand body_keys) (λ kind at token xs same numbers narrow. operand body_keys e kind at token xs numbers narrow (ap is_operand_kind same ∙ p))
+
+    pub variable_at : is_variable_kind k ≡ true → IsVariable body_keys (meaning_at all_meanings i)
+    variable_at p = at_token (IsVariable body_keys) (λ kind at token xs same numbers narrow. only_variable body_keys e kind at token xs numbers narrow (ap is_variable_kind same ∙ p))
