@@ -1,10 +1,11 @@
-ghost use Rattle.std.specs.Prelude.{◌≡◌, ◌==◌, ◌||◌, take, drop};
+ghost use Rattle.std.specs.Prelude.{◌≡◌, ◌==◌, ◌||◌, ◌&&◌, take, drop};
 ghost use Rattle.std.specs.List.{list_all, position};
 ghost use Rattle.vkg_cells.specs.Moment.{is_clock as is_clock_text};
-ghost use Rattle.vkg_cells.specs.WellTyped.{is_end_of_day as is_end_of_day_text, is_fraction as is_fraction_text, is_moment as is_moment_text, is_offset as is_offset_text, is_too_wide as too_wide, is_well_typed as well_typed, is_xsd_date as is_xsd_date_text, is_xsd_date_time as is_xsd_date_time_text, is_zone as is_zone_text, zone_place as zone_place_of};
+ghost use Rattle.vkg_cells.specs.WellTyped.{is_end_of_day as is_end_of_day_text, is_fraction as is_fraction_text, is_moment as is_moment_text, is_offset as is_offset_text, is_too_wide as too_wide, is_well_typed as well_typed, is_wide_number as wide_number, is_xsd_date as is_xsd_date_text, is_xsd_date_time as is_xsd_date_time_text, is_zone as is_zone_text, zone_place as zone_place_of};
 
 use crate::moment::{is_clock, is_date, two_digits};
 use crate::number::{is_decimal, is_digits, is_integer, is_wide};
+use vkg_terms::{Annotation, Term};
 
 const XSD_INTEGER: &str = "http://www.w3.org/2001/XMLSchema#integer";
 
@@ -41,6 +42,24 @@ pub fn is_too_wide(datatype: &str, text: &str) -> bool
     ensures { result ≡ too_wide datatype.now text.now }
 {
     (datatype == XSD_INTEGER || datatype == XSD_DECIMAL) && is_wide(text)
+}
+
+fn is_wide_text(datatype: &str, text: &str) -> bool
+    ensures { result ≡ (well_typed datatype.now text.now && too_wide datatype.now text.now) }
+{
+    is_well_typed(datatype, text) && is_too_wide(datatype, text)
+}
+
+/// Whether a term is a well-typed number of more than 38 digits.
+pub fn is_wide_number(term: &Term) -> bool
+    ensures { result ≡ wide_number term.now }
+{
+    match term {
+        Term::Lit(text, Annotation::Typed(datatype)) => {
+            is_wide_text(datatype.iri().as_str(), text.as_str())
+        }
+        _ => false,
+    }
 }
 
 /// What stands before a place, and what stands from there on.

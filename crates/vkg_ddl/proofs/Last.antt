@@ -1,6 +1,7 @@
 -- The last item of a list.
-use Rattle.std.proofs.Common.{◌≡◌, List, [], ◌∷◌, ◌++◌, Result, Ok, Err, refl, ap, sym, ◌∙◌}
+use Rattle.std.proofs.Common.{◌≡◌, List, [], ◌∷◌, ◌++◌, Result, refl, ap, sym, ◌∙◌}
 use Rattle.std.specs.Prelude.{OnOk}
+use Rattle.std.proofs.lemmas.Result.{on_ok_weaker}
 use Rattle.vkg_ddl.specs.declared.name.Name.{Name}
 use Rattle.vkg_ddl.specs.declared.role.Role.{Role}
 use Rattle.vkg_ddl.specs.declared.role.Role.TheVariants as role
@@ -17,13 +18,9 @@ pub last_none : {A : Type 0} (f : A → A) {old new : List A} → old ≡ [] →
 unfolding on_last
 last_none f {old = old} {new = new} o n = n ∙ sym (ap (on_last f) o)
 
-pub weaken : {T E P Q : Type 0} (r : Result T E) → (P → Q) → OnOk r P → OnOk r Q
-weaken (Ok x) f p = f p
-weaken (Err e) f p = tt
-
 pub last_edited : {A T E : Type 0} (f : A → A) (r : Result T E) {old : List A} (front new : List A) {last edited : A} → old ≡ front ++ last ∷ [] → edited ≡ f last → OnOk r (new ≡ front ++ edited ∷ []) → OnOk r (new ≡ on_last f old)
 last_edited f r {old = old} front new {last = last} o e p =
-    weaken r (λ n. n ∙ ap (λ x. front ++ x ∷ []) e ∙ sym (on_last_push f front last) ∙ sym (ap (on_last f) o)) p
+    on_ok_weaker r (λ n. n ∙ ap (λ x. front ++ x ∷ []) e ∙ sym (on_last_push f front last) ∙ sym (ap (on_last f) o)) p
 
 -- where the token begins no table
 pub act_other : (r : Role) (t : Name) (tables : List WrittenTable) → (r ≡ role.Table → ⊥) → act r t tables ≡ on_last (edit r t) tables

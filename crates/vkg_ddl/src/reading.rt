@@ -1,12 +1,10 @@
 ghost use Rattle.vkg_grammar.specs.Parsing.{IsTheText, Stops};
-ghost use Rattle.std.specs.Prelude.{◌≡◌, ◌<◌, ◌+◌, ℕ, slice_index, slice_get, unwrap_or, [], length, map, IfOk, IfErr, slice_index_or, true, false};
+ghost use Rattle.std.specs.Prelude.{◌≡◌, [], IfOk, IfErr};
 ghost use Rattle.std.specs.List.{AllByRecursion};
-ghost use Rattle.vkg_tokens.specs.Cut.{HasKind};
 ghost use Rattle.vkg_grammar.specs.Kinds.{kinds_of, AreBelow};
 ghost use Rattle.vkg_ddl.specs.Formed.{IsFormed};
 ghost use Rattle.vkg_ddl.specs.Reading.{role_of, is_choice, written_of, Says, TextFails};
 ghost use Rattle.vkg_ddl.specs.declared.reading.TextFault.TheVariants.{Memory as OutOfMemory};
-ghost use Rattle.vkg_ddl.specs.declared.role.Role.TheVariants.{Choice};
 
 use crate::grammar_table::{DDL, ROLES};
 use crate::name::{Name, names_of};
@@ -14,7 +12,7 @@ use crate::role::Role;
 use crate::written::{WrittenTable, act};
 use std::alloc::{AllocError, AllocFailed, Global};
 use vkg_base::{Items, Memory};
-use vkg_grammar::{Grammar, Note, ParseFault, Rule, parse};
+use vkg_grammar::{Grammar, Note, ParseFault, Rule, parse, role_in, start_of};
 use vkg_tokens::{Lang, Token, TokensError, tokens};
 
 /// Why a text is none of the grammar.
@@ -57,19 +55,10 @@ fn meanings() -> &'static [Role]
     &ROLES
 }
 
-fn role_in(roles: &[Role], symbol: usize) -> Role
-    ensures { result ≡ unwrap_or (slice_get roles.now symbol) Choice }
-{
-    match roles.get(symbol) {
-        None => Role::Choice,
-        Some(role) => *role,
-    }
-}
-
 fn role_of(symbol: usize) -> Role
     ensures { result ≡ role_of symbol }
 {
-    role_in(meanings(), symbol)
+    role_in(meanings(), symbol, Role::Choice)
 }
 
 fn is_choice(role: Role) -> bool
@@ -97,13 +86,6 @@ fn written_of(alloc: Global, notes: &[Note], tokens: &[Name]) -> Result<Items<Wr
         }
     }
     Ok(tables)
-}
-
-fn start_of(tokens: &[Token], index: usize) -> usize
-    requires { index < length tokens.now }
-    ensures { result ≡ slice_index_or (map (λ t. t.start) tokens.now) index 0 }
-{
-    tokens[index].start
 }
 
 fn rules() -> &'static [Rule]

@@ -22,31 +22,20 @@ use Rattle.vkg_cells.specs.Form.{lexical_form, IsOfKind, natural}
 use Rattle.vkg_cells.specs.Number.{is_integer, is_decimal, whole, fraction, width, canonical, is_negative, without_leading_zeros, without_trailing_zeros}
 use Rattle.vkg_cells.specs.Moment.{is_date, stamp_form}
 use Rattle.vkg_cells.specs.WellTyped.{is_xsd_date, is_xsd_date_time}
-use Rattle.vkg_direct.proofs.Moments.{Made, date_is, form_ascii, form_is, stamp_made}
+use Rattle.vkg_cells.proofs.FieldLemmas.{field_ok, number_ok, ok_is, stamp_ok}
+use Rattle.vkg_cells.proofs.MomentText.{Made, form_ascii, stamp_made}
+use Rattle.vkg_direct.proofs.Moments.{date_is, form_is}
 use Rattle.vkg_maps.specs.Terms.{literal}
 use Rattle.vkg_maps.specs.declared.data_fault.TermFault.TheVariants.{IllTyped, TooWide}
 use Rattle.vkg_lists.proofs.Bools.{and_parts}
-use Rattle.vkg_direct.proofs.Numbers.{width_is, decimal_is, ascii_is, integer_is, decimal_parts, integer_parts, Digits, written}
+use Rattle.vkg_direct.proofs.Numbers.{width_is, decimal_is, ascii_is, integer_is, decimal_parts, integer_parts, written}
+use Rattle.vkg_cells.proofs.Digits.{Digits}
 
 pub record Formed (k : SqlType) (c : Cell) : Type 0 where
   pub form : List ℕ
   pub is : lexical_form c ≡ Some form
   pub spelled : scalars (chars form) ≡ true
   pub typed : literal form (natural k) ≡ Ok (Some (Lit form (natural k)))
-
-ok_is : (a b : Cell) → ◌≡◌ {A = Result Cell FieldFault} (Ok a) (Ok b) → a ≡ b
-ok_is a b e = cc
-
-field_ok : (b : Bool) (d c : Cell) → where_field b d ≡ Ok c → (b ≡ true) × (d ≡ c)
-field_ok true d c e = (refl, ok_is d c e)
-field_ok false d c e = cc
-
-number_ok : (b : Bool) (text : List ℕ) (d c : Cell) → where_number b text d ≡ Ok c → (b ≡ true) × (nat_lt 38 (width text) ≡ false) × (d ≡ c)
-number_ok false text d c e = cc
-number_ok true text d c e = elim (nat_lt 38 (width text)) as (λ b. nat_lt 38 (width text) ≡ b → cond b (Err field.TooWide) (Ok d) ≡ Ok c → (true ≡ true) × (nat_lt 38 (width text) ≡ false) × (d ≡ c)) [
-  | true ↦ λ n f. cc
-  | false ↦ λ n f. (refl, n, ok_is d c f)
-] refl e
 
 ascii_spelled : (text : List ℕ) → IsAscii text → scalars (chars text) ≡ true
 ascii_spelled text a = scalars-chars text (IsUtf8-from_ascii text a)
@@ -117,10 +106,6 @@ formed_stamp form m = record {
   spelled = ascii_spelled form (subst IsAscii (sym m.is) (form_ascii m.date m.clock m.fraction m.is_date m.is_clock m.is_digits));
   typed = typed_stamp form (ap is_xsd_date_time m.is ∙ form_is m.date m.clock m.fraction m.is_date m.is_clock m.is_digits);
 }
-
-stamp_ok : (o : Option (List ℕ)) (c : Cell) → where_stamp o ≡ Ok c → (form : List ℕ) × (o ≡ Some form) × (cell.Stamp form ≡ c)
-stamp_ok None c e = cc
-stamp_ok (Some form) c e = (form, refl, ok_is (cell.Stamp form) c e)
 
 octets_formed : (r : Result (List ℕ) FromHexError) (c : Cell) → where_octets r ≡ Ok c → Formed kind.Bin c
 octets_formed (Ok octets) c e = subst (Formed kind.Bin) (ok_is (cell.Bin (encode_upper octets)) c e) (formed_binary octets)

@@ -9,18 +9,18 @@ use Rattle.vkg_lists.specs.Ascending.{ascending_once}
 use Rattle.vkg_terms.specs.NQuads.{Quad, line}
 use Rattle.vkg_cells.specs.declared.cell.SqlType.{SqlType}
 use Rattle.vkg_cells.specs.declared.cell.SqlType.TheVariants as kind
-use Rattle.vkg_cells.specs.declared.cell.Cell.{Cell}
 use Rattle.vkg_cells.specs.declared.cell.Cell.TheVariants as cell
 use Rattle.vkg_cells.specs.Field.{cell_of_field}
 use Rattle.vkg_cells.specs.Moment.{day_of_text, clock_of_text}
 use Rattle.vkg_schema.specs.declared.table.Table.{Table}
-use Rattle.vkg_schema.specs.Rows.{Row, Database, equal_at, is_known}
+use Rattle.vkg_schema.specs.Rows.{Database, equal_at, is_known}
 use Rattle.vkg_schema.specs.Meets.{MeetsSchema, FitsColumn, IsWellFormed}
 use Rattle.vkg_maps.specs.DataFaults.{data_faults}
 use Rattle.vkg_maps.specs.Dataset.{quads}
 use Rattle.vkg_direct.specs.declared.direct_error.DirectError.TheVariants.{NoPrimaryKey}
 use Rattle.vkg_direct.specs.DirectGraph.{direct_graph}
 use Rattle.vkg_direct.specs.DirectMapping.{direct, direct_result}
+use Rattle.vkg_maps.proofs.Company.{dept, emp, tables, text, db, base, i_text, a_text}
 
 -- what the examples compute with
 unfoldable opened : Unit {0}
@@ -30,53 +30,7 @@ opened = tt
 abbrev lines_of : List Quad → List (List ℕ)
 lines_of qs = ascending_once (map line qs)
 
-abbrev dept : Table
-dept = record {
-  name = codes "dept";
-  columns = record { name = codes "id"; kind = kind.Int; not_null = true } ∷ record { name = codes "title"; kind = kind.Text; not_null = false } ∷ [];
-  keys = record { primary = true; columns = 0 ∷ [] } ∷ [];
-  references = [];
-}
-
-abbrev emp : Table
-emp = record {
-  name = codes "emp";
-  columns = record { name = codes "id"; kind = kind.Int; not_null = true } ∷ record { name = codes "name"; kind = kind.Text; not_null = false }
-      ∷ record { name = codes "dept"; kind = kind.Int; not_null = false } ∷ [];
-  keys = record { primary = true; columns = 0 ∷ [] } ∷ [];
-  references = record { table = 0; pairs = (2, 0) ∷ [] } ∷ [];
-}
-
-abbrev tables : List Table
-tables = dept ∷ emp ∷ []
-
-abbrev int : List ℕ → Cell
-int text = cell.Int text
-
-abbrev text : List ℕ → Cell
-text t = cell.Text t
-
-abbrev dept_rows : List Row
-dept_rows = (int (codes "1") ∷ text (codes "Ore") ∷ []) ∷ (int (codes "2") ∷ cell.Null ∷ []) ∷ []
-
-abbrev emp_rows : List Row
-emp_rows = (int (codes "7") ∷ text (codes "Ann") ∷ int (codes "1") ∷ [])
-    ∷ (int (codes "8") ∷ text (codes "Bo") ∷ cell.Null ∷ [])
-    ∷ (int (codes "9") ∷ text (codes "Ann") ∷ int (codes "1") ∷ []) ∷ []
-
-abbrev db : Database
-db = dept_rows ∷ emp_rows ∷ []
-
-abbrev base : List ℕ
-base = codes "http://e/"
-
 -- the lines of the two tables
-abbrev i_text : List ℕ
-i_text = codes "<http://www.w3.org/2001/XMLSchema#integer>"
-
-abbrev a_text : List ℕ
-a_text = codes "<http://www.w3.org/1999/02/22-rdf-syntax-ns#type>"
-
 abbrev lines_7 : List (List ℕ)
 lines_7 =
     (codes "<http://e/emp/id=7> <http://e/emp#dept> \"1\"^^" ++ i_text ++ codes " .")

@@ -1,5 +1,5 @@
 -- What the direct mapping of a schema with keys stands for.
-use Rattle.std.proofs.Common.{◌≡◌, refl, ℕ, List, [], ◌∷◌, ◌++◌, sym, ap, ◌∙◌, subst, map, flat_map, Option, Some, None, Bool, true, false, not, arith, inl, inr}
+use Rattle.std.proofs.Common.{◌≡◌, refl, ℕ, List, [], ◌∷◌, ◌++◌, sym, ap, ◌∙◌, subst, map, flat_map, Option, Some, None, true, false, not, arith, inl, inr}
 use Rattle.std.specs.Prelude.{Contains, position}
 use Rattle.std.specs.List.{enumerate_from}
 use Rattle.std.proofs.lemmas.List.Sums.{fails_before_first}
@@ -14,7 +14,7 @@ use Rattle.vkg_maps.specs.declared.term_map.TermMap.{TermMap}
 use Rattle.vkg_maps.specs.declared.mapping.PredicateObjectMap.{PredicateObjectMap}
 use Rattle.vkg_lists.specs.Sets.{HasSameMembers}
 use Rattle.vkg_maps.specs.Dataset.{dataset}
-use Rattle.vkg_maps.specs.DataFaults.{term_faults, fault_at, faults_at, row_faults, map_faults, data_faults, term_maps, asked, fault_of}
+use Rattle.vkg_maps.specs.DataFaults.{term_faults, fault_at, faults_at, row_faults, map_faults, data_faults, term_maps, fault_of, pair_maps}
 use Rattle.vkg_terms.specs.declared.term.Term.TheVariants.{Iri}
 use Rattle.vkg_cells.specs.Form.{natural}
 use Rattle.vkg_maps.specs.declared.term_map.TermMap.TheVariants as from
@@ -35,9 +35,6 @@ flat_map_nothing : {X A : Type 0} (f : X → List A) (xs : List X) → ((x : X) 
 flat_map_nothing f [] h = refl
 flat_map_nothing f (x ∷ xs) h = ap (λ r. r ++ flat_map f xs) (h x (Contains-here x xs)) ∙ flat_map_nothing f xs (λ y c. h y (Contains-there x xs y c))
 
-abbrev parts : PredicateObjectMap → List (Option TermMap)
-parts po = map Some po.predicates ++ map asked po.objects ++ map Some po.graphs
-
 pair_sound : (base : List ℕ) (row : Row) (a b t : Option TermMap) → Contains (a ∷ b ∷ []) t → term_faults base row a ≡ [] → term_faults base row b ≡ [] → term_faults base row t ≡ []
 pair_sound base row a b t c x y = elim (Contains-cons_cases a (b ∷ []) t c) [
   | inl e ↦ ap (term_faults base row) (sym e) ∙ x
@@ -47,20 +44,20 @@ pair_sound base row a b t c x y = elim (Contains-cons_cases a (b ∷ []) t c) [
 module _ (base : List ℕ) (tables : List Table) (db : Database) (made : AllMade base tables db) where
   -- what a term map of the direct mapping makes of a row of its table is no fault
   module _ (kt : ℕ × Table) (h : Contains (enumerate_from 0 tables) kt) (row : Row) (r : Contains (rows_of db kt.0) row) where
-    by_property : (po : PredicateObjectMap) → Contains (direct_map base kt).predicate_objects po → (t : Option TermMap) → Contains (parts po) t → term_faults base row t ≡ []
+    by_property : (po : PredicateObjectMap) → Contains (direct_map base kt).predicate_objects po → (t : Option TermMap) → Contains (pair_maps po) t → term_faults base row t ≡ []
     by_property po is t c = elim (Contains-append_cases (map (column_property base kt.1) (enumerate_from 0 kt.1.columns)) (map (reference_property base kt.1) kt.1.references) po is) [
       | inl d ↦
           let b = Contains-from_map (column_property base kt.1) (enumerate_from 0 kt.1.columns) po d in
-          pair_sound base row (Some (from.Constant (Iri (column_iri base kt.1 b.0.1)))) (Some (from.Column b.0.0 (sort.Literal (natural b.0.1.kind)))) t (subst (λ po. Contains (parts po) t) (sym b.2) c) refl (ap fault_of ((made kt h row r).literals b.0 b.1))
+          pair_sound base row (Some (from.Constant (Iri (column_iri base kt.1 b.0.1)))) (Some (from.Column b.0.0 (sort.Literal (natural b.0.1.kind)))) t (subst (λ po. Contains (pair_maps po) t) (sym b.2) c) refl (ap fault_of ((made kt h row r).literals b.0 b.1))
       | inr d ↦
           let b = Contains-from_map (reference_property base kt.1) kt.1.references po d in
-          pair_sound base row (Some (from.Constant (Iri (reference_iri base kt.1 b.0)))) None t (subst (λ po. Contains (parts po) t) (sym b.2) c) refl refl
+          pair_sound base row (Some (from.Constant (Iri (reference_iri base kt.1 b.0)))) None t (subst (λ po. Contains (pair_maps po) t) (sym b.2) c) refl refl
     ]
 
     term_sound : (t : Option TermMap) → Contains (term_maps (direct_map base kt)) t → term_faults base row t ≡ []
-    term_sound t c = elim (Contains-cons_cases (Some (direct_map base kt).subject) (flat_map parts (direct_map base kt).predicate_objects) t c) [
+    term_sound t c = elim (Contains-cons_cases (Some (direct_map base kt).subject) (flat_map pair_maps (direct_map base kt).predicate_objects) t c) [
       | inl e ↦ ap (term_faults base row) (sym e) ∙ ap fault_of (made kt h row r).node
-      | inr d ↦ let b = Contains-from_flat_map parts (direct_map base kt).predicate_objects t d in by_property b.0 b.1 t b.2
+      | inr d ↦ let b = Contains-from_flat_map pair_maps (direct_map base kt).predicate_objects t d in by_property b.0 b.1 t b.2
     ]
 
     row_sound : (k n : ℕ) → row_faults base (term_maps (direct_map base kt)) k (n, row) ≡ []

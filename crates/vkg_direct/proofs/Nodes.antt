@@ -7,14 +7,14 @@ use lib.Utf8.{scalars}
 use Rattle.vkg_terms.specs.declared.term.Term.TheVariants.{Iri}
 use Rattle.vkg_terms.specs.Iri.{is_absolute, is_iri_character}
 use Rattle.vkg_terms.specs.Safe.{safe}
-use Rattle.vkg_cells.specs.Form.{lexical_form}
+use Rattle.vkg_cells.specs.Form.{lexical_form, joined}
 use Rattle.vkg_schema.specs.declared.table.Table.{Table}
 use Rattle.vkg_schema.specs.Rows.{Row, cell_at}
 use Rattle.vkg_maps.specs.declared.term_map.Piece.{Piece}
 use Rattle.vkg_maps.specs.declared.term_map.Piece.TheVariants.{Fixed}
 use Rattle.vkg_maps.specs.declared.term_map.TermType.TheVariants as sort
 use Rattle.vkg_maps.specs.declared.data_fault.TermFault.TheVariants.{NotIri}
-use Rattle.vkg_maps.specs.Terms.{term_of, template_value, joined, where_value, put}
+use Rattle.vkg_maps.specs.Terms.{term_of, template_value, where_value, put}
 use Rattle.vkg_direct.specs.DirectGraph.{primary_key, column_name, table_iri, node_part, row_node}
 use Rattle.vkg_direct.specs.DirectMapping.{node_pieces, key_pieces, direct_map}
 use Rattle.vkg_direct.proofs.Joined.{joined_is}

@@ -7,15 +7,7 @@ use Rattle.std.proofs.lemmas.List.Folds.{list_all-append}
 use Rattle.std.proofs.lemmas.Str.Ascii.{IsAscii-nil, IsAscii-cons}
 use Rattle.vkg_cells.specs.Number.{is_digits, is_integer, is_decimal, unsigned, whole, fraction, width, without_leading_zeros, without_trailing_zeros, or_zero, after_point, onto_unless_zero}
 use Rattle.vkg_lists.proofs.Bools.{and_true, and_parts}
-
-abbrev pub Digits : List ℕ → Type 0
-Digits xs = list_all is_ascii_digit xs ≡ true
-
-digits_cons : (d : ℕ) (ds : List ℕ) → is_ascii_digit d ≡ true → Digits ds → Digits (d ∷ ds)
-digits_cons d ds e h = and_true (is_ascii_digit d) (list_all is_ascii_digit ds) e h
-
-digits_parts : (d : ℕ) (ds : List ℕ) → Digits (d ∷ ds) → (is_ascii_digit d ≡ true) × Digits ds
-digits_parts d ds h = and_parts (is_ascii_digit d) (list_all is_ascii_digit ds) h
+use Rattle.vkg_cells.proofs.Digits.{Digits, after_ascii, all_digits, digits_parts, digits_cons, small_digit, trail_digits}
 
 not_sign : (d : ℕ) → is_ascii_digit d ≡ true → ((d == 43) || (d == 45)) ≡ false
 not_sign d e = grind arith
@@ -29,14 +21,6 @@ lead_digits (x ∷ xs) h = elim (x == 48) as (λ b. Digits (cond b (without_lead
   | true ↦ lead_digits xs (digits_parts x xs h).1
   | false ↦ h
 ]
-
-onto_digits : (x : ℕ) (xs : List ℕ) → is_ascii_digit x ≡ true → Digits xs → Digits (onto_unless_zero x xs)
-onto_digits x [] e h = elim (x == 48) as (λ b. Digits (cond b [] (x ∷ []))) [ true ↦ refl | false ↦ digits_cons x [] e refl ]
-onto_digits x (y ∷ ys) e h = digits_cons x (y ∷ ys) e h
-
-pub trail_digits : (xs : List ℕ) → Digits xs → Digits (without_trailing_zeros xs)
-trail_digits [] h = h
-trail_digits (x ∷ xs) h = let p = digits_parts x xs h in onto_digits x (without_trailing_zeros xs) p.0 (trail_digits xs p.1)
 
 or_zero_digits : (xs : List ℕ) → Digits xs → Digits (or_zero xs)
 or_zero_digits [] h = refl
@@ -93,18 +77,7 @@ unsigned_written false (d ∷ ds) t h = unsigned_digit d (ds ++ after_point t) (
 
 ascii_digits : (xs ys : List ℕ) → Digits xs → IsAscii ys → IsAscii (xs ++ ys)
 ascii_digits [] ys a b = b
-ascii_digits (x ∷ xs) ys a b = let p = digits_parts x xs a in IsAscii-cons x (xs ++ ys) (small x p.0) (ascii_digits xs ys p.1 b)
-  where
-    small : (x : ℕ) → is_ascii_digit x ≡ true → x < 128
-    small x e = grind arith
-
-pub after_ascii : (xs : List ℕ) → Digits xs → IsAscii (after_point xs)
-after_ascii [] a = IsAscii-nil
-after_ascii (x ∷ xs) a = IsAscii-cons 46 (x ∷ xs) (lit< tt) (subst IsAscii (nil_right (x ∷ xs)) (ascii_digits (x ∷ xs) [] a IsAscii-nil))
-  where
-    nil_right : (xs : List ℕ) → xs ++ [] ≡ xs
-    nil_right [] = refl
-    nil_right (x ∷ xs) = ap (λ r. x ∷ r) (nil_right xs)
+ascii_digits (x ∷ xs) ys a b = let p = digits_parts x xs a in IsAscii-cons x (xs ++ ys) (small_digit x p.0) (ascii_digits xs ys p.1 b)
 
 module _ (s : Bool) (w f : List ℕ) (h : Digits w) (g : Digits f) where
   abbrev text : List ℕ
@@ -150,12 +123,8 @@ integer_is s w h = ap is_digits (unsigned_written s (without_leading_zeros w) []
     some [] a = refl
     some (x ∷ xs) a = list_all-append is_ascii_digit (x ∷ xs) [] ∙ and_true (list_all is_ascii_digit (x ∷ xs)) true a refl
 
-digits_of : (xs : List ℕ) → is_digits xs ≡ true → Digits xs
-digits_of [] e = refl
-digits_of (x ∷ xs) e = e
-
 pub decimal_parts : (text : List ℕ) → is_decimal text ≡ true → Digits (whole text) × Digits (fraction text)
-decimal_parts text e = and_parts (list_all is_ascii_digit (whole text)) (list_all is_ascii_digit (fraction text)) (sym (list_all-append is_ascii_digit (whole text) (fraction text)) ∙ digits_of (whole text ++ fraction text) e)
+decimal_parts text e = and_parts (list_all is_ascii_digit (whole text)) (list_all is_ascii_digit (fraction text)) (sym (list_all-append is_ascii_digit (whole text) (fraction text)) ∙ all_digits (whole text ++ fraction text) e)
 
 nil_is : (xs : List ℕ) → xs ++ [] ≡ xs
 nil_is [] = refl
@@ -163,6 +132,6 @@ nil_is (x ∷ xs) = ap (λ r. x ∷ r) (nil_is xs)
 
 pub integer_parts : (text : List ℕ) → is_integer text ≡ true → Digits (whole text) × (fraction text ≡ [])
 integer_parts text e =
-    let d = digits_of (unsigned text) e in
+    let d = all_digits (unsigned text) e in
     let w : whole text ≡ unsigned text = ap (λ t. before_first (λ b. b == 46) t) (sym (nil_is (unsigned text))) ∙ point_free (unsigned text) [] d in
     (subst Digits (sym w) d, ap (λ t. after_first (λ b. b == 46) t) (sym (nil_is (unsigned text))) ∙ behind_point (unsigned text) [] d)

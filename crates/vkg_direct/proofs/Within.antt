@@ -4,7 +4,7 @@ use Rattle.std.specs.Prelude.{◌≢◌, not, position, nat_lt, if◌then◌else
 use Rattle.std.specs.List.{AllByRecursion, enumerate_from}
 use Rattle.std.proofs.lemmas.List.{length-map}
 use Rattle.std.proofs.lemmas.Option.{slice_get-map, slice_get_within}
-use Rattle.vkg_lists.proofs.Members.{each_from_recursion, recursion_from_each, Contains-from_map, Contains-cons_cases, Contains-here, Contains-none, Contains-there}
+use Rattle.vkg_lists.proofs.Members.{each_from_recursion, recursion_from_each, Contains-from_map, Contains-cons_cases, Contains-none}
 use Rattle.std.proofs.lemmas.List.Elements.{Contains-append_cases}
 use Rattle.vkg_cells.specs.declared.cell.SqlType.{SqlType}
 use Rattle.vkg_cells.specs.Order.{family}
@@ -24,6 +24,7 @@ use Rattle.vkg_direct.specs.DirectGraph.{primary_key}
 use Rattle.vkg_direct.specs.DirectMapping.{column_property, direct, direct_map, has_primary_key, key_pieces, maps_of, node_pieces, properties_of, reference_property, rule_limit, unless_keyless, within_limit}
 use Rattle.vkg_maps.specs.Within.{kinds_at, AreConditions, IsCondition, IsMapWithin, IsObjectWithin, IsPairWithin, IsWithin, piece_columns}
 use Rattle.vkg_direct.specs.Within.{DirectIsWithin}
+use Rattle.vkg_maps.proofs.Members.{in_list}
 
 -- ---- numbered elements
 
@@ -44,11 +45,6 @@ element_of n (y ∷ ys) (suc k) x e = let i : (n + 1) + k ≡ n + suc k = omega 
 
 below_place : {A : Type 0} (xs : List A) (k : ℕ) (x : A) → slice_get xs k ≡ Some x → k < length xs
 below_place xs k x e = slice_get_within xs k x e
-
-in_list : {A : Type 0} (xs : List A) (k : ℕ) (x : A) → slice_get xs k ≡ Some x → Contains xs x
-in_list [] k x e = cc
-in_list (y ∷ ys) zero x e = let f : y ≡ x = cc in subst (λ z. Contains (y ∷ ys) z) f (Contains-here y ys)
-in_list (y ∷ ys) (suc k) x e = Contains-there y ys x (in_list ys k x e)
 
 length-enumerate : {A : Type 0} (n : ℕ) (xs : List A) → length (enumerate_from n xs) ≡ length xs
 length-enumerate n [] = refl

@@ -1,5 +1,5 @@
 -- A list of tokens has one outcome.
-use Rattle.std.proofs.Common.{◌≡◌, ℕ, ◌+◌, ◌<◌, Bool, true, false, inl, inr, List, [], ◌∷◌, take, drop, refl, ap, sym, ◌∙◌, subst, arith, take-append-drop}
+use Rattle.std.proofs.Common.{◌≡◌, ℕ, ◌+◌, ◌<◌, Bool, true, false, inl, inr, List, [], ◌∷◌, Result, Ok, Err, take, drop, refl, ap, sym, ◌∙◌, subst, arith, take-append-drop}
 use Rattle.std.proofs.lemmas.Bool.{cases_lt}
 use Rattle.vkg_grammar.specs.declared.note.Note.{Note}
 use Rattle.vkg_grammar.specs.declared.parsing.ParseFault.{ParseFault}
@@ -14,6 +14,16 @@ use Rattle.vkg_grammar.proofs.Core.{spelled}
 use Rattle.vkg_grammar.proofs.Outer.{alive_front}
 use Rattle.vkg_grammar.specs.Parsing.{IsFirstDead, IsCutOff, IsTheText, Fails, NoTextAt}
 use Rattle.vkg_tokens.specs.declared.cutting.Token.{Token}
+
+-- what cuts a text gives its tokens, or one place where none begins
+pub same_tokens : {r : Result (List Token) ℕ} {ts us : List Token} → r ≡ Ok ts → r ≡ Ok us → ts ≡ us
+same_tokens e f = cc
+
+pub same_place : {r : Result (List Token) ℕ} {a b : ℕ} → r ≡ Err a → r ≡ Err b → a ≡ b
+same_place e f = cc
+
+pub not_tokens : {r : Result (List Token) ℕ} {ts : List Token} {a : ℕ} → r ≡ Ok ts → r ≡ Err a → ⊥
+not_tokens e f = cc
 
 -- the least of a kind is one
 least : (m n : ℕ) → (m < n → ⊥) → (n < m → ⊥) → m ≡ n

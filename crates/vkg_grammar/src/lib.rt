@@ -26,8 +26,8 @@ pub use check::check_ll1;
 pub use forest::{Forest, Node};
 pub use grammar::Grammar;
 pub use laws::{certificates_hold, tokens_have_one_outcome, trees_follow_rules};
-pub use note::{Act, Note};
-pub use parsing::{ParseFault, parse};
+pub use note::{Act, Note, role_in};
+pub use parsing::{ParseFault, parse, start_of};
 pub use rule::Rule;
 pub use tree::{Parsed, parse_tree};
 

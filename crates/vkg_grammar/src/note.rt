@@ -1,3 +1,5 @@
+ghost use Rattle.std.specs.Prelude.{◌≡◌, slice_get, unwrap_or};
+
 /// How a symbol is made.
 #[derive(Clone, Copy, Debug, PartialEq, Eq)]
 pub enum Act {
@@ -18,4 +20,14 @@ pub enum Act {
 pub struct Note {
     pub symbol: usize,
     pub act: Act,
+}
+
+/// What a symbol means by a table of meanings, and this one where the table has none.
+pub fn role_in<R: Copy>(roles: &[R], symbol: usize, other: R) -> R
+    ensures { result ≡ unwrap_or (slice_get roles.now symbol) other }
+{
+    match roles.get(symbol) {
+        None => other,
+        Some(role) => *role,
+    }
 }

@@ -1,7 +1,7 @@
 ghost use Rattle.std.specs.Prelude.{◌≡◌, ◌-◌, ◌*◌, ◌<◌, length, IfOk, IfErr, OnOk};
 ghost use Rattle.vkg_grammar.specs.Form.{IsShallow};
 ghost use Rattle.vkg_grammar.specs.Grammar.{IsGrammar, IsLL1};
-ghost use Rattle.vkg_grammar.specs.Kinds.{kinds_of, AreBelow};
+ghost use Rattle.vkg_grammar.specs.Kinds.{kinds_of, start_at, AreBelow};
 ghost use Rattle.vkg_grammar.specs.Rank.{rank_in, IsTable};
 ghost use Rattle.vkg_grammar.specs.declared.parsing.ParseFault.TheVariants.{Memory};
 ghost use Rattle.vkg_grammar.specs.Parsing.{IsTheText, Stops, Fails};
@@ -42,6 +42,14 @@ impl<T: Drop> From<AllocFailed<T>> for ParseFault {
     fn from(_: AllocFailed<T>) -> ParseFault {
         ParseFault::Memory
     }
+}
+
+/// Where a token begins that a fault names.
+pub fn start_of(tokens: &[Token], index: usize) -> usize
+    requires { index < length tokens.now }
+    ensures { result ≡ start_at tokens.now index }
+{
+    tokens[index].start
 }
 
 // The notes of the text, by a table of the grammar.

@@ -16,7 +16,7 @@ use Rattle.vkg_maps.specs.LeastFault.{IsDataFault, IsLeastFault, Precedes, Finds
 
 -- ---- numbered elements
 
-at_least : {X : Type 0} (n : ℕ) (xs : List X) (p : ℕ × X) → Contains (enumerate_from n xs) p → n ≤ p.0
+pub at_least : {X : Type 0} (n : ℕ) (xs : List X) (p : ℕ × X) → Contains (enumerate_from n xs) p → n ≤ p.0
 at_least n [] p h = absurd (Contains-none p h)
 at_least n (x ∷ xs) p h = elim (Contains-cons_cases (n, x) (enumerate_from (n + 1) xs) p h) [
   | inl e ↦ let i : n ≡ p.0 = ap (λ q. q.0) e in omega (arith, i)

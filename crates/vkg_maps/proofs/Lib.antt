@@ -1,2 +1,4 @@
 pub mod Quads
 pub mod LeastFault
+pub mod Company
+pub mod Members

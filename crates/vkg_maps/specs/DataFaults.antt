@@ -12,6 +12,7 @@ use Rattle.vkg_maps.specs.declared.mapping.TriplesMap.{TriplesMap}
 use Rattle.vkg_maps.specs.declared.mapping.ObjectMap.{ObjectMap}
 use Rattle.vkg_maps.specs.declared.mapping.ObjectMap.TheVariants as object
 use Rattle.vkg_maps.specs.Terms.{Made, term_of}
+use Rattle.vkg_maps.specs.declared.mapping.PredicateObjectMap.{PredicateObjectMap}
 
 -- the numbers of the checks, as in the fault codes X01, X02 and X03
 abbrev pub check_of : TermFault → ℕ
@@ -24,9 +25,13 @@ abbrev pub asked : ObjectMap → Option TermMap
 asked (object.Term t) = Some t
 asked (object.Parent parent conditions) = None
 
+-- the term maps of a predicate-object map: its predicates, objects and graphs
+abbrev pub pair_maps : PredicateObjectMap → List (Option TermMap)
+pair_maps po = map Some po.predicates ++ map asked po.objects ++ map Some po.graphs
+
 -- own: the subject map, its graph maps, then of each predicate-object map its predicates, objects and graphs
 abbrev pub term_maps : TriplesMap → List (Option TermMap)
-term_maps m = Some m.subject ∷ map Some m.graphs ++ flat_map (λ po. map Some po.predicates ++ map asked po.objects ++ map Some po.graphs) m.predicate_objects
+term_maps m = Some m.subject ∷ map Some m.graphs ++ flat_map pair_maps m.predicate_objects
 
 abbrev pub fault_of : Made → List TermFault
 fault_of (Ok t) = []

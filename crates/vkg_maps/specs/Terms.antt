@@ -7,7 +7,7 @@ use Rattle.vkg_terms.specs.declared.term.Annotation.TheVariants.{Typed}
 use Rattle.vkg_terms.specs.Safe.{safe}
 use Rattle.vkg_terms.specs.Iri.{is_absolute}
 use Rattle.vkg_terms.specs.Label.{blank_label}
-use Rattle.vkg_cells.specs.Form.{lexical_form}
+use Rattle.vkg_cells.specs.Form.{lexical_form, joined}
 use Rattle.vkg_cells.specs.WellTyped.{is_well_typed, is_too_wide}
 use Rattle.vkg_schema.specs.Rows.{Row, cell_at}
 use Rattle.vkg_maps.specs.declared.term_map.TermMap.{TermMap}
@@ -28,11 +28,6 @@ abbrev pub put : TermType → List ℕ → List ℕ
 put sort.Iri text = safe text
 put sort.Blank text = text
 put (sort.Literal annotation) text = text
-
--- two texts after each other, where both are there
-abbrev pub joined : Option (List ℕ) → Option (List ℕ) → Option (List ℕ)
-joined (Some a) (Some b) = Some (a ++ b)
-joined a b = None
 
 abbrev pub piece_text : TermType → Row → Piece → Option (List ℕ)
 piece_text type row (piece.Fixed text) = Some text

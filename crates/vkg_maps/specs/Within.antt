@@ -1,11 +1,9 @@
 -- A mapping whose tables, columns and parents are those of a schema.
-use Rattle.std.specs.Prelude.{◌≡◌, ℕ, ◌<◌, Bool, false, IsFalse, ◌&&◌, List, [], ◌∷◌, flat_map, map, length, IfSome, option_map, slice_get, unwrap_or}
+use Rattle.std.specs.Prelude.{◌≡◌, ℕ, ◌<◌, Bool, false, IsFalse, List, [], ◌∷◌, flat_map, map, length, IfSome, option_map, slice_get, unwrap_or}
 use Rattle.std.specs.List.{AllByRecursion}
-use Rattle.vkg_terms.specs.declared.term.Term.TheVariants.{Lit}
-use Rattle.vkg_terms.specs.declared.term.Annotation.TheVariants.{Typed}
 use Rattle.vkg_cells.specs.declared.cell.SqlType.{SqlType}
 use Rattle.vkg_cells.specs.Order.{family}
-use Rattle.vkg_cells.specs.WellTyped.{is_well_typed, is_too_wide}
+use Rattle.vkg_cells.specs.WellTyped.{is_wide_number}
 use Rattle.vkg_schema.specs.declared.table.Table.{Table}
 use Rattle.vkg_schema.specs.Meets.{Below}
 use Rattle.vkg_maps.specs.declared.term_map.TermMap.{TermMap}
@@ -36,7 +34,7 @@ term_columns (from.Template pieces type) = flat_map piece_columns pieces
 
 -- own: a constant that is a number of more digits than this project computes with
 abbrev pub is_wide_constant : TermMap → Bool
-is_wide_constant (from.Constant (Lit text (Typed datatype))) = is_well_typed datatype text && is_too_wide datatype text
+is_wide_constant (from.Constant c) = is_wide_number c
 is_wide_constant t = false
 
 -- a term map over rows of these kinds: its columns are there, and its constant is no such number

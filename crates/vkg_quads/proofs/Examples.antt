@@ -6,9 +6,8 @@ use Rattle.std.specs.Fmt.{digits}
 use Rattle.vkg_terms.specs.declared.term.Term.TheVariants.{Iri}
 use Rattle.vkg_terms.specs.declared.term.Annotation.TheVariants.{Plain, Typed}
 use Rattle.vkg_terms.specs.Vocabulary.{xsd}
-use Rattle.vkg_cells.specs.declared.cell.Cell.{Cell}
 use Rattle.vkg_cells.specs.declared.cell.Cell.TheVariants as cell
-use Rattle.vkg_schema.specs.Rows.{Row, Database, equal_at, is_known}
+use Rattle.vkg_schema.specs.Rows.{equal_at, is_known}
 use Rattle.vkg_maps.specs.declared.mapping.Mapping.{Mapping}
 use Rattle.vkg_maps.specs.declared.mapping.PredicateObjectMap.{PredicateObjectMap}
 use Rattle.vkg_maps.specs.declared.mapping.ObjectMap.{ObjectMap}
@@ -21,37 +20,12 @@ use Rattle.vkg_maps.specs.declared.data_fault.TermFault.TheVariants.{NotIri, Ill
 use Rattle.vkg_maps.specs.DataFaults.{least_data_fault}
 use Rattle.vkg_maps.specs.Dataset.{dataset}
 use Rattle.vkg_quads.specs.Dump.{dump}
+use Rattle.vkg_maps.proofs.Company.{int, text, db, base, i_text, a_text}
 
 -- what the examples compute with
 unfoldable opened : Unit {0}
 unfolding chars encode_utf8 digits equal_at is_known
 opened = tt
-
-abbrev int : List ℕ → Cell
-int text = cell.Int text
-
-abbrev text : List ℕ → Cell
-text t = cell.Text t
-
-abbrev dept_rows : List Row
-dept_rows = (int (codes "1") ∷ text (codes "Ore") ∷ []) ∷ (int (codes "2") ∷ cell.Null ∷ []) ∷ []
-
-abbrev emp_rows : List Row
-emp_rows = (int (codes "7") ∷ text (codes "Ann") ∷ int (codes "1") ∷ [])
-    ∷ (int (codes "8") ∷ text (codes "Bo") ∷ cell.Null ∷ [])
-    ∷ (int (codes "9") ∷ text (codes "Ann") ∷ int (codes "1") ∷ []) ∷ []
-
-abbrev db : Database
-db = dept_rows ∷ emp_rows ∷ []
-
-abbrev base : List ℕ
-base = codes "http://e/"
-
-abbrev i_text : List ℕ
-i_text = codes "<http://www.w3.org/2001/XMLSchema#integer>"
-
-abbrev a_text : List ℕ
-a_text = codes "<http://www.w3.org/1999/02/22-rdf-syntax-ns#type>"
 
 abbrev iri : List ℕ → TermMap
 iri name = from.Constant (Iri (codes "http://e/" ++ name))

@@ -12,9 +12,8 @@ use Rattle.vkg_terms.specs.NQuads.{Quad, line}
 use Rattle.vkg_cells.specs.declared.cell.Cell.{Cell}
 use Rattle.vkg_cells.specs.declared.cell.Cell.TheVariants as cell
 use Rattle.vkg_cells.specs.Order.{same}
-use Rattle.vkg_cells.specs.Form.{bool_form}
+use Rattle.vkg_cells.specs.Form.{bool_form, joined}
 use Rattle.vkg_schema.specs.Rows.{Row, cell_at, is_known_true, equal_at, agree}
-use Rattle.vkg_maps.specs.Terms.{joined}
 use Rattle.vkg_quads.specs.Keys.{key_part, row_key, has_key, is_key}
 
 abbrev Part : Cell → Cell → Type 0

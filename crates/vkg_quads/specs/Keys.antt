@@ -3,9 +3,8 @@ use Rattle.std.specs.Prelude.{ℕ, Bool, false, List, [], ◌∷◌, ◌++◌, O
 use Rattle.std.specs.Str.{bytes_eq}
 use Rattle.vkg_cells.specs.declared.cell.Cell.{Cell}
 use Rattle.vkg_cells.specs.declared.cell.Cell.TheVariants as cell
-use Rattle.vkg_cells.specs.Form.{lexical_form}
+use Rattle.vkg_cells.specs.Form.{lexical_form, joined}
 use Rattle.vkg_schema.specs.Rows.{Row, cell_at}
-use Rattle.vkg_maps.specs.Terms.{joined}
 
 -- equal cells have equal parts; NULL has none
 abbrev pub key_part : Cell → Option (List ℕ)

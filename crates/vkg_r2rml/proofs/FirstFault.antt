@@ -21,13 +21,7 @@ use Rattle.vkg_r2rml.specs.Mapping.{fault, map_limit, in_front, in_order, of_map
 use Rattle.vkg_r2rml.specs.Faults.{OnTriplesMap, Precedes, IsLeastFault, IsFaultless, IsFaultOf, IsLeast, no_map, many_maps, least, many_rules}
 use Rattle.vkg_r2rml.proofs.Least.{AnswersLeast}
 use Rattle.vkg_r2rml.proofs.LeastFault.{on_triples_map}
-
-at_least : {X : Type 0} (n : ℕ) (xs : List X) (p : ℕ × X) → Contains (enumerate_from n xs) p → n ≤ p.0
-at_least n [] p h = absurd (Contains-none p h)
-at_least n (x ∷ xs) p h = elim (Contains-cons_cases (n, x) (enumerate_from (n + 1) xs) p h) [
-  | inl e ↦ let i : n ≡ p.0 = ap (λ q. q.0) e in omega (arith, i)
-  | inr c ↦ let l : n + 1 ≤ p.0 = at_least (n + 1) xs p c in omega (arith, l)
-]
+use Rattle.vkg_maps.proofs.LeastFault.{at_least}
 
 ok_err : {A E : Type 0} (a : A) (f : E) → ◌≡◌ {A = Result A E} (Ok a) (Err f) → ⊥
 ok_err a f e = cc

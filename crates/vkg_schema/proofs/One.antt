@@ -3,7 +3,7 @@ use Rattle.std.proofs.Common.{◌≡◌, ℕ, List, [], ◌∷◌, Result, Ok, E
 use Rattle.vkg_grammar.specs.declared.note.Note.{Note}
 use Rattle.vkg_grammar.specs.Grammar.{Derives}
 use Rattle.vkg_grammar.specs.Parsing.{NoTextAt}
-use Rattle.vkg_grammar.proofs.Outcomes.{no_text as no_text_at, one_place}
+use Rattle.vkg_grammar.proofs.Outcomes.{same_tokens, same_place, not_tokens, no_text as no_text_at, one_place}
 use Rattle.vkg_tokens.specs.declared.cutting.Token.{Token}
 use Rattle.vkg_ddl.specs.declared.grammar_table.TheConstants.{DDL}
 use Rattle.vkg_ddl.specs.declared.written.WrittenTable.{WrittenTable}
@@ -16,15 +16,6 @@ use Rattle.vkg_schema.specs.declared.table.Table.{Table}
 use Rattle.vkg_tokens.specs.Mark.{without_mark}
 use Rattle.vkg_schema.specs.Reading.{IsSchemaText, IsFaultOf, fault, no_utf8, no_token, no_text, no_schema, IsDetermined}
 use Rattle.vkg_schema.specs.Resolve.{schema_of}
-
-same_tokens : {r : Result (List Token) ℕ} {ts us : List Token} → r ≡ Ok ts → r ≡ Ok us → ts ≡ us
-same_tokens e f = cc
-
-same_place : {r : Result (List Token) ℕ} {a b : ℕ} → r ≡ Err a → r ≡ Err b → a ≡ b
-same_place e f = cc
-
-not_tokens : {r : Result (List Token) ℕ} {ts : List Token} {a : ℕ} → r ≡ Ok ts → r ≡ Err a → ⊥
-not_tokens e f = cc
 
 one_text : {text : List ℕ} {d e : List WrittenTable} → Says text d → Says text e → d ≡ e
 one_text {text = text} a b =

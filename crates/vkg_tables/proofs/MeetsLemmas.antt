@@ -13,6 +13,7 @@ use Rattle.vkg_tables.proofs.Places.{first_fault, first_table, first_table-first
 use Rattle.vkg_tables.specs.Seen.{HoldsCells}
 use Rattle.vkg_tables.specs.declared.fault.TableFault.{TableFault}
 use Rattle.vkg_tables.proofs.PartsLemmas.{any-push}
+use Rattle.vkg_schema.proofs.Found.{all_weaken}
 
 neither : (a b : Bool) → a || b ≡ false → (a ≡ false) × (b ≡ false)
 neither false b e = (refl, e)
@@ -81,10 +82,6 @@ no-first : (a b : Option TableFault) → first_fault a b ≡ None → (a ≡ Non
 no-first None b e = (refl, e)
 no-first (Some p) b e = cc e
 
-weaker : {X : Type 0} (P Q : X → Type 0) (xs : List X) → ((x : X) → P x → Q x) → AllByRecursion P xs → AllByRecursion Q xs
-weaker P Q [] f h = tt
-weaker P Q (x ∷ xs) f h = (f x h.0, weaker P Q xs f h.1)
-
 meets : (all : List (List Row)) (n : ℕ) (ts : List Table) (dbs : List (List Row)) → HoldsCells ts dbs
     → first_table 9 (λ t rows. slice_get (repeated_keys t rows) 0) n ts dbs ≡ None → first_table 10 (λ t rows. slice_get (broken_references all t rows) 0) n ts dbs ≡ None → AllZip (TableMeets all) ts dbs
 meets all n [] [] h k r = tt
@@ -97,8 +94,8 @@ meets all n (t ∷ ts) (rows ∷ dbs) h k r =
     let ref_none = least_place-first (λ reference before row. is_orphan reference.pairs (rows_of all reference.table) row) t.references rows ∙ no-map (table_fault 10 n) (slice_get (broken_references all t rows) 0) refs.0 in (
       record {
         cells = h.0;
-        keys = weaker _ (λ key. KeyHolds key rows) t.keys (λ key e. key-holds key rows e) (no-place (λ key. first_repeat key.columns rows) 1 t.keys key_none);
-        references = weaker _ (ReferenceHolds all rows) t.references (λ ref e. reference-holds all rows ref e) (no-place (λ ref. first_orphan ref.pairs (rows_of all ref.table) rows) 1 t.references ref_none);
+        keys = all_weaken _ (λ key. KeyHolds key rows) t.keys (λ key e. key-holds key rows e) (no-place (λ key. first_repeat key.columns rows) 1 t.keys key_none);
+        references = all_weaken _ (ReferenceHolds all rows) t.references (λ ref e. reference-holds all rows ref e) (no-place (λ ref. first_orphan ref.pairs (rows_of all ref.table) rows) 1 t.references ref_none);
       },
       meets all (n + 1) ts dbs h.1 keys.1 refs.1,
     )

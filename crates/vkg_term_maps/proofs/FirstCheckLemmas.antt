@@ -32,8 +32,9 @@ use Rattle.vkg_term_maps.specs.declared.term_type.Sort.{Sort}
 use Rattle.vkg_term_maps.specs.declared.term_type.Sort.TheVariants as sort
 use Rattle.vkg_term_maps.specs.declared.term_type.Properties.{Properties}
 use Rattle.vkg_term_maps.specs.Columns.{column_of}
-use Rattle.vkg_term_maps.specs.TermMaps.{Gives, is_annotated, is_wide_number, sort_of, annotation_of, literal_of, type_of, with_type, constant, natural_at, column_map, piece_of, onto, pieces_of, by_standing, of_pieces, template_map, of_kind, kind_at, properties, no_properties, term_map_of}
+use Rattle.vkg_term_maps.specs.TermMaps.{Gives, is_annotated, sort_of, annotation_of, literal_of, type_of, with_type, constant, natural_at, column_map, piece_of, onto, pieces_of, by_standing, of_pieces, template_map, of_kind, kind_at, properties, no_properties, term_map_of}
 use Rattle.vkg_term_maps.specs.FirstCheck.{annotates_badly, is_doubtful, names_unknown, makes_doubtful, failing, failing_checks, IsFirst}
+use Rattle.vkg_cells.specs.WellTyped.{is_wide_number}
 
 abbrev FirstOf : List TermMapFault → Result TermMap TermMapFault → Type 0
 FirstOf faults (Ok map) = faults ≡ []

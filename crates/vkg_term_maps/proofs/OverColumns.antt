@@ -1,5 +1,5 @@
 -- The term maps of a mapping graph are over the columns that they are read over.
-use Rattle.std.proofs.Common.{◌≡◌, ◌∙◌, ℕ, ◌<◌, Bool, true, false, cond, List, [], ◌∷◌, map, length, nat_lt, refl, sym, subst, arith}
+use Rattle.std.proofs.Common.{◌≡◌, ℕ, ◌<◌, Bool, true, false, cond, List, [], ◌∷◌, map, length, nat_lt, refl, sym, subst, arith}
 use Rattle.std.specs.Prelude.{Option, Some, None, option_map, Result, Ok, Err, flat_map, position}
 use Rattle.std.specs.List.{position_or_len}
 use Rattle.std.proofs.lemmas.List.{length-map}
@@ -8,8 +8,7 @@ use Rattle.vkg_terms.specs.declared.template.Part.TheVariants as part
 use Rattle.vkg_terms.specs.declared.template.Standing.{Standing}
 use Rattle.vkg_terms.specs.declared.template.Standing.TheVariants as stands
 use Rattle.vkg_terms.specs.declared.term.Term.{Term}
-use Rattle.vkg_terms.specs.declared.term.Term.TheVariants.{Iri, Blank, Lit}
-use Rattle.vkg_terms.specs.declared.term.Annotation.TheVariants.{Plain, Lang, Typed}
+use Rattle.vkg_terms.specs.declared.term.Term.TheVariants.{Iri, Blank}
 use Rattle.vkg_terms.specs.Name.{template_read}
 use Rattle.vkg_terms.specs.TemplateParts.{standing}
 use Rattle.vkg_cells.specs.declared.cell.SqlType.{SqlType}
@@ -32,8 +31,9 @@ use Rattle.vkg_term_maps.specs.declared.term_type.Properties.{Properties}
 use Rattle.vkg_term_maps.specs.declared.term_type.Sort.{Sort}
 use Rattle.vkg_term_maps.specs.declared.term_type.Sort.TheVariants as sort
 use Rattle.vkg_term_maps.specs.Columns.{column_of, means}
-use Rattle.vkg_term_maps.specs.TermMaps.{by_standing, column_map, constant, constant_map, is_wide_number, kind_at, no_properties, of_kind, of_pieces, onto, piece_of, pieces_of, properties, template_map, term_map_of, with_type}
-use Rattle.vkg_maps.specs.Within.{IsOver, is_wide_constant, piece_columns}
+use Rattle.vkg_term_maps.specs.TermMaps.{by_standing, column_map, constant, constant_map, kind_at, no_properties, of_kind, of_pieces, onto, piece_of, pieces_of, properties, template_map, term_map_of, with_type}
+use Rattle.vkg_maps.specs.Within.{IsOver, piece_columns}
+use Rattle.vkg_cells.specs.WellTyped.{is_wide_number}
 
 module _ {A : Type 0} where
   -- a place is within the list
@@ -58,13 +58,6 @@ module _ (columns : List Column) where
   as_kinds : (n : ℕ) → n < length columns → n < length (kinds columns)
   as_kinds n l = subst (λ m. n < m) (sym (length-map columns (λ (c : Column). c.kind))) l
 
-  wide_same : (c : Term) → is_wide_constant (from.Constant c) ≡ is_wide_number c
-  wide_same (Iri s) = refl
-  wide_same (Blank s) = refl
-  wide_same (Lit s Plain) = refl
-  wide_same (Lit s (Lang tag)) = refl
-  wide_same (Lit s (Typed d)) = refl
-
   over_constant : (c : Term) (t : TermMap) → constant_map c ≡ Ok t → Over t
   over_constant c t e = of (is_wide_number c) refl e
     where
@@ -72,7 +65,7 @@ module _ (columns : List Column) where
       of true w e = cc
       of false w e =
           let same : from.Constant c ≡ t = cc in
-          subst Over same (record { columns = tt; narrow = wide_same c ∙ w })
+          subst Over same (record { columns = tt; narrow = w })
 
   over_typed : (made : TermType → TermMap) → ((y : TermType) → Over (made y)) → (r : Result TermType TermMapFault) (t : TermMap) → with_type made r ≡ Ok t → Over t
   over_typed made h (Ok y) t e = let same : made y ≡ t = cc in subst Over same (h y)

@@ -24,7 +24,8 @@ use Rattle.vkg_term_maps.specs.declared.term_type.Sort.{Sort}
 use Rattle.vkg_term_maps.specs.declared.term_type.Sort.TheVariants as sort
 use Rattle.vkg_term_maps.specs.declared.term_type.Properties.{Properties}
 use Rattle.vkg_term_maps.specs.Columns.{column_of}
-use Rattle.vkg_term_maps.specs.TermMaps.{constant, kind_at, properties, no_properties, is_annotated, sort_of, annotation_of, is_wide_number, piece_of}
+use Rattle.vkg_term_maps.specs.TermMaps.{constant, kind_at, properties, no_properties, is_annotated, sort_of, annotation_of, piece_of}
+use Rattle.vkg_cells.specs.WellTyped.{is_wide_number}
 
 -- R2RML, 7.3: a name of a template is that of no column; a bad template has no columns
 abbrev pub names_unknown : List Column → Option (List Part) → Bool

@@ -12,9 +12,9 @@ use Rattle.vkg_terms.specs.declared.template.Standing.{Standing}
 use Rattle.vkg_terms.specs.declared.template.Standing.TheVariants as stands
 use Rattle.vkg_terms.specs.Name.{template_read}
 use Rattle.vkg_terms.specs.TemplateParts.{standing}
-use Rattle.vkg_terms.specs.Vocabulary.{xsd_string}
+use Rattle.vkg_terms.specs.Vocabulary.{xsd_string, rdf_lang_string}
 use Rattle.vkg_cells.specs.Form.{natural}
-use Rattle.vkg_cells.specs.WellTyped.{is_well_typed, is_too_wide}
+use Rattle.vkg_cells.specs.WellTyped.{is_wide_number}
 use Rattle.vkg_schema.specs.declared.table.Column.{Column}
 use Rattle.vkg_maps.specs.declared.term_map.TermMap.{TermMap}
 use Rattle.vkg_maps.specs.declared.term_map.TermMap.TheVariants as from
@@ -38,7 +38,7 @@ use Rattle.vkg_term_maps.specs.declared.kind.Kind.TheVariants as kind
 use Rattle.vkg_term_maps.specs.declared.term_type.Sort.{Sort}
 use Rattle.vkg_term_maps.specs.declared.term_type.Sort.TheVariants as sort
 use Rattle.vkg_term_maps.specs.declared.term_type.Properties.{Properties}
-use Rattle.vkg_term_maps.specs.Vocabulary.{rr, rdf_lang_string}
+use Rattle.vkg_term_maps.specs.Vocabulary.{rr}
 use Rattle.vkg_term_maps.specs.Graph.{objects}
 use Rattle.vkg_term_maps.specs.Columns.{column_of}
 use Rattle.vkg_term_maps.specs.Languages.{is_language_tag}
@@ -165,10 +165,6 @@ type_of default p (Some sort.Literal) = literal_of (annotation_of default p.lang
 -- ---- R2RML, 7: the term map
 
 -- a limit of this project: a number has at most 38 digits that count
-abbrev pub is_wide_number : Term → Bool
-is_wide_number (term.Lit text (Typed datatype)) = is_well_typed datatype text && is_too_wide datatype text
-is_wide_number t = false
-
 abbrev pub constant_map : Term → Result TermMap TermMapFault
 constant_map t = if is_wide_number t then Err fault.WideNumber else Ok (from.Constant t)
 

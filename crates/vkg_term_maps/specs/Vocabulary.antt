@@ -6,10 +6,6 @@ use Rattle.vkg_term_maps.specs.declared.place.Role.TheVariants.{Subject, Predica
 abbrev pub rr : List ℕ → List ℕ
 rr name = codes "http://www.w3.org/ns/r2rml#" ++ name
 
--- RDF 1.1 Concepts, 3.3: the datatype of literals with a language tag
-abbrev pub rdf_lang_string : List ℕ
-rdf_lang_string = codes "http://www.w3.org/1999/02/22-rdf-syntax-ns#langString"
-
 -- R2RML, 7.1: the constant shortcut property of a role
 abbrev pub shortcut : Role → List ℕ
 shortcut Subject = rr (codes "subject")

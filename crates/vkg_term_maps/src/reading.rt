@@ -1,7 +1,6 @@
-ghost use Rattle.std.specs.Prelude.{◌≡◌, ◌&&◌, IfOk};
-ghost use Rattle.vkg_cells.specs.WellTyped.{is_too_wide as too_wide, is_well_typed as well_typed};
+ghost use Rattle.std.specs.Prelude.{◌≡◌, IfOk};
 ghost use Rattle.vkg_term_maps.specs.FirstCheck.{IsFirst, failing_checks};
-ghost use Rattle.vkg_term_maps.specs.TermMaps.{Gives, column_map as map_of_column, constant_map as map_of_constant, is_wide_number as wide_number, natural_at as natural_of_column, of_kind as map_of_kind, term_map_of};
+ghost use Rattle.vkg_term_maps.specs.TermMaps.{Gives, column_map as map_of_column, constant_map as map_of_constant, natural_at as natural_of_column, of_kind as map_of_kind, term_map_of};
 
 use crate::columns::column_of;
 use crate::error::{TermMapError, TermMapFault};
@@ -12,7 +11,7 @@ use crate::template_map::template_map;
 use crate::term_type::{Properties, sort_of, type_of};
 use std::alloc::Global;
 use vkg_base::Memory;
-use vkg_cells::{is_too_wide, is_well_typed, natural};
+use vkg_cells::{is_wide_number, natural};
 use vkg_maps::TermMap;
 use vkg_schema::Column;
 use vkg_terms::{Annotation, Term};
@@ -91,23 +90,6 @@ fn constant_map(term: Term) -> Result<TermMap, TermMapError>
     } else {
         Ok(TermMap::Constant(term))
     }
-}
-
-fn is_wide_number(term: &Term) -> bool
-    ensures { result ≡ wide_number term.now }
-{
-    match term {
-        Term::Lit(text, Annotation::Typed(datatype)) => {
-            is_wide(datatype.iri().as_str(), text.as_str())
-        }
-        _ => false,
-    }
-}
-
-fn is_wide(datatype: &str, text: &str) -> bool
-    ensures { result ≡ (well_typed datatype.now text.now && too_wide datatype.now text.now) }
-{
-    is_well_typed(datatype, text) && is_too_wide(datatype, text)
 }
 
 /// A column-valued term map (R2RML, 7.2).

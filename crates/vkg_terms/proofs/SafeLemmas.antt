@@ -72,11 +72,11 @@ decode-safe text u = decode-characters (chars text) (scalars-chars text u) ∙ e
 pub safe_same : (a b : List ℕ) → IsUtf8 a → IsUtf8 b → safe a ≡ safe b → a ≡ b
 safe_same a b u v e = sym (decode-safe a u) ∙ ap percent_decode e ∙ decode-safe b v
 
-abbrev plain : ℕ → Bool
+abbrev pub plain : ℕ → Bool
 plain x = is_safe_character x && nat_lt x 128
 
 -- an octet's escape holds only ASCII that is iunreserved or `%`
-plain_percent : (b : ℕ) → b < 256 → list_all plain (percent b) ≡ true
+pub plain_percent : (b : ℕ) → b < 256 → list_all plain (percent b) ≡ true
 plain_percent = use_below 256 (λ b. list_all plain (percent b)) refl
 
 plain_percents : (bs : List ℕ) → list_all (λ b. nat_lt b 256) bs ≡ true → list_all plain (flat_map percent bs) ≡ true

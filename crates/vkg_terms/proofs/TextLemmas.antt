@@ -38,7 +38,7 @@ written : (c : ℕ) → Written c (escaped c)
 written c = written_by c _ _ _ _ _ refl refl refl refl refl
 
 -- what begins with this ASCII octet begins with this character
-starts : (c b : ℕ) (rest more : List ℕ) → b < 128 → b ∷ more ≡ encode c ++ rest → c ≡ b
+pub starts : (c b : ℕ) (rest more : List ℕ) → b < 128 → b ∷ more ≡ encode c ++ rest → c ≡ b
 starts c b rest more h e = char_from_byte (b ∷ more) rest c e (omega arith) (omega arith)
 
 written_same : (c d : ℕ) (v w x y : List ℕ) → Written c v → Written d w → v ++ x ≡ w ++ y → (c ≡ d) × (x ≡ y)

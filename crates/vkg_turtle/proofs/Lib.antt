@@ -6,4 +6,3 @@ pub mod Failing
 pub mod Lasts
 pub mod Meaning
 pub mod One
-pub mod Steps

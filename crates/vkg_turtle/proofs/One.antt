@@ -5,7 +5,7 @@ use Rattle.vkg_grammar.specs.Form.{IsTooDeep, IsShallow}
 use Rattle.vkg_grammar.specs.Grammar.{Derives}
 use Rattle.vkg_grammar.specs.Kinds.{kinds_of, start_at}
 use Rattle.vkg_grammar.specs.Parsing.{NoTextAt}
-use Rattle.vkg_grammar.proofs.Outcomes.{not_deep, one_deep, no_text as no_text_at, one_place}
+use Rattle.vkg_grammar.proofs.Outcomes.{same_tokens, same_place, not_tokens, not_deep, one_deep, no_text as no_text_at, one_place}
 use Rattle.vkg_tokens.specs.declared.cutting.Token.{Token}
 use Rattle.vkg_turtle.specs.declared.document.Document.{Document}
 use Rattle.vkg_turtle.specs.declared.grammar_table.TheConstants.{TURTLE}
@@ -15,15 +15,6 @@ use Rattle.vkg_turtle.specs.Document.{document_of, begun, triples_of}
 use Rattle.vkg_turtle.specs.Words.{lexemes_of}
 use Rattle.vkg_tokens.specs.Mark.{without_mark}
 use Rattle.vkg_turtle.specs.Reading.{turtle, fault, fault_of, Says, IsTooDeepText, IsNoText, IsDocumentText, IsFaultOf, no_utf8, no_token, too_deep, no_text, no_document, IsDetermined}
-
-same_tokens : {r : Result (List Token) ℕ} {ts us : List Token} → r ≡ Ok ts → r ≡ Ok us → ts ≡ us
-same_tokens e f = cc
-
-same_place : {r : Result (List Token) ℕ} {a b : ℕ} → r ≡ Err a → r ≡ Err b → a ≡ b
-same_place e f = cc
-
-not_tokens : {r : Result (List Token) ℕ} {ts : List Token} {a : ℕ} → r ≡ Ok ts → r ≡ Err a → ⊥
-not_tokens e f = cc
 
 one_said : {text base : List ℕ} {d e : Document} → Says text base d → Says text base e → d ≡ e
 one_said {text = text} {base = base} a b =

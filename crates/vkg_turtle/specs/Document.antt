@@ -41,10 +41,13 @@ namespace name (p ∷ ps) = if bytes_eq name p.0 then Some p.1 else namespace na
 
 -- 6.3, 7.2, IRIREF, PNAME_NS and PNAME_LN: a reference is resolved against the base, a name is what its prefix stands for and
 -- then its local part
+abbrev pub iri_named : Word → List ℕ → List (List ℕ × List ℕ) → Option (List ℕ)
+iri_named (Reference text) base prefixes = Some (resolve base text)
+iri_named (Name prefix local) base prefixes = option_map (λ iri. iri ++ local) (namespace prefix prefixes)
+iri_named w base prefixes = None
+
 abbrev pub iri_of : Word → Document → Option (List ℕ)
-iri_of (Reference text) d = Some (resolve d.base text)
-iri_of (Name prefix local) d = option_map (λ iri. iri ++ local) (namespace prefix d.prefixes)
-iri_of w d = None
+iri_of w d = iri_named w d.base d.prefixes
 
 -- RDF 1.1 Concepts, 3.3: a literal of xsd:string is a plain one
 abbrev pub annotation_of_type : List ℕ → Annotation

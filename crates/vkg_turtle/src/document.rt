@@ -1,17 +1,17 @@
-ghost use Rattle.std.specs.Prelude.{◌≡◌, ◌++◌, codes, IfOk, OnOk, option_map, unwrap_or, []};
-ghost use Rattle.std.specs.Option.{option_copied};
+ghost use Rattle.std.specs.Prelude.{◌≡◌, ◌++◌, codes, IfOk, OnOk, unwrap_or, []};
 ghost use Rattle.vkg_terms.specs.declared.term.Term.TheVariants.{Iri};
 ghost use Rattle.vkg_turtle.specs.Document.{begun, annotation_of_type, iri_of, iri_text, typed, term_of, noted_iri, noted, node_at, with_object, annotated, annotated_triple, with_annotation, outer_of, opened, restored, last_of, prefix_of, text_of_tag, with_subject, with_outer, act};
 ghost use Rattle.vkg_turtle.specs.declared.role.Role.TheVariants.{PrefixName, PrefixIri, BaseIri, Subject, Verb, Object, Datatype, Language};
 
 use crate::lexeme::{Lexeme, Word};
+use crate::names::{iri_named, prefix_of};
 use crate::prefixes::Prefixes;
 use crate::role::Role;
 use crate::triple::Triple;
 use itoa::Buffer;
 use std::alloc::Global;
 use vkg_base::{Items, Memory, Text, earlier};
-use vkg_terms::{Annotation, Term, is_absolute, resolve};
+use vkg_terms::{Annotation, Term, is_absolute};
 
 /// A subject and a predicate, kept while the node of a bracket is the subject.
 #[derive(Drop)]
@@ -53,18 +53,6 @@ fn no_iri(alloc: Global) -> Result<Term, Memory>
     Ok(Term::Iri(Text::new(alloc, "")?))
 }
 
-// What a prefix stands for, and a local part.
-fn joined(alloc: Global, namespace: Option<&Text>, local: &Text) -> Result<Option<Text>, Memory>
-    ensures { IfOk result (λ o. o ≡ option_map (λ iri. iri ++ local.now) (option_copied namespace.entry)) }
-{
-    let Some(namespace) = namespace else {
-        return Ok(None);
-    };
-    let mut iri = String::from_str(alloc, namespace.as_str())?;
-    iri.push_str(local.as_str())?;
-    Ok(Some(Text::from_string(iri)))
-}
-
 fn or_empty(alloc: Global, iri: Option<Text>) -> Result<Text, Memory>
     ensures { IfOk result (λ t. t ≡ unwrap_or iri []) }
 {
@@ -90,15 +78,6 @@ fn node_at(alloc: Global, at: usize) -> Result<Term, Memory>
     let mut label = String::from_str(alloc, ".")?;
     label.push_str(buffer.format(at))?;
     Ok(Term::Blank(Text::from_string(label)))
-}
-
-fn prefix_of(alloc: Global, word: &Word) -> Result<Text, Memory>
-    ensures { IfOk result (λ t. t ≡ prefix_of word.now) }
-{
-    match word {
-        Word::Name(prefix, _) => prefix.copy(),
-        _ => Text::new(alloc, ""),
-    }
 }
 
 fn tag_of(alloc: Global, word: &Word) -> Result<Text, Memory>
@@ -162,16 +141,7 @@ impl Document {
     fn iri_of(&self, alloc: Global, word: &Word) -> Result<Option<Text>, Memory>
         ensures { IfOk result (λ o. o ≡ iri_of word.now self.now) }
     {
-        match word {
-            Word::Reference(text) => {
-                let iri = resolve(alloc, self.base.as_str(), text.as_str())?;
-                Ok(Some(Text::from_string(iri)))
-            }
-            Word::Name(prefix, local) => {
-                joined(alloc, self.prefixes.namespace(prefix.as_str()), local)
-            }
-            _ => Ok(None),
-        }
+        iri_named(alloc, word, self.base.as_str(), &self.prefixes)
     }
 
     fn note_iri(&mut self, iri: &Option<Text>, at: usize)

@@ -91,7 +91,8 @@ fn name_in(alloc: Global, token: &str) -> Result<Word, Memory>
     }
 }
 
-fn lowered(alloc: Global, text: &str) -> Result<Text, Memory>
+/// The text with its ASCII letters lower case.
+pub fn lowered(alloc: Global, text: &str) -> Result<Text, Memory>
     ensures { IfOk result (λ t. t ≡ str_to_ascii_lowercase text.now) }
 {
     let mut out = String::from_str(alloc, text)?;

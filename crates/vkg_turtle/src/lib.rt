@@ -12,6 +12,7 @@ mod document;
 mod escape;
 mod grammar_table;
 mod lexeme;
+mod names;
 mod parsing;
 mod prefixes;
 mod reading;
@@ -20,7 +21,8 @@ mod role;
 mod triple;
 
 pub use grammar_table::{ROLES, TURTLE};
-pub use lexeme::{Word, between, word_of};
+pub use lexeme::{Word, between, lowered, word_of};
+pub use names::{iri_named, prefix_of};
 pub use prefixes::Prefixes;
 pub use reading::{TurtleError, TurtleFault, is_determined, read_turtle};
 pub use role::Role;

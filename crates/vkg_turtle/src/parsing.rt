@@ -1,10 +1,9 @@
-ghost use Rattle.std.specs.Prelude.{◌≡◌, ◌<◌, length, slice_get, unwrap_or, IfOk, IfErr, OnOk};
+ghost use Rattle.std.specs.Prelude.{◌≡◌, IfOk, IfErr, OnOk};
 ghost use Rattle.vkg_grammar.specs.Form.{IsShallow};
-ghost use Rattle.vkg_grammar.specs.Kinds.{kinds_of, start_at, AreBelow};
+ghost use Rattle.vkg_grammar.specs.Kinds.{kinds_of, AreBelow};
 ghost use Rattle.vkg_grammar.specs.Parsing.{IsTheText, Fails};
 ghost use Rattle.vkg_turtle.specs.Document.{begun, document_of, is_choice, role_of};
 ghost use Rattle.vkg_turtle.specs.Reading.{Says, TextFails as Refuses, turtle};
-ghost use Rattle.vkg_turtle.specs.declared.role.Role.TheVariants.{Choice};
 
 use crate::document::Document;
 use crate::grammar_table::{ROLES, TURTLE};
@@ -13,7 +12,7 @@ use crate::reading::{TurtleError, fault};
 use crate::role::Role;
 use std::alloc::Global;
 use vkg_base::Memory;
-use vkg_grammar::{Grammar, Note, ParseFault, Rule, parse};
+use vkg_grammar::{Grammar, Note, ParseFault, Rule, parse, role_in, start_of};
 use vkg_tokens::{Lang, Token, TokensError, tokens};
 
 fn meanings() -> &'static [Role]
@@ -22,19 +21,10 @@ fn meanings() -> &'static [Role]
     &ROLES
 }
 
-fn role_in(roles: &[Role], symbol: usize) -> Role
-    ensures { result ≡ unwrap_or (slice_get roles.now symbol) Choice }
-{
-    match roles.get(symbol) {
-        None => Role::Choice,
-        Some(role) => *role,
-    }
-}
-
 fn role_of(symbol: usize) -> Role
     ensures { result ≡ role_of symbol }
 {
-    role_in(meanings(), symbol)
+    role_in(meanings(), symbol, Role::Choice)
 }
 
 fn is_choice(role: Role) -> bool
@@ -68,13 +58,6 @@ fn document_of(
         }
     }
     Ok(document)
-}
-
-fn start_of(tokens: &[Token], index: usize) -> usize
-    requires { index < length tokens.now }
-    ensures { result ≡ start_at tokens.now index }
-{
-    tokens[index].start
 }
 
 fn rules() -> &'static [Rule]

@@ -1,5 +1,5 @@
 -- The operators on terms, in this project's profile of SPARQL 1.1 Query, 17; none is an error.
-use Rattle.std.specs.Prelude.{ℕ, Bool, true, false, not, ◌&&◌, ◌||◌, List, [], ◌∷◌, ◌++◌, Option, Some, None, option_map, codes, if◌then◌else◌}
+use Rattle.std.specs.Prelude.{ℕ, Bool, true, false, not, ◌&&◌, List, [], ◌∷◌, Option, Some, None, option_map, codes, if◌then◌else◌}
 use Rattle.std.specs.Str.{bytes_eq}
 use Rattle.std.specs.declared.cmp.Ordering.{Ordering}
 use Rattle.std.specs.Ordering.{is_eq, is_ge, is_gt, is_le, is_lt}
@@ -8,7 +8,7 @@ use Rattle.vkg_terms.specs.declared.term.Term.TheVariants.{Iri, Blank, Lit}
 use Rattle.vkg_terms.specs.declared.term.Annotation.{Annotation}
 use Rattle.vkg_terms.specs.declared.term.Annotation.TheVariants.{Plain, Lang, Typed}
 use Rattle.vkg_terms.specs.Same.{term_eq}
-use Rattle.vkg_terms.specs.Vocabulary.{xsd, xsd_string}
+use Rattle.vkg_terms.specs.Vocabulary.{xsd, xsd_string, rdf_lang_string}
 use Rattle.vkg_cells.specs.declared.cell.Cell.{Cell}
 use Rattle.vkg_cells.specs.declared.cell.Cell.TheVariants as cell
 use Rattle.vkg_cells.specs.Field.{is_one_text}
@@ -22,10 +22,6 @@ use Rattle.vkg_values.specs.declared.operator.Test.{Test}
 use Rattle.vkg_values.specs.declared.operator.Test.TheVariants as tests
 use Rattle.vkg_values.specs.Known.{known}
 use Rattle.vkg_values.specs.Logic.{not3}
-
--- rdf:langString (RDF 1.1 Concepts, 3.3)
-abbrev pub rdf_lang_string : List ℕ
-rdf_lang_string = codes "http://www.w3.org/1999/02/22-rdf-syntax-ns#langString"
 
 -- the values that have an order among them: two texts, numbers, truths, dates or moments
 abbrev pub is_one_sort : Cell → Cell → Bool
@@ -142,3 +138,8 @@ take_value takes.Lang (Lit text annotation) = Some (Lit (tag_of annotation) Plai
 take_value takes.Lang t = None
 take_value takes.Datatype (Lit text annotation) = Some (Iri (datatype_of annotation))
 take_value takes.Datatype t = None
+
+-- a test of two terms, of which either may be an error: an error in either is one
+abbrev pub on_two : (Term → Term → Option Bool) → Option Term → Option Term → Option Bool
+on_two f (Some a) (Some b) = f a b
+on_two f a b = None

@@ -1,0 +1,140 @@
+-- The forms of dates and times are ASCII.
+use Rattle.std.proofs.Common.{◌≡◌, ℕ, zero, suc, ◌+◌, ◌-◌, ◌*◌, ◌<◌, ◌≤◌, refl, sym, ap, subst, List, [], ◌∷◌, ◌++◌, length, codes, Bool, true, false, cond, ◌&&◌, arith, ◌==◌, nat_le, Option, Some, None, lit<}
+use Rattle.std.specs.Prelude.{is_some, option_and_then, slice_index}
+use Rattle.std.specs.Char.{is_ascii_digit}
+use Rattle.std.specs.Str.{IsAscii}
+use Rattle.std.proofs.lemmas.Str.{IsAscii-append}
+use Rattle.std.proofs.lemmas.Str.Ascii.{IsAscii-nil, IsAscii-cons}
+use Rattle.vkg_lists.proofs.Bools.{and_parts}
+use Rattle.vkg_cells.specs.Number.{is_digits, after_point, without_trailing_zeros}
+use Rattle.vkg_cells.specs.Moment.{two_digits_at, day_of_text, clock_of_text, is_date, is_clock, cut, or_cut, form_if, form_at, form_of_parts, stamp_form}
+use Rattle.vkg_cells.proofs.Digits.{Digits, after_ascii, all_digits, small_digit, trail_digits}
+
+some_then : {A B : Type 0} (f : A → Option B) (o : Option A) → is_some (option_and_then f o) ≡ true → (a : A) × (o ≡ Some a) × (is_some (f a) ≡ true)
+some_then f None e = cc
+some_then f (Some a) e = (a, refl, e)
+
+some_if : {A : Type 0} (b : Bool) (o : Option A) → is_some (cond b o None) ≡ true → (b ≡ true) × (is_some o ≡ true)
+some_if true o e = (refl, e)
+some_if false o e = cc
+
+digits_at : (bs : List ℕ) (i n : ℕ) → two_digits_at bs i ≡ Some n → (is_ascii_digit (slice_index bs i) ≡ true) × (is_ascii_digit (slice_index bs (i + 1)) ≡ true)
+digits_at bs i n e =
+    let d = some_if (is_ascii_digit (slice_index bs i) && is_ascii_digit (slice_index bs (i + 1))) (Some ((slice_index bs i - 48) * 10 + (slice_index bs (i + 1) - 48))) (ap is_some e) in
+    and_parts (is_ascii_digit (slice_index bs i)) (is_ascii_digit (slice_index bs (i + 1))) d.0
+
+-- a fact for each number below n
+abbrev EachBelow : (ℕ → Type 0) → ℕ → Type 0
+EachBelow P zero = Unit {0}
+EachBelow P (suc n) = EachBelow P n × P n
+
+each_below : (P : ℕ → Type 0) (n k : ℕ) → EachBelow P n → k < n → P k
+each_below P zero k a h = absurd (let n : ⊥ = omega (arith, h) in n)
+each_below P (suc n) k a h = elim (k == n) as (λ b. k == n ≡ b → P k) [
+  | true ↦ λ e. let i : n ≡ k = grind arith in subst P i a.1
+  | false ↦ λ e. each_below P n k a.0 (let l : k < n = grind arith in l)
+] refl
+
+past_end : (bs : List ℕ) (k : ℕ) → length bs ≤ k → slice_index bs k < 128
+past_end [] k h = lit< tt
+past_end (b ∷ bs) zero h = absurd (let n : ⊥ = omega (arith, h) in n)
+past_end (b ∷ bs) (suc k) h = past_end bs k (omega (arith, h))
+
+ascii_below : (bs : List ℕ) (n : ℕ) → length bs ≡ n → EachBelow (λ k. slice_index bs k < 128) n → IsAscii bs
+ascii_below bs n long each k = elim (nat_le n k) as (λ b. nat_le n k ≡ b → slice_index bs k < 128) [
+  | true ↦ λ e. past_end bs k (let h : length bs ≤ k = grind arith in h)
+  | false ↦ λ e. each_below (λ k. slice_index bs k < 128) n k each (let h : k < n = grind arith in h)
+] refl
+
+-- a text of ASCII bytes, so many
+pub record Fixed (n : ℕ) (text : List ℕ) : Type 0 where
+  pub long : length text ≡ n
+  pub ascii : IsAscii text
+
+pub date_fixed : (text : List ℕ) → is_date text ≡ true → Fixed 10 text
+unfolding day_of_text
+date_fixed text e =
+    let a = some_if ((length text == 10) && (slice_index text 4 == 45) && (slice_index text 7 == 45)) _ e in
+    let b = and_parts ((length text == 10) && (slice_index text 4 == 45)) (slice_index text 7 == 45) a.0 in
+    let c = and_parts (length text == 10) (slice_index text 4 == 45) b.0 in
+    let century = some_then _ (two_digits_at text 0) a.1 in
+    let year = some_then _ (two_digits_at text 2) century.2 in
+    let month = some_then _ (two_digits_at text 5) year.2 in
+    let day = some_then _ (two_digits_at text 8) month.2 in
+    let d0 = digits_at text 0 century.0 century.1 in
+    let d2 = digits_at text 2 year.0 year.1 in
+    let d5 = digits_at text 5 month.0 month.1 in
+    let d8 = digits_at text 8 day.0 day.1 in
+    let long : length text ≡ 10 = let h = c.0 in grind arith in
+    let dash4 : slice_index text 4 < 128 = let h = c.1 in grind arith in
+    let dash7 : slice_index text 7 < 128 = let h = b.1 in grind arith in
+    record {
+      long = long;
+      ascii = ascii_below text 10 long ((((((((((tt, small_digit _ d0.0), small_digit _ d0.1), small_digit _ d2.0), small_digit _ d2.1), dash4), small_digit _ d5.0), small_digit _ d5.1), dash7), small_digit _ d8.0), small_digit _ d8.1);
+    }
+
+pub clock_fixed : (text : List ℕ) → is_clock text ≡ true → Fixed 8 text
+unfolding clock_of_text
+clock_fixed text e =
+    let a = some_if ((length text == 8) && (slice_index text 2 == 58) && (slice_index text 5 == 58)) _ e in
+    let b = and_parts ((length text == 8) && (slice_index text 2 == 58)) (slice_index text 5 == 58) a.0 in
+    let c = and_parts (length text == 8) (slice_index text 2 == 58) b.0 in
+    let hour = some_then _ (two_digits_at text 0) a.1 in
+    let minute = some_then _ (two_digits_at text 3) hour.2 in
+    let second = some_then _ (two_digits_at text 6) minute.2 in
+    let d0 = digits_at text 0 hour.0 hour.1 in
+    let d3 = digits_at text 3 minute.0 minute.1 in
+    let d6 = digits_at text 6 second.0 second.1 in
+    let long : length text ≡ 8 = let h = c.0 in grind arith in
+    let colon2 : slice_index text 2 < 128 = let h = c.1 in grind arith in
+    let colon5 : slice_index text 5 < 128 = let h = b.1 in grind arith in
+    record {
+      long = long;
+      ascii = ascii_below text 8 long ((((((((tt, small_digit _ d0.0), small_digit _ d0.1), colon2), small_digit _ d3.0), small_digit _ d3.1), colon5), small_digit _ d6.0), small_digit _ d6.1);
+    }
+
+pub form_ascii : (date clock ds : List ℕ) → is_date date ≡ true → is_clock clock ≡ true → Digits ds → IsAscii (date ++ codes "T" ++ clock ++ after_point ds)
+form_ascii date clock ds d c f = IsAscii-append _ (after_point ds) (IsAscii-append _ clock (IsAscii-append date (codes "T") (date_fixed date d).ascii (IsAscii-cons 84 [] (lit< tt) IsAscii-nil)) (clock_fixed clock c).ascii) (after_ascii ds f)
+
+some_is : {X : Type 0} (x y : X) → Some x ≡ Some y → x ≡ y
+some_is x y e = cc
+
+-- what `stamp_form` gives is made of a date, a time of day and digits
+pub record Made (form : List ℕ) : Type 0 where
+  pub date : List ℕ
+  pub clock : List ℕ
+  pub fraction : List ℕ
+  pub is_date : is_date date ≡ true
+  pub is_clock : is_clock clock ≡ true
+  pub is_digits : Digits fraction
+  pub is : form ≡ date ++ codes "T" ++ clock ++ after_point fraction
+
+made_if : (b : Bool) (date clock fraction form : List ℕ) → (b ≡ true → (is_date date ≡ true) × (is_clock clock ≡ true) × Digits fraction) → form_if b date clock fraction ≡ Some form → Made form
+made_if false date clock fraction form h e = cc
+made_if true date clock fraction form h e = record {
+  date = date;
+  clock = clock;
+  fraction = without_trailing_zeros fraction;
+  is_date = (h refl).0;
+  is_clock = (h refl).1;
+  is_digits = trail_digits fraction (h refl).2;
+  is = some_is _ _ (sym e);
+}
+
+made_at : (date rest : List ℕ) (p : Option (List ℕ × List ℕ)) (form : List ℕ) → form_at date rest p ≡ Some form → Made form
+made_at date rest None form e = made_if (is_date date && is_clock rest) date rest [] form (λ b. let h = and_parts (is_date date) (is_clock rest) b in (h.0, h.1, refl)) e
+made_at date rest (Some p) form e = made_if (is_date date && is_clock p.0 && is_digits p.1 && nat_le (length p.1) 9) date p.0 p.1 form (λ b.
+    let h = and_parts (is_date date && is_clock p.0 && is_digits p.1) (nat_le (length p.1) 9) b in
+    let g = and_parts (is_date date && is_clock p.0) (is_digits p.1) h.0 in
+    let f = and_parts (is_date date) (is_clock p.0) g.0 in
+    (f.0, f.1, all_digits p.1 g.1)) e
+
+made_of : (p : Option (List ℕ × List ℕ)) (form : List ℕ) → form_of_parts p ≡ Some form → Made form
+made_of None form e = cc
+made_of (Some p) form e = made_at p.0 p.1 (cut 46 p.1) form e
+
+pub stamp_made : (text form : List ℕ) → stamp_form text ≡ Some form → Made form
+stamp_made text form e = made_of (or_cut (cut 84 text) (cut 32 text)) form e
+
+pub stamp_ascii : (text form : List ℕ) → stamp_form text ≡ Some form → IsAscii form
+stamp_ascii text form e = let m = stamp_made text form e in subst IsAscii (sym m.is) (form_ascii m.date m.clock m.fraction m.is_date m.is_clock m.is_digits)
