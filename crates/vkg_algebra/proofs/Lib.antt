@@ -4,6 +4,5 @@ pub mod LawfulLemmas
 pub mod MapLemmas
 pub mod PatternLemmas
 pub mod Rows
-pub mod SeenSteps
 pub mod Translations
 pub mod VisibleLemmas

@@ -1,5 +1,5 @@
 -- What the definitions give on worked queries, over the dataset of two departments and three employees.
-use Rattle.std.specs.Prelude.{◌≡◌, true, false, List, ℕ, [], ◌∷◌, ◌++◌, Some, None, codes, refl}
+use Rattle.std.specs.Prelude.{◌≡◌, true, false, List, ℕ, [], ◌∷◌, Some, None, codes, refl}
 use Rattle.std.specs.Str.{chars}
 use Rattle.std.specs.Char.{encode_utf8}
 use Rattle.vkg_values.specs.declared.operator.Compare.TheVariants as asks
@@ -22,7 +22,7 @@ unfolding chars encode_utf8
 opened = tt
 
 -- SELECT ?n { ?e <e:emp#name> ?n }
-abbrev name_query : Query
+abbrev pub name_query : Query
 name_query = select (1 ∷ []) (Triples (has_name ∷ []) ∷ [])
 
 names_algebra : algebra_of name_query ≡ Bgp (has_name ∷ [])
@@ -38,7 +38,7 @@ unfolding opened
 distinct_answer = refl
 
 -- an optional department: SELECT ?n ?d { ?e <e:emp#name> ?n OPTIONAL { ?e <e:emp#ref-dept> ?d } }
-abbrev optional_query : Query
+abbrev pub optional_query : Query
 optional_query = select (1 ∷ 2 ∷ []) (Triples (has_name ∷ []) ∷ Optional (group_of (Triples (has_dept ∷ []) ∷ [])) ∷ [])
 
 optional_algebra : algebra_of optional_query ≡ LeftJoin (Bgp (has_name ∷ [])) (Bgp (has_dept ∷ [])) None

@@ -1,9 +1,8 @@
 -- The algebra of a group, simplified as it grows.
-use Rattle.std.proofs.Common.{◌≡◌, ◌∙◌, ℕ, zero, suc, ◌+◌, ◌<◌, List, [], ◌∷◌, ◌++◌, Option, Some, None, drop, fold, get_or, length, refl, sym, ap, append_assoc, arith}
+use Rattle.std.proofs.Common.{◌≡◌, ◌∙◌, ℕ, ◌+◌, ◌<◌, List, [], ◌∷◌, ◌++◌, Option, Some, None, drop, fold, get_or, length, refl, sym, ap, append_assoc}
 use Rattle.vkg_sparql.specs.declared.query.Part.{Part as PartValue}
 use Rattle.vkg_sparql.specs.declared.query.Part.TheVariants as value
 use Rattle.vkg_sparql.specs.Seen.{group_seen, part_seen, unions_seen}
-use Rattle.vkg_algebra.proofs.SeenSteps.{part_seen-Groups}
 use Rattle.std.proofs.lemmas.List.{drop_more}
 use Rattle.vkg_sparql.specs.declared.pattern.TriplePattern.{TriplePattern}
 use Rattle.vkg_sparql.specs.Query.{Condition, Groups, Unions, Last, Union}
@@ -11,6 +10,7 @@ use Rattle.vkg_algebra.specs.Algebra.{Algebra, Bgp, Join, LeftJoin}
 use Rattle.vkg_algebra.specs.Algebra as algebra
 use Rattle.vkg_algebra.specs.Translation.{Element, Block, Test, Optionally, Inner, before, condition_of, element, elements, filtered, group_algebra, grown, joined, optional, pattern_of, patterns_of, simplified, tests_of, united}
 use Rattle.vkg_algebra.specs.Simplified.{condition_in, filtered_in, grown_by, grown_simply, inner_of, united_simply}
+use Rattle.vkg_sparql.proofs.SeenForms.{seen-Groups}
 
 -- nothing is joined to Z
 joined-unit : (g : Algebra) → joined g (Bgp []) ≡ g
@@ -66,7 +66,7 @@ module _ {parts first_seen : List PartValue} {more items : List (List PartValue)
   -- the first group is what the unions begin with
   pub united_at_first : part ≡ value.Groups parts more → first_seen ≡ parts → items ≡ more → a ≡ simplified (group_algebra (elements (group_seen first_seen))) → united_simply a (unions_seen (drop 0 items)) ≡ simplified (inner_of (element (part_seen part)))
   united_at_first is first all begun =
-      let seen : part_seen part ≡ Groups (group_seen parts) (unions_seen more) = ap part_seen is ∙ part_seen-Groups parts more in
+      let seen : part_seen part ≡ Groups (group_seen parts) (unions_seen more) = ap part_seen is ∙ seen-Groups parts more in
       (λ i. united_simply (begun i) (unions_seen (all i)))
       ∙ (λ i. united_simply (simplified (group_algebra (elements (group_seen (first i))))) (unions_seen more))
       ∙ sym (simplified_united (unions_seen more) (group_algebra (elements (group_seen parts))))

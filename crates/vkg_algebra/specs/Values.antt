@@ -6,7 +6,7 @@ use Rattle.vkg_terms.specs.declared.term.Annotation.TheVariants.{Typed}
 use Rattle.vkg_terms.specs.Same.{term_eq}
 use Rattle.vkg_terms.specs.Vocabulary.{xsd}
 use Rattle.vkg_values.specs.Logic.{not3, and3, or3}
-use Rattle.vkg_values.specs.Operators.{ebv, test_value, take_value, compare_value}
+use Rattle.vkg_values.specs.Operators.{ebv, test_value, take_value, compare_value, on_two}
 use Rattle.vkg_sparql.specs.Query.{Condition, Variable, Constant, Bound, Test, Take, Compare, SameTerm, Not, And, Or}
 use Rattle.vkg_algebra.specs.Solutions.{Solution, lookup}
 
@@ -18,11 +18,6 @@ truth_term false = Lit (codes "false") (Typed (xsd (codes "boolean")))
 -- SPARQL 1.1, 17.2.2: the effective boolean value of what may be an error
 abbrev pub truth : Option Term → Option Bool
 truth value = option_and_then (ebv None) value
-
--- an error in either is an error
-abbrev pub on_two : (Term → Term → Option Bool) → Option Term → Option Term → Option Bool
-on_two f (Some a) (Some b) = f a b
-on_two f a b = None
 
 -- SPARQL 1.1, 17.2 to 17.4: by the form of the expression; an unbound variable is an error but in BOUND
 abbrev pub expression_value : Condition → Solution → Option Term

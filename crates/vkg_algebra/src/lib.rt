@@ -22,3 +22,6 @@ pub use algebra::{Algebra, Var};
 pub use selected::{each_once, selected_variables};
 pub use translation::translate;
 pub use visible_variables::visible;
+
+#[cfg(test)]
+mod tests;

@@ -1,7 +1,6 @@
 -- Kinds of lists of expressions, from their first.
-use Rattle.std.proofs.Common.{◌≡◌, ℕ, Bool, true, false, ◌&&◌, List, [], ◌∷◌, ◌++◌, refl, ap, append_assoc, map, length, suc, ◌∙◌}
+use Rattle.std.proofs.Common.{◌≡◌, Bool, true, false, ◌&&◌, List, [], ◌∷◌, ◌++◌, refl, ap, append_assoc, map, length, suc}
 use Rattle.std.specs.Prelude.{Option, Some, None}
-use Rattle.std.specs.List.{list_all}
 use Rattle.vkg_cells.specs.declared.cell.SqlType.{SqlType}
 use Rattle.vkg_cells.specs.declared.cell.SqlType.TheVariants as kind
 use Rattle.vkg_expr.specs.declared.expr.Expr.{Expr as ExprValue}
@@ -9,7 +8,7 @@ use Rattle.vkg_expr.specs.Seen.{expr_seen}
 use Rattle.vkg_expr.specs.Expr.{each, exprs}
 use Rattle.vkg_expr.specs.Typing.{are_all, common, giving, is_one, same_kind, with_kind}
 
-and_false : (b : Bool) → (b && false) ≡ false
+pub and_false : (b : Bool) → (b && false) ≡ false
 and_false true = refl
 and_false false = refl
 
@@ -18,7 +17,7 @@ are_all-more k None o = refl
 are_all-more k (Some l) None = rw and_false
 are_all-more k (Some l) (Some ls) = refl
 
-itself : (k : SqlType) → same_kind k k ≡ true
+pub itself : (k : SqlType) → same_kind k k ≡ true
 itself kind.Text = refl
 itself kind.Int = refl
 itself kind.Dec = refl

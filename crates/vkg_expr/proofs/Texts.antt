@@ -1,7 +1,7 @@
 -- Texts after a text.
 use Rattle.std.proofs.Common.{◌≡◌, ℕ, List, [], ◌∷◌, ◌++◌, refl, append_assoc}
 use Rattle.std.specs.Prelude.{Option, Some, None}
-use Rattle.vkg_expr.specs.Value.{joined}
+use Rattle.vkg_cells.specs.Form.{joined}
 
 -- a text, and the one that is behind it, if there is one
 abbrev pub onto : List ℕ → Option (List ℕ) → Option (List ℕ)

@@ -1,5 +1,5 @@
 -- A typed expression has a cell of its kind, or NULL.
-use Rattle.std.proofs.Common.{◌≡◌, ℕ, Bool, true, false, not, ◌&&◌, List, [], ◌∷◌, refl, sym, ap, ◌∙◌, subst}
+use Rattle.std.proofs.Common.{◌≡◌, ℕ, Bool, true, false, not, List, [], ◌∷◌, refl, sym, subst}
 use Rattle.std.specs.Prelude.{Option, Some, None, option_map, find, unwrap_or, if◌then◌else◌}
 use Rattle.std.specs.List.{list_all}
 use Rattle.vkg_terms.specs.declared.term.Term.{Term}
@@ -14,6 +14,8 @@ use Rattle.vkg_expr.specs.Expr.{Expr, Exprs, Col, Const, MakeIri, IriOf, MakeBla
 use Rattle.vkg_expr.specs.Laws.{FitsRow, HasKinds, IsOfItsKind}
 use Rattle.vkg_expr.specs.Typing.{common, equality_kind, fits, giving, kind_of, kinds_of, lexical_kind, result_kind, same_family, same_kind, with_kind}
 use Rattle.vkg_expr.specs.Value.{coalesced, operator_value, term_cell, text_cell, truth_cell, value_of, values_of}
+use Rattle.vkg_expr.proofs.KindLists.{itself}
+use Rattle.vkg_lists.proofs.Bools.{and_parts, and_true}
 
 abbrev Fits : SqlType → Cell → Type 0
 Fits k c = fits k c ≡ true
@@ -134,30 +136,12 @@ kind_same kind.Term kind.Stamp e = cc
 kind_same kind.Term kind.Bin e = cc
 kind_same kind.Term kind.Term e = refl
 
-pub both_true : (a b : Bool) → (a && b) ≡ true → (a ≡ true) × (b ≡ true)
-both_true true b e = (refl, e)
-both_true false b e = cc
-
-and_true : (a b : Bool) → a ≡ true → b ≡ true → (a && b) ≡ true
-and_true true b e h = h
-and_true false b e h = e
-
-itself : (k : SqlType) → same_kind k k ≡ true
-itself kind.Text = refl
-itself kind.Int = refl
-itself kind.Dec = refl
-itself kind.Bool = refl
-itself kind.Date = refl
-itself kind.Stamp = refl
-itself kind.Bin = refl
-itself kind.Term = refl
-
 coalesced-fits : (k : SqlType) (ms : List SqlType) (cs : List Cell) → list_all (same_kind k) ms ≡ true → HasKinds ms cs → Fits k (coalesced cs)
 coalesced-fits k [] [] a h = null_fits k
 coalesced-fits k [] (c ∷ cs) a h = absurd h
 coalesced-fits k (m ∷ ms) [] a h = absurd h
 coalesced-fits k (m ∷ ms) (c ∷ cs) a h =
-    let b = both_true (same_kind k m) (list_all (same_kind k) ms) a in
+    let b = and_parts (same_kind k m) (list_all (same_kind k) ms) a in
     at (is_null c) refl (along m k c (sym (kind_same k m b.0)) h.0) (coalesced-fits k ms cs b.1 h.1)
   where
     at : (n : Bool) → is_null c ≡ n → Fits k c → Fits k (coalesced cs) → Fits k (unwrap_or (if not n then Some c else find (λ c. not (is_null c)) cs) cell.Null)

@@ -1,7 +1,6 @@
 -- The value of an expression on a row; unknown and error are NULL.
 use Rattle.std.specs.Prelude.{ℕ, Bool, true, false, List, [], ◌∷◌, ◌++◌, map, fold, find, not, Option, Some, None, option_and_then, option_map, unwrap_or, if◌then◌else◌}
 use Rattle.std.specs.Option.{option_map_or}
-use Rattle.vkg_terms.specs.declared.term.Annotation.{Annotation}
 use Rattle.vkg_terms.specs.declared.term.Term.{Term}
 use Rattle.vkg_terms.specs.declared.term.Term.TheVariants.{Iri, Blank, Lit}
 use Rattle.vkg_terms.specs.Iri.{is_absolute}
@@ -9,11 +8,11 @@ use Rattle.vkg_terms.specs.Label.{blank_label}
 use Rattle.vkg_terms.specs.Safe.{safe}
 use Rattle.vkg_cells.specs.declared.cell.Cell.{Cell}
 use Rattle.vkg_cells.specs.declared.cell.Cell.TheVariants as cell
-use Rattle.vkg_cells.specs.Form.{lexical_form}
+use Rattle.vkg_cells.specs.Form.{lexical_form, joined}
 use Rattle.vkg_cells.specs.Order.{same}
 use Rattle.vkg_values.specs.Known.{widest}
 use Rattle.vkg_values.specs.Logic.{not3, and3, or3}
-use Rattle.vkg_values.specs.Operators.{ebv, test_value, take_value, compare_value}
+use Rattle.vkg_values.specs.Operators.{ebv, test_value, take_value, compare_value, on_two}
 use Rattle.vkg_schema.specs.Rows.{Row, cell_at, is_null}
 use Rattle.vkg_expr.specs.declared.expr.Operator.{Operator}
 use Rattle.vkg_expr.specs.declared.expr.Operator.TheVariants.{Test, Take, Compare}
@@ -41,11 +40,6 @@ text_cell o = option_map_or cell.Text o cell.Null
 abbrev pub term_cell : Option Term → Cell
 term_cell o = option_map_or cell.Term o cell.Null
 
--- two texts after each other, where both are there
-abbrev pub joined : Option (List ℕ) → Option (List ℕ) → Option (List ℕ)
-joined (Some s) (Some t) = Some (s ++ t)
-joined s t = None
-
 -- the texts after each other, where all are there
 abbrev pub concat_of : List Cell → Option (List ℕ)
 concat_of [] = Some []
@@ -58,10 +52,6 @@ coalesced cs = unwrap_or (find (λ c. not (is_null c)) cs) cell.Null
 -- R2RML, 7.4: a text that is no absolute IRI is put behind the base
 abbrev pub against : List ℕ → List ℕ → List ℕ
 against base text = if is_absolute text then text else base ++ text
-
-abbrev pub on_two : (Term → Term → Option Bool) → Option Term → Option Term → Option Bool
-on_two f (Some s) (Some t) = f s t
-on_two f s t = None
 
 abbrev pub operator_value : Operator → List Cell → Cell
 operator_value (Test op) (c ∷ []) = truth_cell (option_map (test_value widest op) (term_of c))

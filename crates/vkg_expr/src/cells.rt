@@ -8,8 +8,8 @@ ghost use Rattle.vkg_terms.specs.Label.{blank_label as label_of};
 ghost use Rattle.vkg_terms.specs.Safe.{safe as safe_form};
 ghost use Rattle.vkg_values.specs.Known.{widest};
 ghost use Rattle.vkg_values.specs.Logic.{not3};
-ghost use Rattle.vkg_values.specs.Operators.{ebv, take_value, test_value, compare_value};
-ghost use Rattle.vkg_expr.specs.Value.{against as text_against, on_two, operator_value, term_cell, term_of as term_in, text_cell, text_of as text_in, truth_cell as cell_of_truth, truth_of as truth_in};
+ghost use Rattle.vkg_values.specs.Operators.{ebv, take_value, test_value, compare_value, on_two};
+ghost use Rattle.vkg_expr.specs.Value.{against as text_against, operator_value, term_cell, term_of as term_in, text_cell, text_of as text_in, truth_cell as cell_of_truth, truth_of as truth_in};
 
 use crate::expr::Operator;
 use std::alloc::Global;

@@ -20,8 +20,11 @@ mod typing;
 
 pub use evaluation::{eval, eval_cells, eval_each};
 pub use expr::{Expr, Operator, copy_boxed, copy_exprs};
-pub use kinds::same_kind;
+pub use kinds::{same_family, same_kind};
 pub use row::Row;
 pub use strict::nulls_on_null;
 pub use term_expr::{Piece, Sort, TermExpr};
 pub use typing::{typed, typed_each};
+
+#[cfg(test)]
+mod tests;

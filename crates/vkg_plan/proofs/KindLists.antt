@@ -1,30 +1,16 @@
 -- Kinds of lists of plans, from their first.
-use Rattle.std.proofs.Common.{◌≡◌, Bool, true, false, ◌&&◌, List, [], ◌∷◌, ◌++◌, refl, append_assoc, append-nil, ◌≤◌, ◌∙◌, ap, arith, get_or, length, map, sym}
+use Rattle.std.proofs.Common.{◌≡◌, true, ◌&&◌, List, [], ◌∷◌, ◌++◌, refl, append_assoc, append-nil, ◌≤◌, ◌∙◌, ap, arith, get_or, length, map, sym}
 use Rattle.std.specs.Prelude.{Option, Some, None, option_map, if◌then◌else◌}
 use Rattle.std.specs.Cmp.Lexicographic.{pointwise}
-use Rattle.vkg_cells.specs.declared.cell.SqlType.{SqlType}
 use Rattle.vkg_cells.specs.declared.cell.SqlType.TheVariants as kind
 use Rattle.vkg_expr.specs.Typing.{same_kind}
 use Rattle.vkg_plan.specs.declared.plan.Plan.{Plan as PlanValue}
 use Rattle.vkg_plan.specs.Kinds.{Kinds, Tables, alike, are_alike, beside_all, is_alike, joined, kinds_of_each, plan_kinds, with_first}
 use Rattle.vkg_plan.specs.Plan.{plans}
 use Rattle.vkg_plan.specs.Seen.{plan_seen}
+use Rattle.vkg_expr.proofs.KindLists.{and_false, itself}
 
-and_false : (b : Bool) → (b && false) ≡ false
-and_false true = refl
-and_false false = refl
-
-itself : (k : SqlType) → same_kind k k ≡ true
-itself kind.Text = refl
-itself kind.Int = refl
-itself kind.Dec = refl
-itself kind.Bool = refl
-itself kind.Date = refl
-itself kind.Stamp = refl
-itself kind.Bin = refl
-itself kind.Term = refl
-
-themselves : (ks : Kinds) → pointwise same_kind ks ks ≡ true
+pub themselves : (ks : Kinds) → pointwise same_kind ks ks ≡ true
 themselves [] = refl
 themselves (k ∷ ks) = rw (itself k) (themselves ks)
 

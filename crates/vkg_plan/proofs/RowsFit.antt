@@ -1,16 +1,14 @@
 -- The rows of a well-typed plan have a cell for each of its columns, NULL or of that column's kind.
-use Rattle.std.proofs.Common.{◌≡◌, ℕ, zero, suc, Bool, true, false, not, ◌&&◌, List, [], ◌∷◌, ◌++◌, map, length, refl, sym, ap, ◌∙◌, subst, cond}
-use Rattle.std.specs.Prelude.{IfSome, Option, Some, None, option_and_then, replicate, slice_get, if◌then◌else◌}
+use Rattle.std.proofs.Common.{◌≡◌, zero, suc, Bool, true, false, not, List, [], ◌∷◌, ◌++◌, map, length, refl, sym, ap, subst, cond}
+use Rattle.std.specs.Prelude.{IfSome, Option, Some, None, option_and_then, replicate, if◌then◌else◌}
 use Rattle.std.specs.List.{AllByRecursion, filter, flat_map, list_all}
 use Rattle.std.specs.Option.{option_map_or}
 use Rattle.std.specs.Cmp.Lexicographic.{pointwise}
 use Rattle.vkg_lists.specs.Sets.{distinct}
-use Rattle.vkg_cells.specs.declared.cell.Cell.{Cell}
 use Rattle.vkg_cells.specs.declared.cell.Cell.TheVariants as cell
-use Rattle.vkg_cells.specs.declared.cell.SqlType.{SqlType}
 use Rattle.vkg_cells.specs.declared.cell.SqlType.TheVariants as kind
 use Rattle.vkg_schema.specs.Rows.{Database, Row}
-use Rattle.vkg_expr.proofs.ValueFits.{both_true, kind_same, null_fits, some_is, values-fit}
+use Rattle.vkg_expr.proofs.ValueFits.{kind_same, null_fits, some_is, values-fit}
 use Rattle.vkg_expr.specs.Expr.{Expr, exprs}
 use Rattle.vkg_expr.specs.Laws.{FitsRow, HasKinds}
 use Rattle.vkg_expr.specs.Typing.{fits, is_one, kind_of, kinds_of, same_kind}
@@ -19,12 +17,14 @@ use Rattle.vkg_plan.specs.Kinds.{Kinds, Tables, alike, beside_all, beside_two, c
 use Rattle.vkg_plan.specs.Laws.{HasRowsOf, HaveKinds, TablesFit}
 use Rattle.vkg_plan.specs.Plan.{Plan, Plans, Unit as UnitPlan, Empty, Scan, Select, Project, Join, Left, UnionAll, Distinct, Nil, More}
 use Rattle.vkg_plan.specs.Rows.{is_alone, left_pairs, one_row, pairs, product, rows_of, rows_of_each}
+use Rattle.vkg_plan.proofs.KindLists.{themselves}
+use Rattle.vkg_lists.proofs.Bools.{and_parts}
 
-All-append : {X : Type 0} (P : X → Type 0) (xs ys : List X) → AllByRecursion P xs → AllByRecursion P ys → AllByRecursion P (xs ++ ys)
+pub All-append : {X : Type 0} (P : X → Type 0) (xs ys : List X) → AllByRecursion P xs → AllByRecursion P ys → AllByRecursion P (xs ++ ys)
 All-append P [] ys h k = k
 All-append P (x ∷ xs) ys h k = (h.0, All-append P xs ys h.1 k)
 
-All-filter : {X : Type 0} (P : X → Type 0) (p : X → Bool) (xs : List X) → AllByRecursion P xs → AllByRecursion P (filter p xs)
+pub All-filter : {X : Type 0} (P : X → Type 0) (p : X → Bool) (xs : List X) → AllByRecursion P xs → AllByRecursion P (filter p xs)
 All-filter P p [] h = tt
 All-filter P p (x ∷ xs) h = kept (p x) (All-filter P p xs h.1)
   where
@@ -32,7 +32,7 @@ All-filter P p (x ∷ xs) h = kept (p x) (All-filter P p xs h.1)
     kept true k = (h.0, k)
     kept false k = k
 
-All-map : {X Y : Type 0} (P : X → Type 0) (Q : Y → Type 0) (f : X → Y) → ((x : X) → P x → Q (f x)) → (xs : List X) → AllByRecursion P xs → AllByRecursion Q (map f xs)
+pub All-map : {X Y : Type 0} (P : X → Type 0) (Q : Y → Type 0) (f : X → Y) → ((x : X) → P x → Q (f x)) → (xs : List X) → AllByRecursion P xs → AllByRecursion Q (map f xs)
 All-map P Q f g [] h = tt
 All-map P Q f g (x ∷ xs) h = (g x h.0, All-map P Q f g xs h.1)
 
@@ -87,7 +87,7 @@ same_kinds [] [] e = refl
 same_kinds [] (l ∷ ls) e = cc
 same_kinds (k ∷ ks) [] e = cc
 same_kinds (k ∷ ks) (l ∷ ls) e =
-    let b = both_true (same_kind k l) (pointwise same_kind ks ls) e in
+    let b = and_parts (same_kind k l) (pointwise same_kind ks ls) e in
     let first = kind_same k l b.0 in
     let rest = same_kinds ks ls b.1 in
     cc
@@ -97,7 +97,7 @@ union-fit ks [] [] h e = tt
 union-fit ks [] (rs ∷ rss) h e = absurd h
 union-fit ks (ls ∷ kss) [] h e = absurd h
 union-fit ks (ls ∷ kss) (rs ∷ rss) h e =
-    let b = both_true (pointwise same_kind ks ls) (list_all (pointwise same_kind ks) kss) e in
+    let b = and_parts (pointwise same_kind ks ls) (list_all (pointwise same_kind ks) kss) e in
     All-append (HasKinds ks) rs (flat_map (λ rows. rows) rss)
     (subst (λ m. HaveKinds m rs) (sym (same_kinds ks ls b.0)) h.0) (union-fit ks kss rss h.1 b.1)
 
@@ -127,20 +127,6 @@ first_is None b kss e = cc
 and_then_is : (f : Kinds → Option Kinds) (o : Option Kinds) (ks : Kinds) → option_and_then f o ≡ Some ks → (ls : Kinds) × (o ≡ Some ls) × (f ls ≡ Some ks)
 and_then_is f None ks e = cc
 and_then_is f (Some ls) ks e = (ls, refl, e)
-
-itself : (k : SqlType) → same_kind k k ≡ true
-itself kind.Text = refl
-itself kind.Int = refl
-itself kind.Dec = refl
-itself kind.Bool = refl
-itself kind.Date = refl
-itself kind.Stamp = refl
-itself kind.Bin = refl
-itself kind.Term = refl
-
-themselves : (ks : Kinds) → pointwise same_kind ks ks ≡ true
-themselves [] = refl
-themselves (k ∷ ks) = rw (itself k) (themselves ks)
 
 alike_is : (o : Option (List Kinds)) (ks : Kinds) → alike o ≡ Some ks → (kss : List Kinds) × (o ≡ Some kss) × (list_all (pointwise same_kind ks) kss ≡ true)
 alike_is None ks e = cc

@@ -5,7 +5,7 @@ ghost use Rattle.vkg_plan.specs.Laws.{HasRowsOf};
 ghost use Rattle.vkg_plan.specs.Plan.{plans};
 ghost use Rattle.vkg_plan.specs.Seen.{plan_seen};
 
-use crate::column_kinds::{checked, is_alike, kept, left_checked, projected, table_kinds};
+use crate::columns::{checked, is_alike, kept, left_checked, projected, table_kinds};
 use crate::plan::Plan;
 use std::alloc::Global;
 use vkg_base::{Items, Memory};

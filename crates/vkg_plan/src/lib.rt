@@ -8,10 +8,14 @@
 #![tactic(auto)]
 
 mod checked;
-mod column_kinds;
+mod columns;
 mod kinds;
 mod plan;
 
 pub use checked::CheckedPlan;
+pub use columns::column_kinds;
 pub use kinds::{plan_kinds, well_typed};
 pub use plan::{Plan, copy_plan_box, copy_plans};
+
+#[cfg(test)]
+mod tests;

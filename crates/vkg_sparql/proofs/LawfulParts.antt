@@ -13,7 +13,7 @@ use Rattle.vkg_sparql.specs.declared.pattern.Node.TheVariants as node
 use Rattle.vkg_sparql.specs.declared.query.Part.{Part as PartValue}
 use Rattle.vkg_sparql.specs.Conditions.{or_joined, and_joined, negated, bound_value, operand_value, or_value, or_more, and_value, and_more, rel_value, rel_more, unary_value, primary_value, bracketed, call_value, same_value as same_term_value, filter_value}
 use Rattle.vkg_sparql.specs.Groups.{patterns_of, block_parts, no_part, group_value, parts_value, part_value, other_value, graph_value, union_value, groups_value, numbers_value, selection_value, query_value}
-use Rattle.vkg_sparql.specs.Lawful.{condition_nodes, patterns_nodes, name_node, part_nodes, group_nodes, unions_nodes, selected_nodes, query_nodes, is_wide}
+use Rattle.vkg_sparql.specs.Lawful.{condition_nodes, patterns_nodes, name_node, part_nodes, group_nodes, unions_nodes, selected_nodes, query_nodes}
 use Rattle.vkg_sparql.specs.Meanings.{first_token, meaning_at, node_of, number_of, operand_of, compare_of, applied, name_of}
 use Rattle.vkg_sparql.specs.declared.query.Part.TheVariants as part
 use Rattle.vkg_sparql.specs.Query.{Condition, And, Or, Part}
@@ -23,6 +23,7 @@ use Rattle.vkg_sparql.proofs.Made.{IsToken, Has, leads, lead}
 use Rattle.vkg_sparql.proofs.Numbering.{Marked}
 use Rattle.vkg_sparql.proofs.SeenForms.{seen-Variable, seen-Constant, seen-Bound, seen-Test, seen-Take, seen-Compare, seen-SameTerm, seen-Not, seen-And, seen-Or, seen-Triples, seen-Filter, seen-Optional, seen-Graph, seen-Groups}
 use Rattle.vkg_sparql.proofs.Standing.{IsNode, IsOperand, IsVariable, is_node_kind, is_operand_kind, is_variable_kind}
+use Rattle.vkg_cells.specs.WellTyped.{is_wide_number}
 
 module _ {X : Type 0} (P : X → Type 0) where
   pub all_append : (xs ys : List X) → AllByRecursion P xs → AllByRecursion P ys → AllByRecursion P (xs ++ ys)
@@ -41,7 +42,7 @@ module _ {X : Type 0} (P : X → Type 0) where
 abbrev pub Fits : List (List ℕ) → Node → Type 0
 Fits keys (node.Variable n) = Marked keys n true
 Fits keys (node.Label n) = Marked keys n false
-Fits keys (node.Fixed t) = is_wide t ≡ false
+Fits keys (node.Fixed t) = is_wide_number t ≡ false
 
 module _ (keys : List (List ℕ)) where
   abbrev pub Good : List Node → Type 0

@@ -7,7 +7,7 @@ use Rattle.vkg_grammar.specs.Kinds.{kinds_of, start_at}
 use Rattle.vkg_grammar.specs.OneTree.{IsTheTree}
 use Rattle.vkg_grammar.specs.Parsing.{IsFirstDead, IsCutOff}
 use Rattle.vkg_grammar.specs.Trees.{Tree}
-use Rattle.vkg_grammar.proofs.Outcomes.{alive_text, not_cut, not_deep, one_dead, one_deep}
+use Rattle.vkg_grammar.proofs.Outcomes.{same_tokens, same_place, not_tokens, alive_text, not_cut, not_deep, one_dead, one_deep}
 use Rattle.vkg_grammar.proofs.Same.{tree_derives}
 use Rattle.vkg_tokens.specs.declared.cutting.Token.{Token}
 use Rattle.vkg_tokens.specs.Mark.{without_mark}
@@ -15,15 +15,6 @@ use Rattle.vkg_sparql.specs.declared.fault.QueryFault.{QueryFault}
 use Rattle.vkg_sparql.specs.declared.grammar_table.TheConstants.{SPARQL}
 use Rattle.vkg_sparql.specs.declared.query.Query.{Query}
 use Rattle.vkg_sparql.specs.Reading.{sparql, sparql_tokens, kind_at, dead_check, fault, fault_of, query_of, read, Read, Says, IsTooDeepText, IsDeadText, IsCutOffText, IsQueryText, IsFaultOf, no_utf8, no_token, too_deep, dead, cut_off, checked, IsDetermined}
-
-same_tokens : {r : Result (List Token) ℕ} {ts us : List Token} → r ≡ Ok ts → r ≡ Ok us → ts ≡ us
-same_tokens e f = cc
-
-same_place : {r : Result (List Token) ℕ} {a b : ℕ} → r ≡ Err a → r ≡ Err b → a ≡ b
-same_place e f = cc
-
-not_tokens : {r : Result (List Token) ℕ} {ts : List Token} {a : ℕ} → r ≡ Ok ts → r ≡ Err a → ⊥
-not_tokens e f = cc
 
 -- what was read of a text
 one_said : {text base : List ℕ} {r s : Read} → Says text base r → Says text base s → r ≡ s

@@ -3,7 +3,7 @@ use Rattle.std.proofs.Common.{◌≡◌, ◌∙◌, ℕ, ◌≤◌, ◌||◌, �
 use Rattle.std.specs.Prelude.{slice_get}
 use Rattle.std.specs.Str.{str_to_ascii_lowercase}
 use Rattle.vkg_grammar.specs.Kinds.{kinds_of}
-use Rattle.vkg_cells.specs.WellTyped.{is_well_typed, is_too_wide}
+use Rattle.vkg_cells.specs.WellTyped.{is_well_typed, is_too_wide, is_wide_number}
 use Rattle.vkg_terms.specs.Vocabulary.{xsd}
 use Rattle.vkg_terms.specs.declared.term.Term.{Term}
 use Rattle.vkg_tokens.specs.declared.cutting.Token.{Token}
@@ -16,7 +16,6 @@ use Rattle.vkg_sparql.specs.declared.lexeme.Lexeme.{Lexeme}
 use Rattle.vkg_sparql.specs.declared.meaning.Meaning.{Meaning}
 use Rattle.vkg_sparql.specs.declared.meaning.Meaning.TheVariants.{Variable, Label, Fixed}
 use Rattle.vkg_sparql.specs.Checks.{fails, first_place, is_literal}
-use Rattle.vkg_sparql.specs.Lawful.{is_wide}
 use Rattle.vkg_sparql.specs.Lexemes.{key_of, lexeme_of, lexeme_word, lexemes_of, named_of, number_in}
 use Rattle.vkg_sparql.specs.Literals.{is_term, meaning_of, meanings_of, operator_of, term_of}
 use Rattle.vkg_sparql.specs.Meanings.{meaning_at}
@@ -75,7 +74,7 @@ no_and : (a b : Bool) → b ≡ false → (a && b) ≡ false
 no_and true b h = h
 no_and false b h = refl
 
-boolean_is_narrow : (text : List ℕ) → is_wide (typed text (codes "boolean")) ≡ false
+boolean_is_narrow : (text : List ℕ) → is_wide_number (typed text (codes "boolean")) ≡ false
 boolean_is_narrow text = no_and (is_well_typed (xsd (codes "boolean")) text) (is_too_wide (xsd (codes "boolean")) text) refl
 
 -- a number is another, or is not
@@ -93,7 +92,7 @@ one_of_three false false true h = refl
 one_of_three false false false h = absurd (cc)
 
 abbrev IsNarrow : Environment → List ℕ → List Lexeme → ℕ → Type 0
-IsNarrow e token xs k = is_wide (term_of e (lexeme_word k token) xs) ≡ false
+IsNarrow e token xs k = is_wide_number (term_of e (lexeme_word k token) xs) ≡ false
 
 -- a term, by the kind of its token
 narrow : (e : Environment) (token : List ℕ) (xs : List Lexeme) (k : ℕ) → is_term k ≡ true → (is_literal k ≡ true → IsNarrow e token xs k) → IsNarrow e token xs k
@@ -136,26 +135,26 @@ module _ (keys : List (List ℕ)) where
   abbrev pub IsNode : Meaning → Type 0
   IsNode (Variable n) = Marked keys n true
   IsNode (Label n) = Marked keys n false
-  IsNode (Fixed t) = is_wide t ≡ false
+  IsNode (Fixed t) = is_wide_number t ≡ false
   IsNode m = ⊥
 
   abbrev pub IsOperand : Meaning → Type 0
   IsOperand (Variable n) = Marked keys n true
-  IsOperand (Fixed t) = is_wide t ≡ false
+  IsOperand (Fixed t) = is_wide_number t ≡ false
   IsOperand m = ⊥
 
   abbrev pub IsVariable : Meaning → Type 0
   IsVariable (Variable n) = Marked keys n true
   IsVariable m = ⊥
 
-  node_by : (a b c : Bool) (n : ℕ) (t : Term) (o : Meaning) → (if a then true else if b then true else c) ≡ true → (a ≡ true → Marked keys n true) → (b ≡ true → Marked keys n false) → (c ≡ true → is_wide t ≡ false)
+  node_by : (a b c : Bool) (n : ℕ) (t : Term) (o : Meaning) → (if a then true else if b then true else c) ≡ true → (a ≡ true → Marked keys n true) → (b ≡ true → Marked keys n false) → (c ≡ true → is_wide_number t ≡ false)
       → IsNode (if a then Variable n else if b then Label n else if c then Fixed t else o)
   node_by true b c n t o h v l f = v refl
   node_by false true c n t o h v l f = l refl
   node_by false false true n t o h v l f = f refl
   node_by false false false n t o h v l f = absurd (cc)
 
-  operand_by : (a b c : Bool) (n : ℕ) (t : Term) (o : Meaning) → (if a then true else if b then false else c) ≡ true → (a ≡ true → Marked keys n true) → (c ≡ true → is_wide t ≡ false)
+  operand_by : (a b c : Bool) (n : ℕ) (t : Term) (o : Meaning) → (if a then true else if b then false else c) ≡ true → (a ≡ true → Marked keys n true) → (c ≡ true → is_wide_number t ≡ false)
       → IsOperand (if a then Variable n else if b then Label n else if c then Fixed t else o)
   operand_by true b c n t o h v f = v refl
   operand_by false true c n t o h v f = absurd (cc)
@@ -179,11 +178,11 @@ module _ (keys : List (List ℕ)) where
     literal_by true b h f = f
     literal_by false b h f = absurd (cc)
 
-    literal : is_literal kind ≡ true → is_wide (term_of e (lexeme_word kind token) xs) ≡ false
+    literal : is_literal kind ≡ true → is_wide_number (term_of e (lexeme_word kind token) xs) ≡ false
     unfolding fails
-    literal h = literal_by (is_literal kind) (is_wide (term_of e (lexeme_word kind token) xs)) h fine
+    literal h = literal_by (is_literal kind) (is_wide_number (term_of e (lexeme_word kind token) xs)) h fine
 
-    term : is_term kind ≡ true → is_wide (term_of e (lexeme_word kind token) xs) ≡ false
+    term : is_term kind ≡ true → is_wide_number (term_of e (lexeme_word kind token) xs) ≡ false
     term h = narrow e token xs kind h literal
 
     variable : (kind == 30) ≡ true → Marked keys number true

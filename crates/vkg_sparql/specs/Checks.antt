@@ -1,5 +1,5 @@
 -- What may be wrong with a query that is a text of the grammar.
-use Rattle.std.specs.Prelude.{ℕ, Bool, true, false, ◌||◌, ◌&&◌, not, List, [], ◌∷◌, ◌++◌, codes, drop, filter, fold, length, map, position, slice_get, Option, Some, None, option_map, if◌then◌else◌, ◌==◌, nat_le, nat_lt, nat_eq}
+use Rattle.std.specs.Prelude.{ℕ, Bool, true, false, ◌||◌, ◌&&◌, not, List, [], ◌∷◌, ◌++◌, codes, filter, fold, map, position, slice_get, Option, Some, None, option_map, if◌then◌else◌, ◌==◌, nat_le, nat_lt}
 use Rattle.std.specs.List.{list_any}
 use Rattle.std.specs.Str.{bytes_eq}
 use Rattle.vkg_lists.specs.Places.{earlier}
@@ -17,8 +17,8 @@ use Rattle.vkg_sparql.specs.declared.environment.Environment.{Environment}
 use Rattle.vkg_sparql.specs.declared.lexeme.Lexeme.{Lexeme}
 use Rattle.vkg_sparql.specs.declared.meaning.TripleTokens.{TripleTokens}
 use Rattle.vkg_sparql.specs.Environment.{iri_of}
-use Rattle.vkg_sparql.specs.Lawful.{is_wide}
 use Rattle.vkg_sparql.specs.Literals.{term_of}
+use Rattle.vkg_cells.specs.WellTyped.{is_wide_number}
 
 abbrev pub is_missing : Option (List ℕ) → Bool
 is_missing None = true
@@ -50,7 +50,7 @@ unfoldable pub fails : Check → Environment → Lexeme → List Lexeme → Bool
 fails Unknown e x xs = is_unknown e x.word
 fails Relative e x xs = is_relative (iri_of e x.word)
 fails Float e x xs = if is_literal x.kind then is_float (term_of e x.word xs) else false
-fails Wide e x xs = if is_literal x.kind then is_wide (term_of e x.word xs) else false
+fails Wide e x xs = if is_literal x.kind then is_wide_number (term_of e x.word xs) else false
 
 -- the place of the first token at which the check fails
 abbrev pub first_place : Check → Environment → List Lexeme → Option ℕ

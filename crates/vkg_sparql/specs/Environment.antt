@@ -1,21 +1,17 @@
 -- SPARQL 1.1, 4.1.1 and 19.5: what IRI references and prefixed names stand for in a query.
-use Rattle.std.specs.Prelude.{ℕ, Bool, List, [], ◌∷◌, ◌++◌, slice_get, Option, Some, None, option_map, unwrap_or, if◌then◌else◌}
+use Rattle.std.specs.Prelude.{ℕ, List, [], slice_get, Option, Some, None, unwrap_or, if◌then◌else◌}
 use Rattle.vkg_grammar.specs.Trees.{Tree, pair, first, second}
 use Rattle.vkg_lists.specs.Places.{earlier}
 use Rattle.vkg_terms.specs.Iri.{is_absolute}
-use Rattle.vkg_terms.specs.Resolve.{resolve}
 use Rattle.vkg_turtle.specs.declared.lexeme.Word.{Word}
-use Rattle.vkg_turtle.specs.declared.lexeme.Word.TheVariants.{Reference, Name}
-use Rattle.vkg_turtle.specs.Document.{declared, namespace}
+use Rattle.vkg_turtle.specs.Document.{declared, iri_named, prefix_of}
 use Rattle.vkg_sparql.specs.declared.environment.Environment.{Environment}
 use Rattle.vkg_sparql.specs.declared.lexeme.Lexeme.{Lexeme}
 use Rattle.vkg_sparql.specs.Meanings.{first_token}
 
 -- a reference is resolved against the base, a name is what its prefix stands for and its local part
 abbrev pub iri_of : Environment → Word → Option (List ℕ)
-iri_of e (Reference text) = Some (resolve e.base text)
-iri_of e (Name prefix local) = option_map (λ iri. iri ++ local) (namespace prefix e.prefixes)
-iri_of e word = None
+iri_of e word = iri_named word e.base e.prefixes
 
 abbrev pub iri_text : Environment → Word → List ℕ
 iri_text e word = unwrap_or (iri_of e word) []
@@ -25,10 +21,6 @@ begun base = record { base = base; prefixes = []; relative = None }
 
 abbrev pub relative_or : Option ℕ → List ℕ → ℕ → Option ℕ
 relative_or before iri at = if is_absolute iri then before else earlier before at
-
-abbrev pub prefix_of : Word → List ℕ
-prefix_of (Name prefix local) = prefix
-prefix_of word = []
 
 -- BASE: its IRI is resolved against the base before it
 abbrev pub with_base : Environment → Option Lexeme → Environment

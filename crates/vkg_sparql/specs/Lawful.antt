@@ -1,9 +1,7 @@
 -- What a query names, and when that keeps within the numbers and digits that this project knows.
-use Rattle.std.specs.Prelude.{ℕ, ◌<◌, Bool, false, ◌&&◌, IsTrue, not, List, [], ◌∷◌, ◌++◌, map, flat_map, length, Contains, ⊤}
-use Rattle.vkg_terms.specs.declared.term.Term.{Term}
-use Rattle.vkg_terms.specs.declared.term.Term.TheVariants.{Iri, Lit}
-use Rattle.vkg_terms.specs.declared.term.Annotation.TheVariants.{Typed}
-use Rattle.vkg_cells.specs.WellTyped.{is_well_typed, is_too_wide}
+use Rattle.std.specs.Prelude.{ℕ, ◌<◌, IsTrue, not, List, [], ◌∷◌, ◌++◌, map, flat_map, length, Contains}
+use Rattle.vkg_terms.specs.declared.term.Term.TheVariants.{Iri}
+use Rattle.vkg_cells.specs.WellTyped.{is_wide_number}
 use Rattle.vkg_sparql.specs.declared.pattern.Node.{Node}
 use Rattle.vkg_sparql.specs.declared.pattern.Node.TheVariants as node
 use Rattle.vkg_sparql.specs.declared.pattern.GraphName.{GraphName}
@@ -60,16 +58,11 @@ selected_nodes (Listed vs) = map node.Variable vs
 abbrev pub query_nodes : Query → List Node
 query_nodes q = selected_nodes q.selected ++ group_nodes q.group
 
--- a well-typed number of more digits than this project computes with
-abbrev pub is_wide : Term → Bool
-is_wide (Lit text (Typed datatype)) = is_well_typed datatype text && is_too_wide datatype text
-is_wide t = false
-
 -- a number among n, or a term that is no such literal
 abbrev pub IsWithin : ℕ → Node → Type 0
 IsWithin n (node.Variable v) = v < n
 IsWithin n (node.Label v) = v < n
-IsWithin n (node.Fixed t) = IsTrue (not (is_wide t))
+IsWithin n (node.Fixed t) = IsTrue (not (is_wide_number t))
 
 -- own: n numbers, none of them a variable's and a label's, and no literal of too many digits
 pub record IsLawful (n : ℕ) (nodes : List Node) : Type 0 where

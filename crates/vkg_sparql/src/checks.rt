@@ -1,8 +1,6 @@
 ghost use Rattle.std.specs.Prelude.{◌≡◌, ◌&&◌, IfOk, map, filter, option_map, slice_get};
 ghost use Rattle.vkg_sparql.specs.Checks.{is_missing, is_unknown, is_relative, is_float_type, is_float, is_literal, fails, first_place, is_node, node_places, place_in, subject_place, triples_over, nodes_over, size_over};
 ghost use Rattle.vkg_sparql.specs.Environment.{iri_of};
-ghost use Rattle.vkg_sparql.specs.Lawful.{is_wide};
-ghost use Rattle.vkg_cells.specs.WellTyped.{is_well_typed as well_typed, is_too_wide as too_wide};
 
 use crate::environment::Environment;
 use crate::lexeme::Lexeme;
@@ -10,7 +8,7 @@ use crate::literals::term_of;
 use crate::meaning::TripleTokens;
 use std::alloc::Global;
 use vkg_base::{Memory, Text};
-use vkg_cells::{is_too_wide, is_well_typed};
+use vkg_cells::is_wide_number;
 use vkg_terms::{Annotation, Term, is_absolute};
 use vkg_turtle::Word;
 
@@ -67,28 +65,11 @@ fn is_float_type(datatype: &str) -> bool
     datatype == XSD_DOUBLE || datatype == XSD_FLOAT
 }
 
-fn is_wide_text(datatype: &str, text: &str) -> bool
-    ensures { result ≡ (well_typed datatype.now text.now && too_wide datatype.now text.now) }
-{
-    is_well_typed(datatype, text) && is_too_wide(datatype, text)
-}
-
 fn is_float(term: &Term) -> bool
     ensures { result ≡ is_float term.now }
 {
     match term {
         Term::Lit(_, Annotation::Typed(datatype)) => { is_float_type(datatype.iri().as_str()) }
-        _ => false,
-    }
-}
-
-fn is_wide(term: &Term) -> bool
-    ensures { result ≡ is_wide term.now }
-{
-    match term {
-        Term::Lit(text, Annotation::Typed(datatype)) => {
-            is_wide_text(datatype.iri().as_str(), text.as_str())
-        }
         _ => false,
     }
 }
@@ -127,7 +108,7 @@ fn fails(
         },
         Check::Wide => if is_literal(lexeme.kind) {
             let term = term_of(alloc, environment, &lexeme.word, rest)?;
-            Ok(is_wide(&term))
+            Ok(is_wide_number(&term))
         } else {
             Ok(false)
         },

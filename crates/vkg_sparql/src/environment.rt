@@ -1,15 +1,15 @@
 ghost use Rattle.std.specs.Prelude.{◌≡◌, ◌<◌, ◌++◌, option_map, slice_get, Some, [], IfOk, OnOk};
 ghost use Rattle.std.specs.Option.{option_copied};
 ghost use Rattle.vkg_grammar.specs.Forest.{tree, node_count};
-ghost use Rattle.vkg_sparql.specs.Environment.{iri_of, iri_text, begun, relative_or, prefix_of, with_base, with_prefix, declaration, declarations, environment_of, body_start};
+ghost use Rattle.vkg_sparql.specs.Environment.{iri_of, iri_text, begun, relative_or, with_base, with_prefix, declaration, declarations, environment_of, body_start};
 
 use crate::lexeme::Lexeme;
 use crate::meaning::first_token;
 use std::alloc::Global;
 use vkg_base::{Memory, Text, earlier};
 use vkg_grammar::{Forest, Node};
-use vkg_terms::{is_absolute, resolve};
-use vkg_turtle::{Prefixes, Word};
+use vkg_terms::is_absolute;
+use vkg_turtle::{Prefixes, Word, iri_named, prefix_of};
 
 /// What a query's IRIs are read against: the base and the prefixes, with the place of the first IRI of the prologue that is
 /// not absolute.
@@ -18,27 +18,6 @@ pub struct Environment {
     pub base: Text,
     pub prefixes: Prefixes,
     pub relative: Option<usize>,
-}
-
-// What a prefix stands for, and a local part.
-fn joined(alloc: Global, namespace: Option<&Text>, local: &Text) -> Result<Option<Text>, Memory>
-    ensures { IfOk result (λ o. o ≡ option_map (λ iri. iri ++ local.now) (option_copied namespace.entry)) }
-{
-    let Some(namespace) = namespace else {
-        return Ok(None);
-    };
-    let mut iri = String::from_str(alloc, namespace.as_str())?;
-    iri.push_str(local.as_str())?;
-    Ok(Some(Text::from_string(iri)))
-}
-
-fn prefix_of(alloc: Global, word: &Word) -> Result<Text, Memory>
-    ensures { IfOk result (λ t. t ≡ prefix_of word.now) }
-{
-    match word {
-        Word::Name(prefix, _) => prefix.copy(),
-        _ => Text::new(alloc, ""),
-    }
 }
 
 fn relative_or(before: Option<usize>, iri: &str, at: usize) -> Option<usize>
@@ -66,16 +45,7 @@ impl Environment {
     pub fn iri_of(&self, alloc: Global, word: &Word) -> Result<Option<Text>, Memory>
         ensures { IfOk result (λ o. o ≡ iri_of self.now word.now) }
     {
-        match word {
-            Word::Reference(text) => {
-                let iri = resolve(alloc, self.base.as_str(), text.as_str())?;
-                Ok(Some(Text::from_string(iri)))
-            }
-            Word::Name(prefix, local) => {
-                joined(alloc, self.prefixes.namespace(prefix.as_str()), local)
-            }
-            _ => Ok(None),
-        }
+        iri_named(alloc, word, self.base.as_str(), &self.prefixes)
     }
 
     /// The same, or no bytes.

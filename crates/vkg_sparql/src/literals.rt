@@ -1,5 +1,4 @@
 ghost use Rattle.std.specs.Prelude.{◌≡◌, IfOk};
-ghost use Rattle.std.specs.Str.{str_to_ascii_lowercase};
 ghost use Rattle.vkg_turtle.specs.Document.{annotation_of_type};
 ghost use Rattle.vkg_sparql.specs.Lexemes.{key_of, number_in};
 ghost use Rattle.vkg_sparql.specs.Literals.{type_behind, tag_or_type, annotation, term_of, operator_of, is_term, meaning_of, meanings_of};
@@ -11,7 +10,7 @@ use crate::names::{Names, number_in};
 use std::alloc::Global;
 use vkg_base::{Memory, Text};
 use vkg_terms::{Annotation, Term};
-use vkg_turtle::Word;
+use vkg_turtle::{Word, lowered};
 use vkg_values::{Compare, Take, Test};
 
 const XSD_INTEGER: &str = "http://www.w3.org/2001/XMLSchema#integer";
@@ -74,14 +73,6 @@ fn typed(alloc: Global, text: Text, datatype: &str) -> Result<Term, Memory>
 {
     let datatype = Text::new(alloc, datatype)?;
     Ok(Term::Lit(text, Annotation::typed(datatype)))
-}
-
-fn lowered(alloc: Global, text: &str) -> Result<Text, Memory>
-    ensures { IfOk result (λ t. t ≡ str_to_ascii_lowercase text.now) }
-{
-    let mut out = String::from_str(alloc, text)?;
-    out.make_ascii_lowercase();
-    Ok(Text::from_string(out))
 }
 
 /// The term that begins with a token, where the rest follows.

@@ -1,4 +1,4 @@
-ghost use Rattle.std.specs.Prelude.{◌≡◌, ◌<◌, length, map, slice_index_or, Ok, IfOk, IfErr, OnOk};
+ghost use Rattle.std.specs.Prelude.{◌≡◌, ◌<◌, length, Ok, IfOk, IfErr, OnOk};
 ghost use Rattle.vkg_grammar.specs.Forest.{tree, node_count};
 ghost use Rattle.vkg_grammar.specs.Form.{IsShallow};
 ghost use Rattle.vkg_grammar.specs.Kinds.{kinds_of, start_at, AreBelow};
@@ -15,7 +15,7 @@ use crate::grammar_table::SPARQL;
 use crate::query::Query;
 use std::alloc::Global;
 use std::str;
-use vkg_grammar::{Grammar, ParseFault, Parsed, Rule, parse_tree};
+use vkg_grammar::{Grammar, ParseFault, Parsed, Rule, parse_tree, start_of};
 use vkg_tokens::{Lang, Token, TokensError, tokens, without_mark};
 
 fn rules() -> &'static [Rule]
@@ -50,13 +50,6 @@ fn tree_of(alloc: Global, tokens: &[Token]) -> Result<Parsed, ParseFault>
 {
     let grammar = Grammar::with_limit(rules(), 61, openers(), closers(), 64);
     parse_tree(alloc, &grammar, tokens)
-}
-
-fn start_of(tokens: &[Token], index: usize) -> usize
-    requires { index < length tokens.now }
-    ensures { result ≡ start_at tokens.now index }
-{
-    tokens[index].start
 }
 
 fn kind_of(tokens: &[Token], index: usize) -> usize

@@ -1,1 +1,5 @@
+pub mod Cutting
+pub mod Heads
 pub mod LeftText
+pub mod Plans
+pub mod Sound

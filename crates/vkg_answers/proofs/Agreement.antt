@@ -1,0 +1,121 @@
+-- The condition of a Join over shared variables is that the solutions are compatible.
+use Rattle.std.proofs.Common.{◌≡◌, ℕ, zero, suc, ◌+◌, ◌<◌, ◌≤◌, Bool, true, false, List, [], ◌∷◌, ◌++◌, map, length, refl, sym, ap, ◌∙◌, arith, true≢false}
+use Rattle.std.specs.Prelude.{Option, Some, None, ◌&&◌, ◌||◌, nat_eq, filter, fold, unwrap_or}
+use Rattle.std.specs.List.{list_all}
+use Rattle.std.proofs.lemmas.Bool.{eqb-true}
+use Rattle.vkg_lists.proofs.Tests.{nat_test}
+use Rattle.vkg_lists.proofs.Counts.{eq_itself}
+use Rattle.vkg_lists.proofs.Bools.{and_parts}
+use Rattle.vkg_terms.specs.declared.term.Term.{Term}
+use Rattle.vkg_cells.specs.declared.cell.Cell.{Cell}
+use Rattle.vkg_cells.specs.Order.{same}
+use Rattle.vkg_cells.specs.declared.cell.Cell.TheVariants as cell
+use Rattle.vkg_schema.specs.Rows.{is_null, Row}
+use Rattle.vkg_values.specs.Logic.{or3}
+use Rattle.vkg_algebra.specs.Solutions.{compatible}
+use Rattle.vkg_expr.specs.Expr.{Expr}
+use Rattle.vkg_expr.specs.Value.{value_of, term_of, term_cell, truth_of, truth_cell, holds}
+use Rattle.vkg_unfold.specs.declared.mode.Mode.{Mode}
+use Rattle.vkg_unfold.specs.Unfolded.{has, left_column, right_column, visible_column, columns_in, or_null}
+use Rattle.vkg_unfold.specs.StandsFor.{upto_from, term_in, solution_of}
+use Rattle.vkg_answers.proofs.Joins.{agree}
+use Rattle.vkg_answers.proofs.Reading.{AreTermCells, AreBelow, read, read_left, read_right, read_typed, read_none, has-filter}
+
+or_cells : Cell → Cell → Bool
+or_cells c d = unwrap_or (truth_of (truth_cell (fold or3 (Some false) (map truth_of (cell.Bool (is_null c) ∷ cell.Bool (is_null d) ∷ truth_cell (same c d) ∷ []))))) false
+
+or_terms : (o p : Option Term) → or_cells (term_cell o) (term_cell p) ≡ agree o p
+unfolding or_cells
+or_terms None None = refl
+or_terms None (Some u) = refl
+or_terms (Some t) None = refl
+or_terms (Some t) (Some u) = refl
+
+pub holds-or_null : (a b : Expr) (row : Row) (o p : Option Term) → value_of a row ≡ term_cell o → value_of b row ≡ term_cell p → holds (or_null a b) row ≡ agree o p
+unfolding or_cells
+holds-or_null a b row o p e f = (λ i. or_cells (e i) (f i)) ∙ or_terms o p
+
+pub compatible-map : (f g : ℕ → Option Term) (us : List ℕ) → compatible (map f us) (map g us) ≡ list_all (λ v. agree (f v) (g v)) us
+compatible-map f g [] = refl
+compatible-map f g (u ∷ us) = ap (λ b. agree (f u) (g u) && b) (compatible-map f g us)
+
+pub same_truth : (a b : Bool) → (a ≡ true → b ≡ true) → (b ≡ true → a ≡ true) → a ≡ b
+same_truth true b h k = sym (h refl)
+same_truth false true h k = k refl
+same_truth false false h k = refl
+
+pub list_all-map : {A B : Type 0} (p : B → Bool) (f : A → B) (xs : List A) → list_all p (map f xs) ≡ list_all (λ x. p (f x)) xs
+list_all-map p f [] = refl
+list_all-map p f (x ∷ xs) = ap (λ b. p (f x) && b) (list_all-map p f xs)
+
+pub list_all-append : {A : Type 0} (p : A → Bool) (xs ys : List A) → list_all p (xs ++ ys) ≡ (list_all p xs && list_all p ys)
+list_all-append p [] ys = refl
+list_all-append p (x ∷ xs) ys = Prim.rw (list_all-append p xs ys) (assoc (p x) (list_all p xs) (list_all p ys))
+  where
+    assoc : (a b c : Bool) → (a && (b && c)) ≡ ((a && b) && c)
+    assoc true b c = refl
+    assoc false b c = refl
+
+pub all_elim : (p : ℕ → Bool) (vs : List ℕ) → list_all p vs ≡ true → (v : ℕ) → has vs v ≡ true → p v ≡ true
+all_elim p [] h v k = absurd (true≢false (sym k))
+all_elim p (w ∷ vs) h v k = of (all_elim p vs (and_parts (p w) (list_all p vs) h).1 v) (nat_eq v w) refl k
+  where
+    of : (has vs v ≡ true → p v ≡ true) → (b : Bool) → nat_eq v w ≡ b → (b || has vs v) ≡ true → p v ≡ true
+    of rest true e k = ap p (eqb-true v w e) ∙ (and_parts (p w) (list_all p vs) h).0
+    of rest false e k = rest k
+
+pub all_intro : (p : ℕ → Bool) (vs : List ℕ) → ((v : ℕ) → has vs v ≡ true → p v ≡ true) → list_all p vs ≡ true
+all_intro p [] h = refl
+all_intro p (w ∷ vs) h = (λ i. h w (ap (λ b. b || has vs w) (eq_itself nat_test w)) i && all_intro p vs (λ v k. h v (ap (λ b. nat_eq v w || b) k ∙ or_true (nat_eq v w))) i)
+  where
+    or_true : (b : Bool) → (b || true) ≡ true
+    or_true true = refl
+    or_true false = refl
+
+or_true : (b : Bool) → (b || true) ≡ true
+or_true true = refl
+or_true false = refl
+
+pub has-upto : (n k v w : ℕ) → v < n → w ≡ k + v → has (upto_from k n) w ≡ true
+has-upto zero k v w h e = absurd (omega arith)
+has-upto (suc n) k zero w h e = let f : w ≡ k = omega arith in ap (λ b. b || has (upto_from (suc k) n) w) (ap (nat_eq w) (sym f) ∙ eq_itself nat_test w)
+has-upto (suc n) k (suc v) w h e = ap (λ b. nat_eq w k || b) (has-upto n (suc k) v w (omega arith) (omega arith)) ∙ or_true (nat_eq w k)
+
+pub agree_none : (o : Option Term) → agree o None ≡ true
+agree_none None = refl
+agree_none (Some t) = refl
+
+abbrev pub agreements : Mode → List ℕ → List ℕ → List Expr
+agreements mode vs ws = map (λ v. or_null (left_column vs v) (right_column mode vs ws v)) (filter (has ws) vs)
+
+pub agreements-compatible : (n : ℕ) (mode : Mode) (vs ws : List ℕ) (l r : Row) → AreBelow n vs → length l ≡ columns_in mode vs → length vs ≤ length l → AreTermCells l → AreTermCells r →
+    list_all (λ c. holds c (l ++ r)) (agreements mode vs ws) ≡ compatible (solution_of n vs l) (solution_of n ws r)
+agreements-compatible n mode vs ws l r below m k p q =
+    list_all-map (λ c. holds c (l ++ r)) (λ v. or_null (left_column vs v) (right_column mode vs ws v)) (filter (has ws) vs)
+    ∙ same_truth (list_all test (filter (has ws) vs)) (list_all agreed (upto_from 0 n)) onto back
+    ∙ sym (compatible-map (term_in (visible_column vs) l) (term_in (visible_column ws) r) (upto_from 0 n))
+  where
+    test : ℕ → Bool
+    test v = holds (or_null (left_column vs v) (right_column mode vs ws v)) (l ++ r)
+
+    agreed : ℕ → Bool
+    agreed v = agree (term_in (visible_column vs) l v) (term_in (visible_column ws) r v)
+
+    one : (v : ℕ) → has vs v ≡ true → has ws v ≡ true → test v ≡ agreed v
+    one v e f = holds-or_null (left_column vs v) (right_column mode vs ws v) (l ++ r) (term_of (read vs l v)) (term_of (read ws r v))
+        (read_left vs l r v k e ∙ (read_typed vs l p v).0) (read_right mode vs ws l r v m f ∙ (read_typed ws r q v).0)
+
+    shared : (v : ℕ) → has vs v ≡ true → has ws v ≡ true → has (filter (has ws) vs) v ≡ true
+    shared v e f = has-filter (has ws) vs v ∙ (λ i. e i && f i)
+
+    onto : list_all test (filter (has ws) vs) ≡ true → list_all agreed (upto_from 0 n) ≡ true
+    onto h = all_intro agreed (upto_from 0 n) (λ v c. of v (has vs v) refl (has ws v) refl)
+      where
+        of : (v : ℕ) (a : Bool) → has vs v ≡ a → (b : Bool) → has ws v ≡ b → agreed v ≡ true
+        of v true e true f = sym (one v e f) ∙ all_elim test (filter (has ws) vs) h v (shared v e f)
+        of v true e false f = ap (λ c. agree (term_in (visible_column vs) l v) (term_of c)) (read_none ws r v f) ∙ agree_none (term_in (visible_column vs) l v)
+        of v false e b f = ap (λ c. agree (term_of c) (term_in (visible_column ws) r v)) (read_none vs l v e)
+
+    back : list_all agreed (upto_from 0 n) ≡ true → list_all test (filter (has ws) vs) ≡ true
+    back h = all_intro test (filter (has ws) vs) (λ v c. let b = and_parts (has vs v) (has ws v) (sym (has-filter (has ws) vs v) ∙ c) in
+        one v b.0 b.1 ∙ all_elim agreed (upto_from 0 n) h v (has-upto n 0 v v (below v b.0) (omega arith)))

@@ -1,0 +1,274 @@
+-- Reading rows: cells of terms, a variable's cell, the columns of a Project and of two rows joined.
+use Rattle.std.proofs.Common.{◌≡◌, ℕ, zero, suc, ◌+◌, ◌<◌, ◌≤◌, ⊎_elim, Bool, true, false, List, [], ◌∷◌, ◌++◌, map, length, refl, sym, ap, ◌∙◌, arith, true≢false}
+use Rattle.std.specs.Prelude.{Option, Some, None, not, ◌&&◌, ◌||◌, nat_eq, replicate, filter, if◌then◌else◌}
+use Rattle.std.specs.Option.{option_or}
+use Rattle.std.proofs.lemmas.Bool.{eqb-true, cases_lt}
+use Rattle.vkg_lists.proofs.Tests.{nat_test}
+use Rattle.vkg_lists.proofs.Counts.{eq_itself}
+use Rattle.vkg_terms.specs.declared.term.Term.{Term}
+use Rattle.vkg_cells.specs.declared.cell.Cell.{Cell}
+use Rattle.vkg_cells.specs.declared.cell.Cell.TheVariants as cell
+use Rattle.vkg_schema.specs.Rows.{Row, cell_at}
+use Rattle.vkg_algebra.specs.Solutions.{merge, lookup}
+use Rattle.vkg_algebra.specs.Visible.{each_once}
+use Rattle.vkg_expr.specs.Expr.{Expr, Coalesce, exprs}
+use Rattle.vkg_expr.specs.Value.{value_of, term_of, term_cell, coalesced}
+use Rattle.vkg_unfold.specs.Unfolded.{place_of, has, merged, left_column, right_column, visible_column, null_term, columns_in}
+use Rattle.vkg_unfold.specs.declared.mode.Mode.{Mode}
+use Rattle.vkg_unfold.specs.StandsFor.{upto_from, term_in, solution_of}
+use Rattle.vkg_unfold.specs.FineRows.{IsNarrow}
+use Rattle.vkg_answers.proofs.Joins.{merge-map}
+use Rattle.vkg_row_rules.proofs.RowTermValues.{term_back}
+
+-- a cell that is NULL, or a term that is no number of too many digits
+abbrev pub IsTermCell : Cell → Type 0
+IsTermCell c = (c ≡ term_cell (term_of c)) × IsNarrow (term_of c)
+
+pub is_term_cell : (c : Cell) (o : Option Term) → c ≡ term_cell o → IsNarrow o → IsTermCell c
+is_term_cell c None e h = Prim.rw e (refl, tt)
+is_term_cell c (Some t) e h = Prim.rw e (refl, h)
+
+-- ---- cells of rows
+
+pub cell_at-left : (l r : Row) (k : ℕ) → k < length l → cell_at (l ++ r) k ≡ cell_at l k
+cell_at-left [] r k h = absurd (omega arith)
+cell_at-left (c ∷ l) r zero h = refl
+cell_at-left (c ∷ l) r (suc k) h = cell_at-left l r k (omega arith)
+
+pub cell_at-right : (l r : Row) (m k : ℕ) → m ≡ length l + k → cell_at (l ++ r) m ≡ cell_at r k
+cell_at-right [] r m k e = let f : m ≡ k = omega arith in Prim.rw f refl
+cell_at-right (c ∷ l) r zero k e = absurd (omega arith)
+cell_at-right (c ∷ l) r (suc m) k e = cell_at-right l r m k (omega arith)
+
+pub cell_at-nulls : (n k : ℕ) → cell_at (replicate n cell.Null) k ≡ cell.Null
+cell_at-nulls zero k = refl
+cell_at-nulls (suc n) zero = refl
+cell_at-nulls (suc n) (suc k) = cell_at-nulls n k
+
+-- ---- places of variables
+
+pub place_within : (vs : List ℕ) (v : ℕ) → has vs v ≡ true → place_of (nat_eq v) vs < length vs
+place_within [] v h = absurd (true≢false (sym h))
+place_within (w ∷ vs) v h = of (λ k. place_within vs v k) (nat_eq v w) h
+  where
+    of : (has vs v ≡ true → place_of (nat_eq v) vs < length vs) → (b : Bool) → (b || has vs v) ≡ true → (if b then 0 else suc (place_of (nat_eq v) vs)) < length (w ∷ vs)
+    of rest true k = omega arith
+    of rest false k = omega (arith, rest k)
+
+pub read_place : (g : ℕ → Cell) (vs : List ℕ) (rest : Row) (v : ℕ) → has vs v ≡ true → cell_at (map g vs ++ rest) (place_of (nat_eq v) vs) ≡ g v
+read_place g [] rest v h = absurd (true≢false (sym h))
+read_place g (w ∷ vs) rest v h = of (λ k. read_place g vs rest v k) (nat_eq v w) refl h
+  where
+    of : (has vs v ≡ true → cell_at (map g vs ++ rest) (place_of (nat_eq v) vs) ≡ g v) → (x : Bool) → nat_eq v w ≡ x → (x || has vs v) ≡ true → cell_at (g w ∷ (map g vs ++ rest)) (if x then 0 else suc (place_of (nat_eq v) vs)) ≡ g v
+    of more true e k = Prim.rw (eqb-true v w e) refl
+    of more false e k = more k
+
+-- ---- has
+
+pub has-append : (vs ws : List ℕ) (v : ℕ) → has (vs ++ ws) v ≡ (has vs v || has ws v)
+has-append [] ws v = refl
+has-append (w ∷ vs) ws v = of (has-append vs ws v) (nat_eq v w)
+  where
+    of : has (vs ++ ws) v ≡ (has vs v || has ws v) → (b : Bool) → (b || has (vs ++ ws) v) ≡ ((b || has vs v) || has ws v)
+    of rest true = refl
+    of rest false = rest
+
+pub has-filter : (p : ℕ → Bool) (vs : List ℕ) (v : ℕ) → has (filter p vs) v ≡ (has vs v && p v)
+has-filter p [] v = refl
+has-filter p (w ∷ vs) v = of (has-filter p vs v) (p w) refl (nat_eq v w) refl
+  where
+    no : (b : Bool) → (b && false) ≡ false
+    no true = refl
+    no false = refl
+
+    of : has (filter p vs) v ≡ (has vs v && p v) → (b : Bool) → p w ≡ b → (c : Bool) → nat_eq v w ≡ c → has (if b then w ∷ filter p vs else filter p vs) v ≡ ((c || has vs v) && p v)
+    of rest true e true f = let g : v ≡ w = eqb-true v w f in Prim.rw (f, ap p g, e) refl
+    of rest true e false f = Prim.rw f rest
+    of rest false e true f = let g : v ≡ w = eqb-true v w f in rest ∙ Prim.rw (ap p g, e) (no (has vs v))
+    of rest false e false f = rest
+
+pub has-each_once : (vs : List ℕ) (v : ℕ) → has (each_once vs) v ≡ has vs v
+has-each_once [] v = refl
+has-each_once (w ∷ vs) v = of (has-each_once vs v) (nat_eq v w) refl
+  where
+    other : (b : Bool) → nat_eq w v ≡ b → nat_eq v w ≡ false → not b ≡ true
+    other true f e = absurd (true≢false (sym (eq_itself nat_test v) ∙ ap (nat_eq v) (sym (eqb-true w v f)) ∙ e))
+    other false f e = refl
+
+    apart : nat_eq v w ≡ false → not (nat_eq w v) ≡ true
+    apart e = other (nat_eq w v) refl e
+
+    keep : (b : Bool) → (b && true) ≡ b
+    keep true = refl
+    keep false = refl
+
+    of : has (each_once vs) v ≡ has vs v → (b : Bool) → nat_eq v w ≡ b → (b || has (filter (λ y. not (nat_eq w y)) (each_once vs)) v) ≡ (b || has vs v)
+    of rest true e = refl
+    of rest false e = has-filter (λ y. not (nat_eq w y)) (each_once vs) v ∙ Prim.rw (rest, apart e) (keep (has vs v))
+
+pub has_union : (vs ws : List ℕ) (v : ℕ) → has (each_once (vs ++ ws)) v ≡ (has vs v || has ws v)
+has_union vs ws v = has-each_once (vs ++ ws) v ∙ has-append vs ws v
+
+-- ---- a variable's cell
+
+abbrev pub read : List ℕ → Row → ℕ → Cell
+read vs row v = value_of (visible_column vs v) row
+
+pub read_there : (vs : List ℕ) (row : Row) (v : ℕ) → has vs v ≡ true → read vs row v ≡ cell_at row (place_of (nat_eq v) vs)
+read_there vs row v h = Prim.rw h refl
+
+pub read_none : (vs : List ℕ) (row : Row) (v : ℕ) → has vs v ≡ false → read vs row v ≡ cell.Null
+read_none vs row v h = Prim.rw h refl
+
+-- a row of terms
+abbrev pub AreTermCells : Row → Type 0
+AreTermCells row = (at : ℕ) → IsTermCell (cell_at row at)
+
+pub read_typed : (vs : List ℕ) (row : Row) → AreTermCells row → (v : ℕ) → IsTermCell (read vs row v)
+read_typed vs row h v = of (has vs v)
+  where
+    of : (b : Bool) → IsTermCell (value_of (if b then left_column vs v else null_term) row)
+    of true = h (place_of (nat_eq v) vs)
+    of false = (refl, tt)
+
+-- the row of a Project of f of each variable, and then more
+pub read_project : (f : ℕ → Expr) (es : List Expr) (vs : List ℕ) (row : Row) (v : ℕ) →
+    read vs (map (λ e. value_of e row) (map f vs ++ es)) v ≡ (if has vs v then value_of (f v) row else cell.Null)
+read_project f es vs row v = of (has vs v) refl
+  where
+    shape : (us : List ℕ) → map (λ e. value_of e row) (map f us ++ es) ≡ map (λ w. value_of (f w) row) us ++ map (λ e. value_of e row) es
+    shape [] = refl
+    shape (u ∷ us) = ap (λ cs. value_of (f u) row ∷ cs) (shape us)
+
+    of : (b : Bool) → has vs v ≡ b → value_of (if b then left_column vs v else null_term) (map (λ e. value_of e row) (map f vs ++ es)) ≡ (if b then value_of (f v) row else cell.Null)
+    of true e = ap (λ cs. cell_at cs (place_of (nat_eq v) vs)) (shape vs) ∙ read_place (λ w. value_of (f w) row) vs (map (λ e. value_of e row) es) v e
+    of false e = refl
+
+-- ---- two rows joined
+
+pub read_left : (vs : List ℕ) (l r : Row) (v : ℕ) → length vs ≤ length l → has vs v ≡ true → value_of (left_column vs v) (l ++ r) ≡ read vs l v
+read_left vs l r v m h = cell_at-left l r (place_of (nat_eq v) vs) (omega (arith, place_within vs v h)) ∙ sym (read_there vs l v h)
+
+pub read_right : (mode : Mode) (vs ws : List ℕ) (l r : Row) (v : ℕ) → length l ≡ columns_in mode vs → has ws v ≡ true → value_of (right_column mode vs ws v) (l ++ r) ≡ read ws r v
+read_right mode vs ws l r v m h = cell_at-right l r (columns_in mode vs + place_of (nat_eq v) ws) (place_of (nat_eq v) ws) (ap (λ k. k + place_of (nat_eq v) ws) (sym m)) ∙ sym (read_there ws r v h)
+
+coalesced_terms : (c d : Cell) (o p : Option Term) → c ≡ term_cell o → d ≡ term_cell p → coalesced (c ∷ d ∷ []) ≡ term_cell (option_or o p)
+coalesced_terms c d None None e f = Prim.rw (e, f) refl
+coalesced_terms c d None (Some u) e f = Prim.rw (e, f) refl
+coalesced_terms c d (Some t) p e f = Prim.rw e refl
+
+pub none_right : (o : Option Term) → option_or o None ≡ o
+none_right None = refl
+none_right (Some t) = refl
+
+-- what two term cells have as one
+pub read_merged : (mode : Mode) (vs ws : List ℕ) (l r : Row) → length l ≡ columns_in mode vs → length vs ≤ length l → AreTermCells l → AreTermCells r → (v : ℕ) →
+    value_of (merged mode vs ws v) (l ++ r) ≡ term_cell (option_or (term_in (visible_column vs) l v) (term_in (visible_column ws) r v))
+read_merged mode vs ws l r m k p q v = of (has vs v) refl (has ws v) refl
+  where
+    here : Cell
+    here = read vs l v
+
+    there : Cell
+    there = read ws r v
+
+    of : (a : Bool) → has vs v ≡ a → (b : Bool) → has ws v ≡ b →
+        value_of (if a then (if b then Coalesce (exprs (left_column vs v ∷ right_column mode vs ws v ∷ [])) else left_column vs v) else (if b then right_column mode vs ws v else null_term)) (l ++ r)
+        ≡ term_cell (option_or (term_of here) (term_of there))
+    of true e true f =
+        coalesced_terms (value_of (left_column vs v) (l ++ r)) (value_of (right_column mode vs ws v) (l ++ r)) (term_of here) (term_of there)
+        (read_left vs l r v k e ∙ (read_typed vs l p v).0) (read_right mode vs ws l r v m f ∙ (read_typed ws r q v).0)
+    of true e false f =
+        read_left vs l r v k e ∙ (read_typed vs l p v).0 ∙ ap term_cell (sym (none_right (term_of here)) ∙ ap (λ c. option_or (term_of here) (term_of c)) (sym (read_none ws r v f)))
+    of false e true f =
+        read_right mode vs ws l r v m f ∙ (read_typed ws r q v).0 ∙ ap (λ c. term_cell (option_or (term_of c) (term_of there))) (sym (read_none vs l v e))
+    of false e false f = (λ i. term_cell (option_or (term_of (sym (read_none vs l v e) i)) (term_of (sym (read_none ws r v f) i))))
+
+-- ---- the solution of a row
+
+pub lookup-upto : (f : ℕ → Option Term) (n k v : ℕ) → v < n → lookup (map f (upto_from k n)) v ≡ f (k + v)
+lookup-upto f zero k v h = absurd (omega arith)
+lookup-upto f (suc n) k zero h = let e : k + 0 ≡ k = omega arith in Prim.rw e refl
+lookup-upto f (suc n) k (suc v) h = let e : k + suc v ≡ suc k + v = omega arith in Prim.rw e (lookup-upto f n (suc k) v (omega arith))
+
+pub lookup-past : (f : ℕ → Option Term) (n k v : ℕ) → n ≤ v → lookup (map f (upto_from k n)) v ≡ None
+lookup-past f zero k v h = refl
+lookup-past f (suc n) k zero h = absurd (omega arith)
+lookup-past f (suc n) k (suc v) h = lookup-past f n (suc k) v (omega arith)
+
+-- every variable is below n
+abbrev pub AreBelow : ℕ → List ℕ → Type 0
+AreBelow n vs = (v : ℕ) → has vs v ≡ true → v < n
+
+pub lookup-solution : (n : ℕ) (vs : List ℕ) (row : Row) (v : ℕ) → AreBelow n vs → lookup (solution_of n vs row) v ≡ term_in (visible_column vs) row v
+lookup-solution n vs row v h = ⊎_elim
+    (λ l. lookup-upto (term_in (visible_column vs) row) n 0 v l ∙ ap (term_in (visible_column vs) row) (omega arith))
+    (λ g. lookup-past (term_in (visible_column vs) row) n 0 v g ∙ past (has vs v) refl g)
+    (cases_lt v n)
+  where
+    past : (b : Bool) → has vs v ≡ b → n ≤ v → None ≡ term_in (visible_column vs) row v
+    past true e g = absurd (omega (arith, h v e))
+    past false e g = sym (ap term_of (read_none vs row v e))
+
+-- a variable in the row of a Project of merged columns
+pub term_merged : (mode : Mode) (vs ws : List ℕ) (l r : Row) → length l ≡ columns_in mode vs → length vs ≤ length l → AreTermCells l → AreTermCells r → (es : List Expr) → (v : ℕ) →
+    term_in (visible_column (each_once (vs ++ ws))) (map (λ e. value_of e (l ++ r)) (map (merged mode vs ws) (each_once (vs ++ ws)) ++ es)) v
+    ≡ option_or (term_in (visible_column vs) l v) (term_in (visible_column ws) r v)
+term_merged mode vs ws l r m k p q es v = ap term_of (read_project (merged mode vs ws) es all (l ++ r) v) ∙ of (has all v) refl
+  where
+    all : List ℕ
+    all = each_once (vs ++ ws)
+
+    nothing : (a b : Bool) → has vs v ≡ a → has ws v ≡ b → (a || b) ≡ false → None ≡ option_or (term_in (visible_column vs) l v) (term_in (visible_column ws) r v)
+    nothing true b e f h = absurd (true≢false h)
+    nothing false true e f h = absurd (true≢false h)
+    nothing false false e f h = (λ i. option_or (term_of (sym (read_none vs l v e) i)) (term_of (sym (read_none ws r v f) i)))
+
+    of : (b : Bool) → has all v ≡ b → term_of (if b then value_of (merged mode vs ws v) (l ++ r) else cell.Null) ≡ option_or (term_in (visible_column vs) l v) (term_in (visible_column ws) r v)
+    of true e = ap term_of (read_merged mode vs ws l r m k p q v) ∙ term_back (option_or (term_in (visible_column vs) l v) (term_in (visible_column ws) r v))
+    of false e = nothing (has vs v) (has ws v) refl refl (sym (has_union vs ws v) ∙ e)
+
+-- the row of a Project of merged columns is the merge
+pub solution-merged : (n : ℕ) (mode : Mode) (vs ws : List ℕ) (l r : Row) → length l ≡ columns_in mode vs → length vs ≤ length l → AreTermCells l → AreTermCells r → (es : List Expr) →
+    solution_of n (each_once (vs ++ ws)) (map (λ e. value_of e (l ++ r)) (map (merged mode vs ws) (each_once (vs ++ ws)) ++ es))
+    ≡ merge (solution_of n vs l) (solution_of n ws r)
+solution-merged n mode vs ws l r m k p q es =
+    (λ i. map (λ v. term_merged mode vs ws l r m k p q es v i) (upto_from 0 n)) ∙ sym (merge-map (term_in (visible_column vs) l) (term_in (visible_column ws) r) (upto_from 0 n))
+
+pub narrow_or : (o p : Option Term) → IsNarrow o → IsNarrow p → IsNarrow (option_or o p)
+narrow_or None p h k = k
+narrow_or (Some t) p h k = h
+
+-- a merged cell is a term cell, with the merged solution's term
+pub merged_typed : (mode : Mode) (vs ws : List ℕ) (l r : Row) → length l ≡ columns_in mode vs → length vs ≤ length l → AreTermCells l → AreTermCells r → (v : ℕ) → IsTermCell (value_of (merged mode vs ws v) (l ++ r))
+merged_typed mode vs ws l r m k p q v =
+    is_term_cell (value_of (merged mode vs ws v) (l ++ r)) (option_or (term_in (visible_column vs) l v) (term_in (visible_column ws) r v)) (read_merged mode vs ws l r m k p q v)
+    (narrow_or (term_in (visible_column vs) l v) (term_in (visible_column ws) r v) (read_typed vs l p v).1 (read_typed ws r q v).1)
+
+-- a row of NULLs has no terms
+pub nulls_typed : (n : ℕ) → AreTermCells (replicate n cell.Null)
+nulls_typed n at = is_term_cell (cell_at (replicate n cell.Null) at) None (cell_at-nulls n at) tt
+
+pub nulls_none : (n : ℕ) (vs : List ℕ) (v : ℕ) → term_in (visible_column vs) (replicate n cell.Null) v ≡ None
+nulls_none n vs v = of (has vs v)
+  where
+    of : (b : Bool) → term_of (value_of (if b then left_column vs v else null_term) (replicate n cell.Null)) ≡ None
+    of true = ap term_of (cell_at-nulls n (place_of (nat_eq v) vs))
+    of false = refl
+
+-- rows cell by cell
+pub cells-nil : AreTermCells []
+cells-nil at = (refl, tt)
+
+pub cells-cons : (c : Cell) (row : Row) → IsTermCell c → AreTermCells row → AreTermCells (c ∷ row)
+cells-cons c row h k zero = h
+cells-cons c row h k (suc at) = k at
+
+pub cells-map : (f : ℕ → Expr) (vs : List ℕ) (es : List Expr) (row : Row) → ((v : ℕ) → IsTermCell (value_of (f v) row)) → AreTermCells (map (λ e. value_of e row) es) → AreTermCells (map (λ e. value_of e row) (map f vs ++ es))
+cells-map f [] es row h k = k
+cells-map f (v ∷ vs) es row h k = cells-cons (value_of (f v) row) (map (λ e. value_of e row) (map f vs ++ es)) (h v) (cells-map f vs es row h k)
+
+pub length-project : (f : ℕ → Expr) (vs : List ℕ) (es : List Expr) (row : Row) → length (map (λ e. value_of e row) (map f vs ++ es)) ≡ length vs + length es
+length-project f [] [] row = refl
+length-project f [] (e ∷ es) row = omega (arith, length-project f [] es row)
+length-project f (v ∷ vs) es row = omega (arith, length-project f vs es row)

@@ -1,0 +1,193 @@
+-- The unfolded plan stands for its algebra.
+use Rattle.std.proofs.Common.{◌≡◌, ℕ, ◌<◌, Bool, true, false, List, [], ◌∷◌, ◌++◌, map, length, refl, sym, ap, subst, ◌∙◌, arith, true≢false, append-nil}
+use Rattle.std.specs.Prelude.{Option, Some, None, ◌||◌, filter, flat_map, filter_map, Contains, nat_eq, if◌then◌else◌}
+use Rattle.std.specs.List.{list_any, cons_option}
+use Rattle.std.specs.List.Sorted.{IsPermutation}
+use Rattle.vkg_lists.proofs.Tests.{nat_test}
+use Rattle.vkg_lists.proofs.Counts.{eq_comm, Decides-list_any}
+use Rattle.vkg_lists.proofs.Members.{Contains-here}
+use Rattle.vkg_lists.proofs.Walks.{filter_all}
+use Rattle.vkg_lists.proofs.Distinct.{distinct-distinct, Contains-distinct, Contains-from_distinct}
+use Rattle.vkg_lists.specs.Sets.{distinct}
+use Rattle.vkg_terms.specs.declared.term.Term.{Term}
+use Rattle.vkg_terms.specs.declared.term.Term.TheVariants.{Iri}
+use Rattle.vkg_terms.specs.NQuads.{Quad}
+use Rattle.vkg_terms.specs.Same.{term_eq}
+use Rattle.vkg_terms.proofs.SameLemmas.{terms_apart}
+use Rattle.vkg_schema.specs.Rows.{Database, Row}
+use Rattle.vkg_maps.specs.Dataset.{graph_eq}
+use Rattle.vkg_sparql.specs.Lawful.{IsLawful, condition_nodes, name_node}
+use Rattle.vkg_sparql.specs.Query.{Condition}
+use Rattle.vkg_sparql.specs.declared.pattern.Node.TheVariants.{Variable}
+use Rattle.vkg_sparql.specs.declared.pattern.TriplePattern.{TriplePattern}
+use Rattle.vkg_sparql.specs.declared.pattern.GraphName.TheVariants as name
+use Rattle.vkg_algebra.specs.Algebra.{Algebra, Bgp, Join, LeftJoin, Union, Filter, Graph}
+use Rattle.vkg_algebra.specs.Lawful.{IsLawfulAlgebra, algebra_nodes, condition_nodes_if_any}
+use Rattle.vkg_algebra.specs.Solutions.{Solution}
+use Rattle.vkg_algebra.specs.Evaluation.{Dataset, evaluate, graph_names}
+use Rattle.vkg_algebra.specs.Patterns.{bgp_solutions}
+use Rattle.vkg_algebra.specs.Visible.{visible, each_once, pattern_variables}
+use Rattle.vkg_expr.specs.Expr.{Expr, Col}
+use Rattle.vkg_expr.specs.Logic.{and_of, truth_const}
+use Rattle.vkg_expr.specs.Value.{holds, value_of}
+use Rattle.vkg_plan.specs.Kinds.{Tables, width}
+use Rattle.vkg_plan.specs.Plan.{Plan, Select, Project, Left, plans}
+use Rattle.vkg_plan.specs.Plan as plan
+use Rattle.vkg_plan.specs.Rows.{rows_of}
+use Rattle.vkg_row_rules.specs.declared.row_rule.RowRule.{RowRule}
+use Rattle.vkg_unfold.specs.declared.mode.Mode.{Mode}
+use Rattle.vkg_unfold.specs.declared.mode.Mode.TheVariants.{Default, InGraph, Each}
+use Rattle.vkg_unfold.specs.Unfolded.{has, column, graph_column, in_its_graph, visible_column, merged, merged_columns, agreement, if_each, unfolded, bgp_plan, names_plan, exists_plan, in_mode, named_graph, each_graph, after, is_pattern}
+use Rattle.vkg_unfold.specs.Conditions.{condition_of}
+use Rattle.vkg_unfold.specs.FineRows.{IsNarrow}
+use Rattle.vkg_answers.proofs.Lawful.{lawful_left, lawful_right, lawful_tail, narrow_if_any, variables_below}
+use Rattle.vkg_answers.proofs.Reading.{AreBelow, has-each_once, has_union}
+use Rattle.vkg_answers.proofs.Agreement.{same_truth}
+use Rattle.vkg_answers.proofs.Steps.{Stands, join_stands, left_stands, below_union, project_rows}
+use Rattle.vkg_answers.proofs.OneSide.{filter_stands, widened_stands, append_stands}
+use Rattle.vkg_answers.proofs.Graphs.{Plain, plain_named, stands_default, stands_named, after_exists, after_names, name_row}
+use Rattle.vkg_answers.proofs.GraphVariable.{variable_stands}
+
+of_left : (n : ℕ) (a b : Algebra) → IsLawful n (algebra_nodes a ++ algebra_nodes b) → IsLawfulAlgebra n a
+of_left n a b h = lawful_left n (algebra_nodes a) (algebra_nodes b) h
+
+of_right : (n : ℕ) (a b : Algebra) → IsLawful n (algebra_nodes a ++ algebra_nodes b) → IsLawfulAlgebra n b
+of_right n a b h = lawful_right n (algebra_nodes a) (algebra_nodes b) h
+
+of_both : (n : ℕ) (a b : Algebra) (c : Option Condition) → IsLawfulAlgebra n (LeftJoin a b c) → IsLawful n (algebra_nodes a ++ algebra_nodes b)
+of_both n a b c h = lawful_left n (algebra_nodes a ++ algebra_nodes b) (condition_nodes_if_any c) h
+
+named_below : (n w : ℕ) (a : Algebra) → IsLawfulAlgebra n (Graph (name.Each w) a) → w < n
+named_below n w a h = h.within (Variable w) (Contains-here (Variable w) (algebra_nodes a))
+
+one_below : (n w : ℕ) → w < n → AreBelow n (w ∷ [])
+one_below n w l v e = of (nat_eq v w) refl e
+  where
+    of : (b : Bool) → nat_eq v w ≡ b → (b || false) ≡ true → v < n
+    of true f g = omega (arith, l, (nat_test.decides v w).0 f)
+    of false f g = absurd (true≢false (sym g))
+
+pub visible_below : (n : ℕ) (a : Algebra) → IsLawfulAlgebra n a → AreBelow n (visible a)
+visible_below n (Bgp ps) h = λ v e. variables_below n ps h v (sym (has-each_once (flat_map pattern_variables ps) v) ∙ e)
+visible_below n (Join a b) h = below_union n (visible a) (visible b) (visible_below n a (of_left n a b h)) (visible_below n b (of_right n a b h))
+visible_below n (LeftJoin a b c) h = let k = of_both n a b c h in below_union n (visible a) (visible b) (visible_below n a (of_left n a b k)) (visible_below n b (of_right n a b k))
+visible_below n (Union a b) h = below_union n (visible a) (visible b) (visible_below n a (of_left n a b h)) (visible_below n b (of_right n a b h))
+visible_below n (Filter c a) h = visible_below n a (lawful_right n (condition_nodes c) (algebra_nodes a) h)
+visible_below n (Graph (name.Named i) a) h = λ v e. visible_below n a (lawful_tail n (name_node (name.Named i)) (algebra_nodes a) h) v (sym (has-each_once (visible a) v) ∙ e)
+visible_below n (Graph (name.Each w) a) h = below_union n (w ∷ []) (visible a) (one_below n w (named_below n w a h)) (visible_below n a (lawful_tail n (name_node (name.Each w)) (algebra_nodes a) h))
+
+pub visible_once : (a : Algebra) → each_once (visible a) ≡ visible a
+visible_once (Bgp ps) = distinct-distinct nat_eq (flat_map pattern_variables ps)
+visible_once (Join a b) = distinct-distinct nat_eq (visible a ++ visible b)
+visible_once (LeftJoin a b c) = distinct-distinct nat_eq (visible a ++ visible b)
+visible_once (Union a b) = distinct-distinct nat_eq (visible a ++ visible b)
+visible_once (Filter c a) = visible_once a
+visible_once (Graph (name.Named i) a) = distinct-distinct nat_eq (visible a)
+visible_once (Graph (name.Each v) a) = distinct-distinct nat_eq (v ∷ visible a)
+
+-- ---- a pattern has no solutions in a graph without a name
+
+member_distinct : (x : Term) (xs : List Term) → list_any (term_eq x) (distinct term_eq xs) ≡ list_any (term_eq x) xs
+member_distinct x xs = same_truth (list_any (term_eq x) (distinct term_eq xs)) (list_any (term_eq x) xs)
+    (λ h. (Decides-list_any terms_apart xs x).1 (Contains-from_distinct term_eq xs x ((Decides-list_any terms_apart (distinct term_eq xs) x).0 h)))
+    (λ h. (Decides-list_any terms_apart (distinct term_eq xs) x).1 (Contains-distinct terms_apart xs x ((Decides-list_any terms_apart xs x).0 h)))
+
+absent : (x : Term) (qs : List Quad) → list_any (term_eq x) (filter_map (λ q. q.graph) qs) ≡ false → filter (λ q. graph_eq q.graph (Some x)) qs ≡ []
+absent x [] h = refl
+absent x (q ∷ qs) h = of (λ k. absent x qs k) q.graph h
+  where
+    of : (list_any (term_eq x) (filter_map (λ q. q.graph) qs) ≡ false → filter (λ q. graph_eq q.graph (Some x)) qs ≡ []) → (o : Option Term) →
+        list_any (term_eq x) (cons_option o (filter_map (λ q. q.graph) qs)) ≡ false →
+        (if graph_eq o (Some x) then q ∷ filter (λ q. graph_eq q.graph (Some x)) qs else filter (λ q. graph_eq q.graph (Some x)) qs) ≡ []
+    of rest None k = rest k
+    of rest (Some t) k = one (term_eq x t) refl k
+      where
+        one : (b : Bool) → term_eq x t ≡ b → (b || list_any (term_eq x) (filter_map (λ q. q.graph) qs)) ≡ false → (if term_eq t x then q ∷ filter (λ q. graph_eq q.graph (Some x)) qs else filter (λ q. graph_eq q.graph (Some x)) qs) ≡ []
+        one true e l = absurd (true≢false l)
+        one false e l = Prim.rw (eq_comm terms_apart t x ∙ e) (rest l)
+
+pub pattern_absent : (n : ℕ) (d : Dataset) (i : List ℕ) (a : Algebra) → is_pattern a ≡ true → list_any (term_eq (Iri i)) (graph_names d) ≡ false → evaluate n d a (Some (Iri i)) ≡ []
+pattern_absent n d i (Bgp []) h k = absurd (true≢false (sym h))
+pattern_absent n d i (Bgp (p ∷ ps)) h k = ap (λ ts. bgp_solutions n (p ∷ ps) ts) (absent (Iri i) d (sym (member_distinct (Iri i) (filter_map (λ q. q.graph) d)) ∙ k))
+pattern_absent n d i (Join a b) h k = absurd (true≢false (sym h))
+pattern_absent n d i (LeftJoin a b c) h k = absurd (true≢false (sym h))
+pattern_absent n d i (Union a b) h k = absurd (true≢false (sym h))
+pattern_absent n d i (Filter c a) h k = absurd (true≢false (sym h))
+pattern_absent n d i (Graph g a) h k = absurd (true≢false (sym h))
+
+module _ (schema : Tables) (rules : List RowRule) (n : ℕ) (d : Dataset) (db : Database)
+    (bgp_stands : (mode : Mode) (ps : List TriplePattern) → IsLawfulAlgebra n (Bgp ps) → Stands n d mode (visible (Bgp ps)) (rows_of schema (bgp_plan schema rules mode ps) db) (evaluate n d (Bgp ps)))
+    (names_are : IsPermutation (rows_of schema (names_plan schema rules) db) (map name_row (graph_names d)))
+    (exists_are : (i : List ℕ) → rows_of schema (exists_plan schema rules i) db ≡ (if list_any (term_eq (Iri i)) (graph_names d) then [] ∷ [] else []))
+    (narrow : (i : Term) → Contains (graph_names d) i → IsNarrow (Some i)) where
+  -- under a Project
+  over : (mode : Mode) (vs : List ℕ) (es : List Expr) (p : Plan) (A : Option Term → List Solution) → Stands n d mode vs (map (λ row. map (λ e. value_of e row) es) (rows_of schema p db)) A → Stands n d mode vs (rows_of schema (Project es p) db) A
+  over mode vs es p A h = subst (λ rows. Stands n d mode vs rows A) (sym (project_rows schema db es p)) h
+
+  plain_over : (vs : List ℕ) (es : List Expr) (p : Plan) (S : List Solution) → Plain n d vs (map (λ row. map (λ e. value_of e row) es) (rows_of schema p db)) S → Plain n d vs (rows_of schema (Project es p) db) S
+  plain_over vs es p S h = subst (λ rows. Plain n d vs rows S) (sym (project_rows schema db es p)) h
+
+  in_any_mode : (mode : Mode) (vs : List ℕ) (p : Plan) (S : List Solution) → Plain n d vs (rows_of schema p db) S → Stands n d mode vs (rows_of schema (in_mode schema rules mode vs p) db) (λ g. S)
+  in_any_mode Default vs p S a = stands_default n d vs (rows_of schema p db) S a
+  in_any_mode (InGraph i) vs p S a = stands_named n d i vs (rows_of schema p db) S a
+  in_any_mode Each vs p S a = over Each vs (map (column vs 1) vs ++ Col 0 ∷ []) (plan.Join (plans (names_plan schema rules ∷ p ∷ [])) (truth_const true)) (λ g. S)
+      (after_names n d vs (rows_of schema (names_plan schema rules) db) (rows_of schema p db) S names_are narrow a)
+
+  named_plain : (a : Algebra) (i : List ℕ) (p : Plan) → Plain n d (visible a) (rows_of schema p db) (evaluate n d a (Some (Iri i))) →
+      Plain n d (visible a) (rows_of schema (named_graph schema rules a i p) db) (if list_any (term_eq (Iri i)) (graph_names d) then evaluate n d a (Some (Iri i)) else [])
+  named_plain a i p h = of (is_pattern a) refl
+    where
+      pattern : is_pattern a ≡ true → (b : Bool) → list_any (term_eq (Iri i)) (graph_names d) ≡ b → Plain n d (visible a) (rows_of schema p db) (if b then evaluate n d a (Some (Iri i)) else [])
+      pattern e true f = h
+      pattern e false f = subst (Plain n d (visible a) (rows_of schema p db)) (pattern_absent n d i a e f) h
+
+      of : (b : Bool) → is_pattern a ≡ b → Plain n d (visible a) (rows_of schema (if b then p else after (exists_plan schema rules i) (visible a) 0 p) db) (if list_any (term_eq (Iri i)) (graph_names d) then evaluate n d a (Some (Iri i)) else [])
+      of true e = pattern e (list_any (term_eq (Iri i)) (graph_names d)) refl
+      of false e = plain_over (visible a) (map (column (visible a) 0) (visible a) ++ []) (plan.Join (plans (exists_plan schema rules i ∷ p ∷ [])) (truth_const true)) (if list_any (term_eq (Iri i)) (graph_names d) then evaluate n d a (Some (Iri i)) else [])
+          (Prim.rw (exists_are i) (after_exists n d (visible a) (list_any (term_eq (Iri i)) (graph_names d)) (rows_of schema p db) (evaluate n d a (Some (Iri i))) h))
+
+  selected : (b : Bool) (c : Expr) (p : Plan) → rows_of schema (if b then Select c p else p) db ≡ filter (λ row. if b then holds c row else true) (rows_of schema p db)
+  selected true c p = refl
+  selected false c p = sym (filter_all (λ row. true) (rows_of schema p db) (λ x. refl))
+
+  abbrev rows_in : Algebra → Mode → List Row
+  rows_in a mode = rows_of schema (unfolded schema rules a mode) db
+
+  pub stands : (a : Algebra) (mode : Mode) → IsLawfulAlgebra n a → Stands n d mode (visible a) (rows_of schema (unfolded schema rules a mode) db) (evaluate n d a)
+  stands (Bgp ps) mode h = bgp_stands mode ps h
+  stands (Join a b) mode h =
+      over mode (each_once (visible a ++ visible b)) (merged_columns mode (visible a) (visible b))
+      (plan.Join (plans (unfolded schema rules a mode ∷ unfolded schema rules b mode ∷ [])) (and_of (agreement mode (visible a) (visible b)))) (evaluate n d (Join a b))
+      (join_stands n d mode (visible a) (visible b) (visible_below n a (of_left n a b h)) (visible_below n b (of_right n a b h)) (rows_in a mode) (rows_in b mode)
+      (evaluate n d a) (evaluate n d b) (stands a mode (of_left n a b h)) (stands b mode (of_right n a b h)))
+  stands (LeftJoin a b c) mode h =
+      let k = of_both n a b c h in
+      over mode (each_once (visible a ++ visible b)) (merged_columns mode (visible a) (visible b))
+      (Left (unfolded schema rules a mode) (unfolded schema rules b mode) (and_of (agreement mode (visible a) (visible b) ++ condition_of (merged mode (visible a) (visible b)) c))) (evaluate n d (LeftJoin a b c))
+      (left_stands n d mode (visible a) (visible b) (visible_below n a (of_left n a b k)) (visible_below n b (of_right n a b k)) (rows_in a mode) (rows_in b mode)
+      (evaluate n d a) (evaluate n d b) (stands a mode (of_left n a b k)) (stands b mode (of_right n a b k)) c
+      (narrow_if_any n c (lawful_right n (algebra_nodes a ++ algebra_nodes b) (condition_nodes_if_any c) h)) (width schema (unfolded schema rules b mode)))
+  stands (Union a b) mode h =
+      let all = each_once (visible a ++ visible b) in
+      let left : (v : ℕ) → has (visible a) v ≡ true → has all v ≡ true = λ v e. has_union (visible a) (visible b) v ∙ ap (λ x. x || has (visible b) v) e in
+      let right : (v : ℕ) → has (visible b) v ≡ true → has all v ≡ true = λ v e. has_union (visible a) (visible b) v ∙ ap (λ x. has (visible a) v || x) e ∙ or_true (has (visible a) v) in
+      Prim.rw (append-nil) (append_stands n d mode all _ _ (evaluate n d a) (evaluate n d b)
+      (over mode all (map (visible_column (visible a)) all ++ if_each mode (Col (length (visible a)))) (unfolded schema rules a mode) (evaluate n d a)
+      (widened_stands n d mode all (visible a) left (rows_in a mode) (evaluate n d a) (stands a mode (of_left n a b h))))
+      (over mode all (map (visible_column (visible b)) all ++ if_each mode (Col (length (visible b)))) (unfolded schema rules b mode) (evaluate n d b)
+      (widened_stands n d mode all (visible b) right (rows_in b mode) (evaluate n d b) (stands b mode (of_right n a b h)))))
+    where
+      or_true : (x : Bool) → (x || true) ≡ true
+      or_true true = refl
+      or_true false = refl
+  stands (Filter c a) mode h =
+      let k = lawful_right n (condition_nodes c) (algebra_nodes a) h in
+      filter_stands n d mode (visible a) (visible_below n a k) (rows_in a mode) (evaluate n d a) (stands a mode k) c (narrow_if_any n (Some c) (lawful_left n (condition_nodes c) (algebra_nodes a) h))
+  stands (Graph (name.Named i) a) mode h =
+      subst (λ vs. Stands n d mode vs (rows_in (Graph (name.Named i) a) mode) (evaluate n d (Graph (name.Named i) a))) (sym (visible_once a))
+      (in_any_mode mode (visible a) (named_graph schema rules a i (unfolded schema rules a (InGraph i))) (evaluate n d (Graph (name.Named i) a) None)
+      (named_plain a i (unfolded schema rules a (InGraph i)) (plain_named n d i (visible a) (rows_in a (InGraph i)) (evaluate n d a) (stands a (InGraph i) (lawful_tail n (name_node (name.Named i)) (algebra_nodes a) h)))))
+  stands (Graph (name.Each v) a) mode h =
+      in_any_mode mode (each_once (v ∷ visible a)) (each_graph (visible a) v (unfolded schema rules a Each)) (evaluate n d (Graph (name.Each v) a) None)
+      (plain_over (each_once (v ∷ visible a)) (map (graph_column (visible a) v) (each_once (v ∷ visible a))) (in_its_graph (visible a) v (unfolded schema rules a Each)) (evaluate n d (Graph (name.Each v) a) None)
+      (Prim.rw (selected (has (visible a) v)) (variable_stands n d (visible a) v (named_below n v a h) (rows_in a Each) (evaluate n d a) (stands a Each (lawful_tail n (name_node (name.Each v)) (algebra_nodes a) h)))))

@@ -1,0 +1,5 @@
+pub mod Narrow
+pub mod Fits
+pub mod Never
+pub mod FineRows
+pub mod FittingRules

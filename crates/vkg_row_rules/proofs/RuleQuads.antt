@@ -1,0 +1,156 @@
+-- The quads of a rule over rows are those of the quad rule, where its term maps make no data error.
+use Rattle.std.proofs.Common.{◌≡◌, ◌∙◌, ℕ, ◌<◌, Bool, List, [], ◌∷◌, ◌++◌, map, length, refl, sym, ap, subst}
+use Rattle.std.specs.Prelude.{Option, Some, None, option_map, filter, flat_map, filter_map, Contains}
+use Rattle.std.specs.Option.{option_to_list}
+use Rattle.std.specs.List.{list_all, cons_option, AllByRecursion}
+use Rattle.std.proofs.lemmas.List.Elements.{filter_map-append}
+use Rattle.vkg_lists.proofs.Members.{Contains-here, Contains-there, Contains-from_filter, flat_map_agree_on}
+use Rattle.vkg_lists.proofs.Walks.{filter_map_is_flat_map, filter-flat_map, filter-map}
+use Rattle.vkg_terms.specs.NQuads.{Quad}
+use Rattle.vkg_cells.specs.declared.cell.SqlType.{SqlType}
+use Rattle.vkg_schema.specs.Meets.{Below}
+use Rattle.vkg_schema.specs.Rows.{Database, Row, rows_of as table_rows, agree}
+use Rattle.vkg_maps.specs.declared.quad_rule.Join.{Join}
+use Rattle.vkg_maps.specs.declared.quad_rule.QuadRule.{QuadRule}
+use Rattle.vkg_maps.specs.declared.term_map.TermMap.{TermMap}
+use Rattle.vkg_maps.specs.Dataset.{graph_name, quad_from, quad_of, quads_of_rule, target}
+use Rattle.vkg_maps.specs.Terms.{term_of as term_made, term_if_any}
+use Rattle.vkg_expr.specs.Value.{term_of, holds}
+use Rattle.vkg_expr.specs.TermExprs.{moved_term}
+use Rattle.vkg_plan.specs.Kinds.{Tables}
+use Rattle.vkg_row_rules.specs.RowDataset.{conditions, graph_at, quads_of, term_at}
+use Rattle.vkg_row_rules.specs.RowRules.{object_term, row_rule}
+use Rattle.vkg_row_rules.specs.RowTerms.{row_term}
+use Rattle.vkg_maps.specs.Within.{IsCondition, IsOver, term_columns, kinds_at}
+use Rattle.vkg_row_rules.proofs.PairedRows.{conditions_hold, term_before, term_behind}
+use Rattle.vkg_row_rules.proofs.RowTermValues.{IsMade, row_term_value}
+use Rattle.vkg_row_rules.proofs.SoundRules.{OfGraph, OfRule}
+
+-- ---- walks
+
+module _ {A B C : Type 0} where
+  filter_map-flat_map : (f : B → Option C) (g : A → List B) (xs : List A) → filter_map f (flat_map g xs) ≡ flat_map (λ x. filter_map f (g x)) xs
+  filter_map-flat_map f g [] = refl
+  filter_map-flat_map f g (x ∷ xs) = filter_map-append f (g x) (flat_map g xs) ∙ ap (λ l. filter_map f (g x) ++ l) (filter_map-flat_map f g xs)
+
+  filter_map-map : (f : B → Option C) (g : A → B) (xs : List A) → filter_map f (map g xs) ≡ filter_map (λ x. f (g x)) xs
+  filter_map-map f g [] = refl
+  filter_map-map f g (x ∷ xs) = ap (cons_option (f (g x))) (filter_map-map f g xs)
+
+module _ {A B : Type 0} where
+  filter_map_agree_on : (f g : A → Option B) (xs : List A) → ((x : A) → Contains xs x → f x ≡ g x) → filter_map f xs ≡ filter_map g xs
+  filter_map_agree_on f g [] h = refl
+  filter_map_agree_on f g (x ∷ xs) h = λ i. cons_option (h x (Contains-here x xs) i) (filter_map_agree_on f g xs (λ y c. h y (Contains-there x xs y c)) i)
+
+list_of : {B : Type 0} (o : Option B) → option_to_list o ≡ cons_option o []
+list_of None = refl
+list_of (Some b) = refl
+
+-- ---- what is known of a rule over a database
+
+module _ (base : List ℕ) (schema : Tables) (db : Database) where
+  -- the term map's columns are there, and it makes no data error
+  pub record IsFine (table : ℕ) (t : TermMap) : Type 0 where
+    pub over : IsOver (kinds_at schema table) t
+    pub made : (row : Row) → Contains (table_rows db table) row → IsMade (term_made base t row)
+
+  pub record IsSound (rule : QuadRule) : Type 0 where
+    pub width : (row : Row) → Contains (table_rows db rule.table) row → length (kinds_at schema rule.table) ≡ length row
+    pub terms : OfRule IsFine schema rule
+
+  graph_value : (table : ℕ) (g : Option TermMap) (row : Row) → Contains (table_rows db table) row → OfGraph (IsFine table) g → graph_at (option_map (row_term base (kinds_at schema table)) g) row ≡ target base g row
+  graph_value table None row c h = refl
+  graph_value table (Some g) row c h = ap (option_map graph_name) (row_term_value base (kinds_at schema table) g row (h.made row c))
+
+-- ---- the terms of the child, in a row with another behind it
+
+module _ (base : List ℕ) (ks : List SqlType) (r s : Row) (width : length ks ≡ length r) where
+  pub before : (t : TermMap) → IsOver ks t → IsMade (term_made base t r) → term_at (row_term base ks t) (r ++ s) ≡ term_if_any (term_made base t r)
+  before t h m =
+      let e = term_before r s base t (subst (λ n. Below n (term_columns t)) width h.columns) in
+      row_term_value base ks t (r ++ s) (subst IsMade (sym e) m) ∙ ap term_if_any e
+
+  pub behind : (ls : List SqlType) (t : TermMap) → IsMade (term_made base t s) → term_at (moved_term (length ks) (row_term base ls t)) (r ++ s) ≡ term_if_any (term_made base t s)
+  behind ls t m = ap term_of (term_behind r s (length ks) width (row_term base ls t)) ∙ row_term_value base ls t s m
+
+graph_before : (base : List ℕ) (schema : Tables) (db : Database) (table : ℕ) (r s : Row) → length (kinds_at schema table) ≡ length r → (g : Option TermMap) → Contains (table_rows db table) r → OfGraph (IsFine base schema db table) g →
+    graph_at (option_map (row_term base (kinds_at schema table)) g) (r ++ s) ≡ target base g r
+graph_before base schema db table r s width None c h = refl
+graph_before base schema db table r s width (Some g) c h = ap (option_map graph_name) (before base (kinds_at schema table) r s width g h.over (h.made r c))
+
+module _ (base : List ℕ) (schema : Tables) (db : Database) (table : ℕ) (subject predicate object : TermMap) (graph : Option TermMap) where
+  abbrev rule : Option Join → QuadRule
+  rule join = record { table = table; join = join; subject = subject; predicate = predicate; object = object; graph = graph }
+
+  abbrev ks : List SqlType
+  ks = kinds_at schema table
+
+  abbrev rows : List Row
+  rows = table_rows db table
+
+  -- the quad of a row
+  abbrev quad : Option Join → Row → Option Quad
+  quad join row =
+      quad_from (term_at (row_term base ks subject) row) (term_at (row_term base ks predicate) row) (term_at (object_term base schema ks join object) row)
+      (graph_at (option_map (row_term base ks) graph) row)
+
+  -- of the rows of one table
+  alone : IsSound base schema db (rule None) → quads_of schema db (row_rule base schema (rule None)) ≡ quads_of_rule base db (rule None)
+  alone h = filter_map_is_flat_map (quad None) rows ∙ flat_map_agree_on (λ row. option_to_list (quad None row)) (λ row. cons_option (quad_of base (rule None) row row) []) rows each
+    where
+      each : (row : Row) → Contains rows row → option_to_list (quad None row) ≡ cons_option (quad_of base (rule None) row row) []
+      each row c =
+          list_of (quad None row)
+          ∙ (λ i. cons_option (quad_from
+          (row_term_value base ks subject row (h.terms.subject.made row c) i)
+          (row_term_value base ks predicate row (h.terms.predicate.made row c) i)
+          (row_term_value base ks object row (h.terms.object.made row c) i)
+          (graph_value base schema db table graph row c h.terms.graph i)) [])
+
+  -- of the pairs of rows that agree
+  module _ (join : Join) (h : IsSound base schema db (rule (Some join))) where
+    abbrev others : List Row
+    others = table_rows db join.table
+
+    abbrev agrees : Row → Bool
+    agrees row = list_all (λ c. holds c row) (conditions schema table join)
+
+    with_row : (r : Row) → Contains rows r → filter_map (quad (Some join)) (filter agrees (map (λ s. r ++ s) others)) ≡ filter_map (quad_of base (rule (Some join)) r) (filter (agree join.conditions r) others)
+    with_row r c =
+        ap (filter_map (quad (Some join))) (filter-map agrees (λ s. r ++ s) others)
+        ∙ filter_map-map (quad (Some join)) (λ s. r ++ s) (filter (λ s. agrees (r ++ s)) others)
+        ∙ ap (filter_map (λ s. quad (Some join) (r ++ s))) (λ i. filter (λ s. agreed s i) others)
+        ∙ filter_map_agree_on (λ s. quad (Some join) (r ++ s)) (quad_of base (rule (Some join)) r) (filter (agree join.conditions r) others) each
+      where
+        children : (cs : List (ℕ × ℕ)) → AllByRecursion (IsCondition ks (kinds_at schema join.table)) cs → AllByRecursion (λ (c : ℕ × ℕ). c.0 < length ks) cs
+        children [] h = tt
+        children (c ∷ cs) h = (h.0.of_child, children cs h.1)
+
+        width : length ks ≡ length r
+        width = h.width r c
+
+        agreed : (s : Row) → agrees (r ++ s) ≡ agree join.conditions r s
+        agreed s = conditions_hold r s (length ks) width join.conditions (subst (λ n. AllByRecursion (λ (c : ℕ × ℕ). c.0 < n) join.conditions) width (children join.conditions h.terms.joined.1))
+
+        each : (s : Row) → Contains (filter (agree join.conditions r) others) s → quad (Some join) (r ++ s) ≡ quad_of base (rule (Some join)) r s
+        each s d =
+            let of_parent = (Contains-from_filter (agree join.conditions r) others s d).0 in
+            λ i. quad_from
+            (before base ks r s width subject h.terms.subject.over (h.terms.subject.made r c) i)
+            (before base ks r s width predicate h.terms.predicate.over (h.terms.predicate.made r c) i)
+            (behind base ks r s width (kinds_at schema join.table) object (h.terms.object.made s of_parent) i)
+            (graph_before base schema db table r s width graph c h.terms.graph i)
+
+    paired : quads_of schema db (row_rule base schema (rule (Some join))) ≡ quads_of_rule base db (rule (Some join))
+    paired =
+        ap (filter_map (quad (Some join))) (filter-flat_map agrees (λ r. map (λ s. r ++ s) others) rows)
+        ∙ filter_map-flat_map (quad (Some join)) (λ r. filter agrees (map (λ s. r ++ s) others)) rows
+        ∙ flat_map_agree_on (λ r. filter_map (quad (Some join)) (filter agrees (map (λ s. r ++ s) others)))
+        (λ r. filter_map (quad_of base (rule (Some join)) r) (filter (agree join.conditions r) others)) rows with_row
+
+  quads_same : (join : Option Join) → IsSound base schema db (rule join) → quads_of schema db (row_rule base schema (rule join)) ≡ quads_of_rule base db (rule join)
+  quads_same None h = alone h
+  quads_same (Some join) h = paired join h
+
+pub rule_quads : (base : List ℕ) (schema : Tables) (db : Database) (rule : QuadRule) → IsSound base schema db rule → quads_of schema db (row_rule base schema rule) ≡ quads_of_rule base db rule
+rule_quads base schema db rule h = quads_same base schema db rule.table rule.subject rule.predicate rule.object rule.graph rule.join h

@@ -1,0 +1,4 @@
+pub mod RowTerms
+pub mod RowRules
+pub mod RowDataset
+pub mod Laws

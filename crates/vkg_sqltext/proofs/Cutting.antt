@@ -1,0 +1,133 @@
+-- A text is cut in one way where each part of it shows its own end.
+use Rattle.std.proofs.Common.{◌≡◌, ◌≢◌, ◌∙◌, ℕ, ◌<◌, ◌≤◌, ◌^◌, ◌==◌, ◌&&◌, ◌⊎◌, inl, inr, Bool, true, false, not, if◌then◌else◌, List, [], ◌∷◌, ◌++◌, flat_map, length, refl, sym, ap, subst, arith, append_assoc, eqb-true, nat_le}
+use Rattle.std.specs.Prelude.{IsUtf8, chars, decimal}
+use Rattle.std.specs.List.{list_all}
+use Rattle.std.specs.Str.Parse.{AllDigits, digits_value}
+use Rattle.std.proofs.Math.Utf8.{encode, encodes}
+use Rattle.std.proofs.lemmas.Bool.{eq-eqb}
+use Rattle.std.proofs.lemmas.Bool.Decides.{nat_tests}
+use Rattle.std.proofs.lemmas.Fmt.{decimal_is_IsNumeral}
+use Rattle.std.proofs.lemmas.Str.{encode_same, encodes-chars}
+use Rattle.std.proofs.lemmas.Str.Parse.{tells_digits}
+use Rattle.vkg_lists.proofs.Bools.{and_parts, and_true}
+use Rattle.vkg_terms.proofs.Octets.{head_same, tail_same}
+use Rattle.vkg_sqltext.specs.Text.{doubled, quoted}
+use Rattle.vkg_terms.proofs.TextLemmas.{starts}
+
+-- it does not go on with a byte of this kind
+abbrev pub stops : (ℕ → Bool) → List ℕ → Bool
+stops p [] = true
+stops p (b ∷ bs) = not (p b)
+
+passes_not : (b c : Bool) → (b && c) ≡ true → not b ≡ true → ⊥
+passes_not true c h k = absurd (cc)
+passes_not false c h k = absurd (cc)
+
+-- the longest runs of bytes of a kind
+pub run_same : (p : ℕ → Bool) (v w x y : List ℕ) → list_all p v ≡ true → list_all p w ≡ true → stops p x ≡ true → stops p y ≡ true → v ++ x ≡ w ++ y → (v ≡ w) × (x ≡ y)
+run_same p [] [] x y h k s t e = (refl, e)
+run_same p [] (b ∷ w) x y h k s t e = absurd (passes_not (p b) (list_all p w) k (subst (λ z. stops p z ≡ true) e s))
+run_same p (a ∷ v) [] x y h k s t e = absurd (passes_not (p a) (list_all p v) h (subst (λ z. stops p z ≡ true) (sym e) t))
+run_same p (a ∷ v) (b ∷ w) x y h k s t e =
+    let r = run_same p v w x y (and_parts (p a) (list_all p v) h).1 (and_parts (p b) (list_all p w) k).1 s t (tail_same a b (v ++ x) (w ++ y) e) in
+    ((λ i. head_same a b (v ++ x) (w ++ y) e i ∷ r.0 i), r.1)
+
+-- bytes of another kind stand between
+pub stops_behind : (p q : ℕ → Bool) (w x : List ℕ) → list_all q w ≡ true → ((b : ℕ) → q b ≡ true → p b ≡ false) → stops p x ≡ true → stops p (w ++ x) ≡ true
+stops_behind p q [] x h f s = s
+stops_behind p q (b ∷ w) x h f s = ap not (f b (and_parts (q b) (list_all q w) h).0)
+
+-- ---- decimals
+
+abbrev pub is_digit : ℕ → Bool
+is_digit b = nat_le 48 b && nat_le b 57
+
+digit_passes : (b : ℕ) → 48 ≤ b → b ≤ 57 → is_digit b ≡ true
+digit_passes b l h = grind (arith, nat_tests)
+
+all_digits : (ds : List ℕ) → AllDigits 10 ds → list_all is_digit ds ≡ true
+all_digits [] h = refl
+all_digits (d ∷ ds) h =
+    let p = tells_digits.parts d ds h in
+    and_true (is_digit d) (list_all is_digit ds) (digit_passes d p.0.0 p.0.1) (all_digits ds p.1)
+
+pub decimal_digits : (n : ℕ) → n < 2 ^ 64 → list_all is_digit (decimal n) ≡ true
+decimal_digits n h = all_digits (decimal n) (decimal_is_IsNumeral n h).0.1
+
+pub decimal_same : (m n : ℕ) → m < 2 ^ 64 → n < 2 ^ 64 → decimal m ≡ decimal n → m ≡ n
+decimal_same m n h k e = sym (decimal_is_IsNumeral m h).1 ∙ ap (digits_value 10) e ∙ (decimal_is_IsNumeral n k).1
+
+no_other : (b : ℕ) (ds x z : List ℕ) → 0 < length ds → list_all is_digit ds ≡ true → is_digit b ≡ false → b ∷ x ≡ ds ++ z → ⊥
+no_other b [] x z l h n e = absurd (omega (arith, l))
+no_other b (d ∷ ds) x z l h n e = absurd (let g : true ≡ false = sym (and_parts (is_digit d) (list_all is_digit ds) h).0 ∙ ap is_digit (sym (head_same b d x (ds ++ z) e)) ∙ n in cc)
+
+-- a decimal begins with a digit
+pub decimal_opens : (n b : ℕ) (x z : List ℕ) → n < 2 ^ 64 → is_digit b ≡ false → b ∷ x ≡ decimal n ++ z → ⊥
+decimal_opens n b x z h k e = no_other b (decimal n) x z (decimal_is_IsNumeral n h).0.0 (decimal_digits n h) k e
+
+-- ---- texts within signs that are doubled
+
+module _ (sign : ℕ) (small : sign < 128) where
+  abbrev is_sign : ℕ → Bool
+  is_sign b = b == sign
+
+  abbrev Written : ℕ → List ℕ → Type 0
+  Written c v = ((c ≡ sign) × (v ≡ c ∷ c ∷ [])) ⊎ ((c ≢ sign) × (v ≡ encode c))
+
+  differs : (c : ℕ) → (c == sign) ≡ false → c ≢ sign
+  differs c f e = absurd (let g : true ≡ false = sym (eq-eqb c sign e) ∙ f in cc)
+
+  written_by : (c : ℕ) (b : Bool) → (c == sign) ≡ b → Written c (if b then c ∷ c ∷ [] else encode c)
+  written_by c true e = inl (eqb-true c sign e, refl)
+  written_by c false e = inr (differs c e, refl)
+
+  written : (c : ℕ) → Written c (doubled sign c)
+  written c = written_by c (c == sign) refl
+
+  one_same : (c d : ℕ) (v w x y : List ℕ) → Written c v → Written d w → v ++ x ≡ w ++ y → (c ≡ d) × (x ≡ y)
+  one_same c d v w x y (inl (e, p)) (inl (f, r)) same =
+      let joined : c ∷ c ∷ x ≡ d ∷ d ∷ y = sym (ap (λ (l : List ℕ). l ++ x) p) ∙ same ∙ ap (λ (l : List ℕ). l ++ y) r in
+      (e ∙ sym f, tail_same c d x y (tail_same c d (c ∷ x) (d ∷ y) joined))
+  one_same c d v w x y (inl (e, p)) (inr (n, r)) same =
+      let joined : c ∷ c ∷ x ≡ encode d ++ y = sym (ap (λ (l : List ℕ). l ++ x) p) ∙ same ∙ ap (λ (l : List ℕ). l ++ y) r in
+      absurd (n (starts d c y (c ∷ x) (omega (arith, e, small)) joined ∙ e))
+  one_same c d v w x y (inr (n, p)) (inl (f, r)) same =
+      let joined : d ∷ d ∷ y ≡ encode c ++ x = sym (ap (λ (l : List ℕ). l ++ y) r) ∙ sym same ∙ ap (λ (l : List ℕ). l ++ x) p in
+      absurd (n (starts c d x (d ∷ y) (omega (arith, f, small)) joined ∙ f))
+  one_same c d v w x y (inr (n, p)) (inr (m, r)) same =
+      encode_same c d x y (sym (ap (λ (l : List ℕ). l ++ x) p) ∙ same ∙ ap (λ (l : List ℕ). l ++ y) r)
+
+  no_sign : (b : Bool) → b ≡ true → not b ≡ true → ⊥
+  no_sign true e h = absurd (cc)
+  no_sign false e h = absurd (cc)
+
+  -- no sign that is doubled closes the text
+  not_closed : (c : ℕ) (v x y : List ℕ) → Written c v → v ++ x ≡ sign ∷ y → stops is_sign y ≡ true → ⊥
+  not_closed c v x y (inl (e, p)) same s =
+      let joined : c ∷ c ∷ x ≡ sign ∷ y = sym (ap (λ (l : List ℕ). l ++ x) p) ∙ same in
+      no_sign (c == sign) (eq-eqb c sign e) (subst (λ z. stops is_sign z ≡ true) (sym (tail_same c sign (c ∷ x) y joined)) s)
+  not_closed c v x y (inr (n, p)) same s = n (starts c sign x y small (sym same ∙ ap (λ (l : List ℕ). l ++ x) p))
+
+  body_same : (cs ds x y : List ℕ) → stops is_sign x ≡ true → stops is_sign y ≡ true → flat_map (doubled sign) cs ++ sign ∷ x ≡ flat_map (doubled sign) ds ++ sign ∷ y → (cs ≡ ds) × (x ≡ y)
+  body_same [] [] x y s t same = (refl, tail_same sign sign x y same)
+  body_same [] (d ∷ ds) x y s t same =
+      absurd (not_closed d (doubled sign d) (flat_map (doubled sign) ds ++ sign ∷ y) x (written d) (sym (append_assoc (doubled sign d) (flat_map (doubled sign) ds) (sign ∷ y)) ∙ sym same) s)
+  body_same (c ∷ cs) [] x y s t same =
+      absurd (not_closed c (doubled sign c) (flat_map (doubled sign) cs ++ sign ∷ x) y (written c) (sym (append_assoc (doubled sign c) (flat_map (doubled sign) cs) (sign ∷ x)) ∙ same) t)
+  body_same (c ∷ cs) (d ∷ ds) x y s t same =
+      let one = one_same c d (doubled sign c) (doubled sign d) (flat_map (doubled sign) cs ++ sign ∷ x) (flat_map (doubled sign) ds ++ sign ∷ y) (written c) (written d)
+      (sym (append_assoc (doubled sign c) (flat_map (doubled sign) cs) (sign ∷ x)) ∙ same ∙ append_assoc (doubled sign d) (flat_map (doubled sign) ds) (sign ∷ y)) in
+      let more = body_same cs ds x y s t one.1 in
+      ((λ i. one.0 i ∷ more.0 i), more.1)
+
+  chars_same : (a b : List ℕ) → IsUtf8 a → IsUtf8 b → chars a ≡ chars b → a ≡ b
+  chars_same a b u v e = sym (encodes-chars a u) ∙ ap encodes e ∙ encodes-chars b v
+
+  pub within_same : (a b x y : List ℕ) → IsUtf8 a → IsUtf8 b → stops is_sign x ≡ true → stops is_sign y ≡ true
+      → (flat_map (doubled sign) (chars a) ++ sign ∷ []) ++ x ≡ (flat_map (doubled sign) (chars b) ++ sign ∷ []) ++ y → (a ≡ b) × (x ≡ y)
+  within_same a b x y u v s t same =
+      let inner = body_same (chars a) (chars b) x y s t (sym (append_assoc (flat_map (doubled sign) (chars a)) (sign ∷ []) x) ∙ same ∙ append_assoc (flat_map (doubled sign) (chars b)) (sign ∷ []) y) in
+      (chars_same a b u v inner.0, inner.1)
+
+pub quoted_same : (a b x y : List ℕ) → IsUtf8 a → IsUtf8 b → stops (λ b. b == 39) x ≡ true → stops (λ b. b == 39) y ≡ true → quoted a ++ x ≡ quoted b ++ y → (a ≡ b) × (x ≡ y)
+quoted_same a b x y u v s t same = within_same 39 (omega arith) a b x y u v s t (tail_same 39 39 _ _ same)

@@ -1,0 +1,8 @@
+-- What is joined so far, with the members that are left, is the whole chain.
+use Rattle.std.proofs.Common.{◌≡◌, drop, map}
+use Rattle.vkg_expr.specs.Seen.{expr_seen}
+use Rattle.vkg_unfold.specs.Parts.{any_of}
+use Rattle.vkg_unfold.proofs.conditions.any_of.Given as goal
+
+abbrev pub invariant-loop-next : goal.invariant-loop-next
+invariant-loop-next l = any_of (expr_seen l.any) (map expr_seen (drop l.next-index l.more)) ≡ any_of (expr_seen l.fn.first) (map expr_seen l.more)

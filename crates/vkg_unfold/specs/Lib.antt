@@ -1,0 +1,6 @@
+pub mod Conditions
+pub mod FineRows
+pub mod FittingRules
+pub mod Parts
+pub mod StandsFor
+pub mod Unfolded

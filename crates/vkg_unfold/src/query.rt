@@ -1,0 +1,181 @@
+// The plan of an algebra, and that of a query.
+ghost use Rattle.std.specs.Prelude.{IfOk, if◌then◌else◌, IsOkAnd, ◌≡◌};
+ghost use Rattle.vkg_sparql.specs.Seen.{condition_seen, query_seen};
+ghost use Rattle.vkg_algebra.specs.Answer.{columns, selected_variables};
+ghost use Rattle.vkg_algebra.specs.Seen.{algebra_seen};
+ghost use Rattle.vkg_algebra.specs.Translation.{algebra_of};
+ghost use Rattle.vkg_algebra.specs.Visible.{visible};
+ghost use Rattle.vkg_plan.specs.Plan.{Distinct, Select};
+ghost use Rattle.vkg_plan.specs.Seen.{plan_seen};
+ghost use Rattle.vkg_unfold.specs.Conditions.{truth_expr};
+ghost use Rattle.vkg_unfold.specs.Unfolded.{start_plan, unfolded, visible_column};
+
+use crate::bgp::bgp_plan;
+use crate::conditions::filter_expr;
+use crate::graph::{graph_of_each, graph_of_name};
+use crate::mode::Mode;
+use crate::two::{join_plan, left_plan, union_plan, visible_columns};
+use std::alloc::Global;
+use vkg_algebra::{Algebra, Var, each_once, visible};
+use vkg_base::{Box, Items, Memory, Text};
+use vkg_plan::Plan;
+use vkg_row_rules::RowRule;
+use vkg_schema::Table;
+use vkg_sparql::{Condition, GraphName, Query, Selected};
+
+/// The plan of an algebra in a mode. Its rows have a column for each visible variable, in the order in which they first appear, and in
+/// mode each the graph's name behind them.
+pub fn unfold(
+    alloc: Global,
+    schema: &[Table],
+    rules: &[RowRule],
+    algebra: &Algebra,
+    mode: &Mode,
+) -> Result<Plan, Memory>
+    ensures { IfOk result (λ p. plan_seen p ≡ unfolded schema.now rules.now (algebra_seen algebra.now) mode.now) }
+{
+    Ok(plan_of(alloc, schema, rules, algebra, mode)?.into_inner())
+}
+
+#[cycle(unfold)]
+fn plan_of(
+    alloc: Global,
+    schema: &[Table],
+    rules: &[RowRule],
+    algebra: &Algebra,
+    mode: &Mode,
+) -> Result<Box<Plan>, Memory>
+    ensures { IfOk result (λ p. plan_seen p ≡ unfolded schema.now rules.now (algebra_seen algebra.now) mode.now) }
+{
+    match algebra {
+        Algebra::Bgp(patterns) => {
+            let variables = visible(alloc, algebra)?;
+            Box::new(
+                alloc,
+                bgp_plan(
+                    alloc,
+                    schema,
+                    rules,
+                    mode,
+                    variables.as_slice(),
+                    patterns.as_slice(),
+                )?,
+            )
+        }
+        Algebra::Join(a, b) => join_plan(
+            alloc,
+            mode,
+            a,
+            b,
+            plan_of(alloc, schema, rules, a, mode),
+            plan_of(alloc, schema, rules, b, mode),
+        ),
+        Algebra::LeftJoin(a, b, condition) => left_plan(
+            alloc,
+            mode,
+            a,
+            b,
+            condition,
+            plan_of(alloc, schema, rules, a, mode),
+            plan_of(alloc, schema, rules, b, mode),
+        ),
+        Algebra::Union(a, b) => union_plan(
+            alloc,
+            mode,
+            a,
+            b,
+            plan_of(alloc, schema, rules, a, mode),
+            plan_of(alloc, schema, rules, b, mode),
+        ),
+        Algebra::Filter(condition, a) => {
+            filtered(alloc, condition, a, plan_of(alloc, schema, rules, a, mode))
+        }
+        Algebra::Graph(GraphName::Named(iri), a) => graph_of_name(
+            alloc,
+            schema,
+            rules,
+            mode,
+            iri,
+            a,
+            in_graph(alloc, schema, rules, a, iri),
+        ),
+        Algebra::Graph(GraphName::Each(variable), a) => graph_of_each(
+            alloc,
+            schema,
+            rules,
+            mode,
+            *variable,
+            a,
+            plan_of(alloc, schema, rules, a, &Mode::Each),
+        ),
+    }
+}
+
+/// The plan in the graph of a name.
+#[cycle(unfold)]
+fn in_graph(
+    alloc: Global,
+    schema: &[Table],
+    rules: &[RowRule],
+    a: &Algebra,
+    iri: &Text,
+) -> Result<Box<Plan>, Memory>
+    ensures { IfOk result (λ p. plan_seen p ≡ unfolded schema.now rules.now (algebra_seen a.now) (Mode.InGraph iri.now)) }
+{
+    let mode = Mode::InGraph(iri.copy()?);
+    plan_of(alloc, schema, rules, a, &mode)
+}
+
+/// The rows that pass a filter.
+fn filtered(
+    alloc: Global,
+    condition: &Condition,
+    a: &Algebra,
+    p: Result<Box<Plan>, Memory>,
+) -> Result<Box<Plan>, Memory>
+    ensures { IfOk result (λ r. IsOkAnd p (λ x. plan_seen r ≡ Select (truth_expr (visible_column (visible (algebra_seen a.now))) (condition_seen condition.now)) (plan_seen x))) }
+{
+    let p = p?;
+    let variables = visible(alloc, a)?;
+    let test = filter_expr(alloc, variables.as_slice(), condition)?;
+    Box::new(alloc, Plan::Select(test, p))
+}
+
+/// The plan of a query's algebra before any rewriting: its rows over the selected variables, each once under DISTINCT.
+pub fn start_plan(
+    alloc: Global,
+    schema: &[Table],
+    rules: &[RowRule],
+    query: &Query,
+    algebra: &Algebra,
+) -> Result<Plan, Memory>
+    requires { algebra_seen algebra.now ≡ algebra_of (query_seen query.now) }
+    ensures { IfOk result (λ p. plan_seen p ≡ start_plan schema.now rules.now (query_seen query.now)) }
+{
+    let variables = visible(alloc, algebra)?;
+    let wanted = selected(alloc, &query.selected, variables.as_slice())?;
+    let columns = visible_columns(alloc, variables.as_slice(), wanted.as_slice())?;
+    let rows = plan_of(alloc, schema, rules, algebra, &Mode::Default)?;
+    let answer = Plan::Project(columns, rows);
+    distinct_if(alloc, query.distinct, answer)
+}
+
+/// The selected variables; `*` are all.
+fn selected(alloc: Global, selected: &Selected, variables: &[Var]) -> Result<Items<Var>, Memory>
+    ensures { IfOk result (λ vs. vs ≡ columns selected.now variables.now) }
+{
+    match selected {
+        Selected::All => Items::from_slice(alloc, variables),
+        Selected::Listed(listed) => each_once(alloc, listed.as_slice()),
+    }
+}
+
+fn distinct_if(alloc: Global, distinct: bool, plan: Plan) -> Result<Plan, Memory>
+    ensures { IfOk result (λ p. plan_seen p ≡ (if distinct then Distinct (plan_seen plan) else plan_seen plan)) }
+{
+    if distinct {
+        let rows = Box::new(alloc, plan)?;
+        return Ok(Plan::Distinct(rows));
+    }
+    Ok(plan)
+}
