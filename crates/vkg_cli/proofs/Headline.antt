@@ -1,6 +1,6 @@
--- The lines of `dump` are those of the dataset that the files hold.
-use Rattle.std.proofs.Common.{◌≡◌, ◌∙◌, ℕ, ◌+◌, ◌≤◌, Bool, true, false, List, [], ◌∷◌, ◌++◌, length, nat_lt, take, map, min, refl, sym, ap, ap₂, subst, arith, append_assoc, length-append, Ok, Err, Some, if◌then◌else◌}
-use Rattle.std.proofs.lemmas.List.{append-nil, length-map, length-take, take_all}
+-- The lines of a command are those that its files define.
+use Rattle.std.proofs.Common.{◌≡◌, ◌∙◌, ℕ, ◌+◌, ◌≤◌, Bool, true, false, List, [], ◌∷◌, ◌++◌, length, nat_lt, take, map, refl, sym, ap, ap₂, subst, arith, append_assoc, length-append, Ok, Err, Some, if◌then◌else◌}
+use Rattle.std.proofs.lemmas.List.{length-map, length-take, take_all}
 use Rattle.std.proofs.lemmas.Bool.{ltb-false}
 use Rattle.std.proofs.lemmas.Option.{slice_get-get_or}
 use Rattle.std.proofs.Math.Seq.{get_or-append_seam, set-append_seam}
@@ -9,33 +9,34 @@ use Rattle.std.specs.Prelude.{Option, None, Result}
 use Rattle.vkg_base.specs.Outside.{Files, held}
 use Rattle.vkg_schema.specs.declared.table.Table.{Table}
 use Rattle.vkg_schema.specs.declared.table.Column.{Column}
-use Rattle.vkg_schema.specs.Rows.{Database, Row}
+use Rattle.vkg_schema.specs.Rows.{Row}
 use Rattle.vkg_schema.specs.Meets.{MeetsSchema}
 use Rattle.vkg_maps.specs.declared.mapping.Mapping.{Mapping}
 use Rattle.vkg_maps.specs.declared.data_fault.DataFault.{DataFault}
-use Rattle.vkg_lists.specs.Firsts.{first_of}
 use Rattle.vkg_maps.specs.DataFaults.{data_faults, least_data_fault}
-use Rattle.vkg_maps.specs.Dataset.{dataset}
 use Rattle.vkg_direct.specs.declared.direct_error.DirectError.{DirectError}
 use Rattle.vkg_direct.specs.DirectMapping.{direct_result}
-use Rattle.vkg_quads.specs.Dump.{IsDump as IsLinesOf, dump}
+use Rattle.vkg_sparql.specs.declared.query.Query.{Query}
+use Rattle.vkg_sparql.specs.Reading.{IsQuery}
 use Rattle.vkg_turtle.specs.declared.triple.Triple.{Triple}
 use Rattle.vkg_turtle.specs.Reading.{IsDocumentOf}
 use Rattle.vkg_r2rml.specs.declared.map_error.MapFault.{MapFault}
 use Rattle.vkg_r2rml.specs.Mapping.{mapping_of}
 use Rattle.vkg_cli.specs.declared.load.TheConstants.{LIMIT}
 use Rattle.vkg_tables.specs.declared.fault.TableFault.{TableFault}
-use Rattle.vkg_cli.specs.declared.stops.Fault.TheVariants.{Schema}
 use Rattle.vkg_cli.specs.declared.stops.Stop.{Stop}
-use Rattle.vkg_cli.specs.declared.stops.Stop.TheVariants.{Refused}
 use Rattle.vkg_schema.specs.Reading.{IsSchemaOf}
-use Rattle.vkg_tables.specs.Seen.{Seen, columns_at, columns_of, loaded, with_read, with_rows, without_rows}
+use Rattle.vkg_tables.specs.Checks.{key_fault, reference_fault}
+use Rattle.vkg_tables.specs.Seen.{Seen, columns_at, columns_of, with_read, with_rows, without_rows}
 use Rattle.vkg_tables.specs.TableFile.{table_of_bytes, unless_fault}
 use Rattle.vkg_cli.specs.Stages.{Loads, Settles, Then, found, goes_on, stops}
-use Rattle.vkg_cli.specs.Words.{Options}
-use Rattle.vkg_cli.specs.Work.{Checks, Dumps, LoadsMapping, LoadsTable, LoadsTables, LoadsText, MapsDirectly, MapsTriples, ReadsSchema, ReadsTriples, SaysUnlessLong, UnlessLong, Works, WorksOn, direct_or, loaded_or, mapping_or, table_file, table_stop, unless_data}
+use Rattle.vkg_cli.specs.Words.{Command, DumpWords, QueryWords, SqlWords, dump, query, sql}
+use Rattle.vkg_cli.specs.Work.{Checks, Dumps, GivesAnswer, GivesText, LoadsDatabase, LoadsFaultless, LoadsMapping, LoadsQuery, LoadsSchema, LoadsTable, LoadsTables, LoadsText, MapsDirectly, MapsTriples, ReadsQuery, ReadsSchema, ReadsTriples, SaysQueryUnlessLong, SaysUnlessLong, UnlessLong, Works, checks, direct_or, loaded_or, mapping_or, table_file, unless_data}
+use Rattle.vkg_cli.specs.Work.{unless_fault as unless_table}
 use Rattle.vkg_cli.specs.Answer.{HasText}
-use Rattle.vkg_cli.specs.Headline.{HoldDatabase, HoldsMapping, HoldsTable, HoldsText, IsDump}
+use Rattle.vkg_cli.specs.Headline.{HoldDatabase, HoldDataset, HoldsMapping, HoldsQuery, HoldsSchema, HoldsTable, HoldsText, IsAnswered, IsDump, IsSql, IsTextOf}
+use Rattle.vkg_cli.proofs.LoadLemmas.{faultless_of}
+use Rattle.vkg_cli.proofs.Ran.{no_stop}
 
 -- a file within a limit is not cut
 uncut : (limit m : ℕ) (file : List ℕ) → limit ≡ m + 1 → nat_lt m (length (take limit file)) ≡ false → take limit file ≡ file
@@ -43,16 +44,13 @@ uncut limit m file is short =
     let fits : length (take limit file) ≤ m = ltb-false m (length (take limit file)) short in
     take_all limit file (omega (arith, length-take limit file))
 
-no_value : {A : Type 0} (v : A) (stop : Stop) → (let one : Result A Stop = Ok v in one ≡ Err stop) → ⊥
-no_value v stop e = cc
-
 -- a load gives the file, cut at the limit
 given : (limit : ℕ) (file : Option (List ℕ)) (bytes : List ℕ) → (let one : Result (List ℕ) Stop = Ok bytes in one ≡ found limit file) → (whole : List ℕ) × (file ≡ Some whole) × (bytes ≡ take limit whole)
 given limit None bytes e = cc e
 given limit (Some whole) bytes e = (whole, refl, cc e)
 
 schema_of : (long : Bool) (bytes : List ℕ) (tables : List Table) → UnlessLong long bytes (Ok tables) → (long ≡ false) × IsSchemaOf bytes tables
-schema_of true bytes tables is = absurd (no_value tables _ is)
+schema_of true bytes tables is = absurd (no_stop tables _ is)
 schema_of false bytes tables is = (refl, is)
 
 -- the table's file of a loaded table
@@ -94,7 +92,7 @@ module _ (files : Files) (folder : List ℕ) where
         record { bytes = file.0; file = file.1; reads = ap (table_of_bytes table.columns) (sym whole ∙ sym file.2) ∙ rows },
         read.2,
       )
-  one_table db next k table names (stops stop load is) columns = absurd (no_value next stop is)
+  one_table db next k table names (stops stop load is) columns = absurd (no_stop next stop is)
 
   -- the rows of the tables from one on
   all_tables : (tables : List Table) (db final : Seen) (k : ℕ) (names : List (List ℕ)) (before : List Table) (done rest : List (List Row))
@@ -119,7 +117,7 @@ module _ (files : Files) (folder : List ℕ) where
         others.1 ∙ ap₂ with_tables (ap (λ (d : Seen). d.schema) one.2) (append_assoc done (one.0 ∷ []) others.0),
         (one.1, others.2),
       )
-  all_tables (t ∷ ts) db final k names before done rest (stops stop first is) schema place tables behind same = absurd (no_value final stop is)
+  all_tables (t ∷ ts) db final k names before done rest (stops stop first is) schema place tables behind same = absurd (no_stop final stop is)
 
 given_direct : (made : Result Mapping DirectError) (mapping : Mapping) → (let one : Result Mapping Stop = Ok mapping in one ≡ direct_or made) → made ≡ Ok mapping
 given_direct (Ok other) mapping e = cc
@@ -130,16 +128,23 @@ given_mapping (Ok other) mapping e = cc
 given_mapping (Err e) mapping is = cc is
 
 triples_of : (long : Bool) (bytes base : List ℕ) (triples : List Triple) → SaysUnlessLong long bytes base (Ok triples) → (long ≡ false) × IsDocumentOf bytes base triples
-triples_of true bytes base triples is = absurd (no_value triples _ is)
+triples_of true bytes base triples is = absurd (no_stop triples _ is)
 triples_of false bytes base triples is = (refl, is)
 
-none_first : {A : Type 0} (xs : List A) → first_of xs ≡ None → xs ≡ []
-none_first [] e = refl
-none_first (x ∷ xs) e = cc e
+no_data : (found : Option DataFault) (mapping other : Mapping) → (let one : Result Mapping Stop = Ok mapping in one ≡ unless_data found (Ok other)) → (found ≡ None) × (mapping ≡ other)
+no_data None mapping other e = (refl, cc e)
+no_data (Some f) mapping other e = cc e
 
-no_data : (found : Option DataFault) (lines others : List (List ℕ)) → (let one : Result (List (List ℕ)) Stop = Ok lines in one ≡ unless_data found (Ok others)) → found ≡ None
-no_data None lines others e = refl
-no_data (Some f) lines others e = cc e
+unless_key : {A : Type 0} (found : Option TableFault) (v : A) (later : Result A Stop) → (let one : Result A Stop = Ok v in one ≡ unless_table found later) → Ok v ≡ later
+unless_key None v later e = e
+unless_key (Some f) v later e = cc e
+
+query_of : (long : Bool) (bytes base : List ℕ) (asked : Query) → SaysQueryUnlessLong long bytes base (Ok asked) → (long ≡ false) × IsQuery bytes base asked
+query_of true bytes base asked is = absurd (no_stop asked _ is)
+query_of false bytes base asked is = (refl, is)
+
+one_line : (lines others : List (List ℕ)) → (let one : Result (List (List ℕ)) Stop = Ok lines in one ≡ Ok others) → lines ≡ others
+one_line lines others e = cc e
 
 module _ (files : Files) (schema : List Table) (base : List ℕ) (mapping : Mapping) where
   -- what a document's triples say
@@ -149,7 +154,7 @@ module _ (files : Files) (schema : List Table) (base : List ℕ) (mapping : Mapp
   read_text bytes names (goes_on triples head tail settled maps is) =
       let says = triples_of (nat_lt 2147483647 (length bytes)) bytes base triples (settled.1) in
       (says.0, (triples, says.1, given_mapping (mapping_of triples schema base) mapping (maps.1)))
-  read_text bytes names (stops stop settled is) = absurd (no_value mapping stop is)
+  read_text bytes names (stops stop settled is) = absurd (no_stop mapping stop is)
 
   text_holds : (name : List ℕ) (names : List (List ℕ)) → LoadsText files name schema base names (Ok mapping) → HoldsText files name schema base mapping
   unfolding Loads
@@ -158,68 +163,127 @@ module _ (files : Files) (schema : List Table) (base : List ℕ) (mapping : Mapp
       let read = read_text bytes tail later in
       let whole = uncut LIMIT 2147483647 file.0 refl (ap (λ b. nat_lt 2147483647 (length b)) (sym file.2) ∙ read.0) in
       record { bytes = file.0; file = file.1; triples = read.1.0; says = subst (λ b. IsDocumentOf b base read.1.0) (file.2 ∙ whole) read.1.1; reads = read.1.2 }
-  text_holds name names (stops stop load is) = absurd (no_value mapping stop is)
+  text_holds name names (stops stop load is) = absurd (no_stop mapping stop is)
 
-  holds : (db : Database) → MeetsSchema schema db → (file : Option (List ℕ)) (names : List (List ℕ)) → LoadsMapping files file schema base names (Ok mapping) → HoldsMapping files file schema base db mapping
+  mapping_holds : (file : Option (List ℕ)) (names : List (List ℕ)) → LoadsMapping files file schema base names (Ok mapping) → HoldsMapping files file schema base mapping
   unfolding MapsDirectly Settles
-  holds db meets None names is = (given_direct (direct_result schema base) mapping (is.1.0), is.1.1.0 db meets)
-  holds db meets (Some name) names is = text_holds name names is
+  mapping_holds None names is = (given_direct (direct_result schema base) mapping (is.1.0), is.1.1.0)
+  mapping_holds (Some name) names is = text_holds name names is
 
-module _ (options : Options) (files : Files) (lines : List (List ℕ)) where
-  -- what the lines of a database are
-  abbrev IsText : List Table → Database → Type 0
-  IsText schema db = MeetsSchema schema db
-      × ((mapping : Mapping) × HoldsMapping files options.mapping schema options.base db mapping × (data_faults mapping db ≡ []) × IsLinesOf lines (dataset mapping db))
-
-  on_mapping : (db : Seen) (names : List (List ℕ)) → MeetsSchema db.schema db.tables
-      → Then (LoadsMapping files options.mapping db.schema options.base) (λ mapping. Settles (Dumps db.tables mapping)) names (Ok lines) → IsText db.schema db.tables
-  unfolding Dumps Settles
-  on_mapping db names meets (goes_on mapping head tail load dumps is) =
-      let none = no_data (least_data_fault mapping db.tables) lines (dump (dataset mapping db.tables)) (dumps.1.0) in
-      (meets, (mapping, holds files db.schema options.base mapping db.tables meets options.mapping head load, none_first (data_faults mapping db.tables) none, dumps.1.1))
-  on_mapping db names meets (stops stop load is) = absurd (no_value lines stop is)
-
-  on_database : (db : Seen) (names : List (List ℕ)) → WorksOn options files db names (Ok lines) → IsText db.schema db.tables
-  unfolding Checks Settles
-  on_database db names (goes_on met head tail checked later is) = on_mapping db tail (checked.1.1) later
-  on_database db names (stops stop checked is) = absurd (no_value lines stop is)
-
-  -- the lines of a database that is loaded for a schema
-  loaded_dump : (schema : List Table) (names : List (List ℕ)) → Then (LoadsTables files options.folder (without_rows schema) 0 schema) (λ db. WorksOn options files db) names (Ok lines)
-      → (db : List (List Row)) × AllZip (HoldsTable files options.folder) schema db × IsText schema db
-  loaded_dump schema names (goes_on db head tail tables dumps is) =
-      let all = all_tables files options.folder schema (without_rows schema) db 0 head [] [] (map (λ t. []) schema) tables refl refl refl refl (length-map schema _) in
-      (all.0, all.2, subst (λ (d : Seen). IsText d.schema d.tables) (all.1) (on_database db tail dumps))
-  loaded_dump schema names (stops stop tables is) = absurd (no_value lines stop is)
-
-  -- the schema that the bytes of a file say, and the lines of its database
-  read_dump : (bytes : List ℕ) (names : List (List ℕ))
-      → Then (Settles (ReadsSchema bytes)) (λ schema. Then (LoadsTables files options.folder (without_rows schema) 0 schema) (λ db. WorksOn options files db)) names (Ok lines)
-      → (schema : List Table) × (nat_lt 2147483647 (length bytes) ≡ false) × IsSchemaOf bytes schema
-      × ((db : List (List Row)) × AllZip (HoldsTable files options.folder) schema db × IsText schema db)
-  unfolding ReadsSchema Settles
-  read_dump bytes names (goes_on schema head tail settled later is) =
+module _ (files : Files) where
+  schema_holds : (name : List ℕ) (schema : List Table) (names : List (List ℕ)) → LoadsSchema files name names (Ok schema) → HoldsSchema files name schema
+  unfolding Loads ReadsSchema Settles
+  schema_holds name schema names (goes_on bytes head tail load settled is) =
+      let file = given LIMIT (held files name) bytes (load.1) in
       let says = schema_of (nat_lt 2147483647 (length bytes)) bytes schema (settled.1) in
-      (schema, says.0, says.1, loaded_dump schema tail later)
-  read_dump bytes names (stops stop settled is) = absurd (no_value lines stop is)
+      let whole = uncut LIMIT 2147483647 file.0 refl (ap (λ b. nat_lt 2147483647 (length b)) (sym file.2) ∙ says.0) in
+      record { text = file.0; file = file.1; says = subst (λ b. IsSchemaOf b schema) (file.2 ∙ whole) says.1 }
+  schema_holds name schema names (stops stop load is) = absurd (no_stop schema stop is)
 
-  headline_of : (names : List (List ℕ)) → Works options files names (Ok lines) → IsDump options files lines
-  unfolding Loads
-  headline_of names (goes_on bytes head tail load later is) =
-      let file = given LIMIT (held files options.schema) bytes (load.1) in
-      let read = read_dump bytes tail later in
-      let whole = uncut LIMIT 2147483647 file.0 refl (ap (λ b. nat_lt 2147483647 (length b)) (sym file.2) ∙ read.1) in
-      record {
-        schema = read.0;
-        db = read.3.0;
-        hold = record { text = file.0; file = file.1; says = subst (λ b. IsSchemaOf b read.0) (file.2 ∙ whole) read.2; tables = read.3.1 };
-        meets = read.3.2.0;
-        mapping = read.3.2.1.0;
-        mapped = read.3.2.1.1;
-        faultless = read.3.2.1.2;
-        lines_are = read.3.2.1.3;
-      }
-  headline_of names (stops stop load is) = absurd (no_value lines stop is)
+  query_holds : (name base : List ℕ) (asked : Query) (names : List (List ℕ)) → LoadsQuery files name base names (Ok asked) → HoldsQuery files name base asked
+  unfolding Loads ReadsQuery Settles
+  query_holds name base asked names (goes_on bytes head tail load settled is) =
+      let file = given LIMIT (held files name) bytes (load.1) in
+      let says = query_of (nat_lt 2147483647 (length bytes)) bytes base asked (settled.1) in
+      let whole = uncut LIMIT 2147483647 file.0 refl (ap (λ b. nat_lt 2147483647 (length b)) (sym file.2) ∙ says.0) in
+      record { bytes = file.0; file = file.1; says = subst (λ b. IsQuery b base asked) (file.2 ∙ whole) says.1 }
+  query_holds name base asked names (stops stop load is) = absurd (no_stop asked stop is)
 
-  pub headline : HasText options files lines → IsDump options files lines
-  headline (names, works) = headline_of names works
+  -- a loaded database that was checked is the one that was loaded
+  checked_is : (db met : Seen) → (let one : Result Seen Stop = Ok met in one ≡ checks db) → met ≡ db
+  checked_is db met e = same_db met db (unless_key (reference_fault db.schema db.tables) met (Ok db) (unless_key (key_fault db.schema db.tables) met _ e))
+
+  tables_hold : (name folder : List ℕ) (schema : List Table) (met : Seen) (names : List (List ℕ)) → HoldsSchema files name schema
+      → Then (LoadsTables files folder (without_rows schema) 0 schema) (λ db. Settles (Checks db)) names (Ok met) → (met.schema ≡ schema) × HoldDatabase files name folder schema met.tables
+  unfolding Checks Settles
+  tables_hold name folder schema met names says (goes_on db head tail tables checked is) =
+      let all = all_tables files folder schema (without_rows schema) db 0 head [] [] (map (λ t. []) schema) tables refl refl refl refl (length-map schema _) in
+      let same : met ≡ with_tables schema all.0 = checked_is db met (checked.1.0) ∙ all.1 in
+      let meets : MeetsSchema schema met.tables = subst (λ s. MeetsSchema s met.tables) (ap (λ (d : Seen). d.schema) same) (checked.1.1) in
+      let hold : AllZip (HoldsTable files folder) schema met.tables = subst (λ (t : List (List Row)). AllZip (HoldsTable files folder) schema t) (sym (ap (λ (d : Seen). d.tables) same)) all.2 in
+      (ap (λ (d : Seen). d.schema) same, record { says = says; tables = hold; meets = meets })
+  tables_hold name folder schema met names says (stops stop tables is) = absurd (no_stop met stop is)
+
+  database_holds : (name folder : List ℕ) (db : Seen) (names : List (List ℕ)) → LoadsDatabase files name folder names (Ok db) → HoldDatabase files name folder db.schema db.tables
+  database_holds name folder db names (goes_on schema head tail load later is) =
+      let hold = tables_hold name folder schema db tail (schema_holds name schema head load) later in
+      subst (λ s. HoldDatabase files name folder s db.tables) (sym hold.0) hold.1
+  database_holds name folder db names (stops stop load is) = absurd (no_stop db stop is)
+
+  -- a mapping without a data error over a database that meets its schema
+  dataset_holds : (name folder base : List ℕ) (file : Option (List ℕ)) (db : Seen) (mapping : Mapping) (names : List (List ℕ))
+      → HoldDatabase files name folder db.schema db.tables → LoadsFaultless files file db base names (Ok mapping) → HoldDataset files name folder base file db.schema db.tables mapping
+  unfolding Settles
+  dataset_holds name folder base file db mapping names hold (goes_on first head tail load scanned is) =
+      let none = no_data (least_data_fault first db.tables) mapping first (scanned.1) in
+      let mapped = subst (λ m. HoldsMapping files file db.schema base m) (sym none.1) (mapping_holds files db.schema base first file head load) in
+      let faultless = subst (λ m. data_faults m db.tables ≡ []) (sym none.1) (faultless_of db.tables first none.0) in
+      record { hold = hold; mapped = mapped; faultless = faultless }
+  dataset_holds name folder base file db mapping names hold (stops stop load is) = absurd (no_stop mapping stop is)
+
+  module _ (lines : List (List ℕ)) where
+    dump_is : (words : DumpWords) (names : List (List ℕ)) → Works (dump words) files names (Ok lines) → IsDump words files lines
+    unfolding Dumps Settles
+    dump_is words names (goes_on db head tail load later is) = by (database_holds words.schema words.folder db head load) later
+      where
+        by : {rest : List (List ℕ)} → HoldDatabase files words.schema words.folder db.schema db.tables
+            → Then (LoadsFaultless files words.mapping db words.base) (λ mapping. Settles (Dumps db.tables mapping)) rest (Ok lines) → IsDump words files lines
+        by hold (goes_on mapping first last maps dumps same) =
+            record { schema = db.schema; db = db.tables; mapping = mapping; hold = dataset_holds words.schema words.folder words.base words.mapping db mapping first hold maps; lines_are = dumps.1.1 }
+        by hold (stops stop maps same) = absurd (no_stop lines stop same)
+    dump_is words names (stops stop load is) = absurd (no_stop lines stop is)
+
+    answer_is : (words : QueryWords) (db : Seen) (mapping : Mapping) (names : List (List ℕ)) → HoldDataset files words.schema words.folder words.base words.mapping db.schema db.tables mapping
+        → Then (LoadsQuery files words.query words.base) (λ asked. Settles (GivesAnswer db mapping asked)) names (Ok lines) → IsAnswered words files lines
+    unfolding GivesAnswer Settles
+    answer_is words db mapping names hold (goes_on asked head tail load answers is) = record {
+      schema = db.schema;
+      db = db.tables;
+      mapping = mapping;
+      hold = hold;
+      asked = asked;
+      says = query_holds words.query words.base asked head load;
+      lines_are = one_line lines _ (answers.1.0);
+      rows_are = answers.1.1;
+    }
+    answer_is words db mapping names hold (stops stop load is) = absurd (no_stop lines stop is)
+
+    query_is : (words : QueryWords) (names : List (List ℕ)) → Works (query words) files names (Ok lines) → IsAnswered words files lines
+    query_is words names (goes_on db head tail load later is) = by (database_holds words.schema words.folder db head load) later
+      where
+        by : {rest : List (List ℕ)} → HoldDatabase files words.schema words.folder db.schema db.tables
+            → Then (LoadsFaultless files words.mapping db words.base) (λ mapping. Then (LoadsQuery files words.query words.base) (λ asked. Settles (GivesAnswer db mapping asked))) rest (Ok lines)
+            → IsAnswered words files lines
+        by hold (goes_on mapping first last maps asks same) =
+            answer_is words db mapping last (dataset_holds words.schema words.folder words.base words.mapping db mapping first hold maps) asks
+        by hold (stops stop maps same) = absurd (no_stop lines stop same)
+    query_is words names (stops stop load is) = absurd (no_stop lines stop is)
+
+    sql_is : (words : SqlWords) (names : List (List ℕ)) → Works (sql words) files names (Ok lines) → IsSql words files lines
+    unfolding Settles
+    sql_is words names (goes_on schema head tail load later is) = by (schema_holds words.schema schema head load) later
+      where
+        last_is : (mapping : Mapping) {rest : List (List ℕ)} → HoldsSchema files words.schema schema → HoldsMapping files words.mapping schema words.base mapping
+            → Then (LoadsQuery files words.query words.base) (λ asked. Settles (GivesText schema mapping asked)) rest (Ok lines) → IsSql words files lines
+        last_is mapping says mapped (goes_on asked first last asks text same) = record {
+          schema = schema;
+          says_schema = says;
+          mapping = mapping;
+          mapped = mapped;
+          asked = asked;
+          says = query_holds words.query words.base asked first asks;
+          lines_are = one_line lines _ (text.1);
+        }
+        last_is mapping says mapped (stops stop asks same) = absurd (no_stop lines stop same)
+
+        by : {rest : List (List ℕ)} → HoldsSchema files words.schema schema
+            → Then (LoadsMapping files words.mapping schema words.base) (λ mapping. Then (LoadsQuery files words.query words.base) (λ asked. Settles (GivesText schema mapping asked))) rest (Ok lines)
+            → IsSql words files lines
+        by says (goes_on mapping first last maps asks same) = last_is mapping says (mapping_holds files schema words.base mapping words.mapping first maps) asks
+        by says (stops stop maps same) = absurd (no_stop lines stop same)
+    sql_is words names (stops stop load is) = absurd (no_stop lines stop is)
+
+pub headline : (command : Command) (files : Files) (lines : List (List ℕ)) → HasText command files lines → IsTextOf command files lines
+headline (dump words) files lines (names, works) = dump_is files lines words names works
+headline (query words) files lines (names, works) = query_is files lines words names works
+headline (sql words) files lines (names, works) = sql_is files lines words names works

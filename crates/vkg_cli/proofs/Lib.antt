@@ -1,9 +1,10 @@
 pub mod Answers
 pub mod AskedLemmas
 pub mod Clauses
-pub mod DumpLemmas
 pub mod FilledLemmas
 pub mod Headline
+pub mod HelpLemmas
+pub mod LoadLemmas
 pub mod Ran
 pub mod Tables
 pub mod TakenLemmas

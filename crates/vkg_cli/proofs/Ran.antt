@@ -9,6 +9,7 @@ use Rattle.vkg_base.specs.Outside.{Files, StoreState, Rose, held, Gives}
 use Rattle.vkg_cli.specs.declared.stops.Stop.{Stop}
 use Rattle.vkg_cli.specs.declared.stops.Stop.TheVariants.{Refused, Read, Memory}
 use Rattle.vkg_cli.specs.Stages.{Stage, Settles, Loads, Then, goes_on, stops, IsDetermined, IsOneOutcome, Answers, Asks, AsksSome, CountsFaults, Matches, Ran, found}
+use Rattle.vkg_cli.proofs.LoadLemmas.{same_error}
 
 -- Each stage is determined by its files, where its parts are.
 
@@ -29,11 +30,8 @@ determined_loads limit files name = record {
 same_value : {A : Type 0} (v w : A) → (let one : Result A Stop = Ok v in one ≡ Ok w) → v ≡ w
 same_value v w e = cc
 
-no_stop : {A : Type 0} (v : A) (stop : Stop) → (let one : Result A Stop = Ok v in one ≡ Err stop) → ⊥
+pub no_stop : {A : Type 0} (v : A) (stop : Stop) → (let one : Result A Stop = Ok v in one ≡ Err stop) → ⊥
 no_stop v stop e = cc
-
-same_stop : {A B : Type 0} (stop other : Stop) → (let one : Result A Stop = Err stop in one ≡ Err other) → (let one : Result B Stop = Err stop in one ≡ Err other)
-same_stop stop other e = cc
 
 module _ {A B : Type 0} (stage : Stage A) (rest : A → Stage B) (first : IsDetermined stage) (second : (v : A) → IsDetermined (rest v)) where
   then_list : (m n : List (List ℕ)) (o p : Result B Stop) → Then stage rest m o → Then stage rest n p → m ≡ n
@@ -53,7 +51,7 @@ module _ {A B : Type 0} (stage : Stage A) (rest : A → Stage B) (first : IsDete
   then_outcome m n o p (goes_on v before after done went is) (stops stop done' is') = absurd (no_stop v stop (first.one_outcome before n (Ok v) (Err stop) done done'))
   then_outcome m n o p (stops stop done is) (goes_on v before after done' went is') = absurd (no_stop v stop (first.one_outcome before m (Ok v) (Err stop) done' done))
   then_outcome m n o p (stops stop done is) (stops other done' is') =
-      is ∙ same_stop {A = A} {B = B} stop other (first.one_outcome m n (Err stop) (Err other) done done') ∙ sym is'
+      is ∙ same_error {A = A} {B = B} stop other (first.one_outcome m n (Err stop) (Err other) done done') ∙ sym is'
 
   pub determined_then : IsDetermined (Then stage rest)
   determined_then = record { one_list = then_list; one_outcome = then_outcome }

@@ -6,9 +6,9 @@ use Rattle.vkg_base.specs.Outside.{Files, StoreState}
 use Rattle.vkg_schema.specs.declared.table.Table.{Table}
 use Rattle.vkg_cli.specs.declared.load.TheConstants.{LIMIT}
 use Rattle.vkg_cli.specs.declared.stops.Stop.{Stop}
-use Rattle.vkg_tables.specs.Seen.{Seen, loaded}
+use Rattle.vkg_tables.specs.Seen.{Seen}
 use Rattle.vkg_cli.specs.Stages.{IsDetermined, IsOneOutcome, Ran}
-use Rattle.vkg_cli.specs.Work.{LoadsTable, LoadsTables, loaded_or}
+use Rattle.vkg_cli.specs.Work.{LoadsTable, LoadsTables}
 use Rattle.vkg_cli.proofs.Ran.{determined_loads, determined_settles, determined_then, ran_then, ran_stop}
 
 pub one_equal : {A : Type 0} (defined : Result A Stop) → IsOneOutcome (λ outcome. outcome ≡ defined)

@@ -1,14 +1,14 @@
--- Words in which the definition finds no fault give all options of `dump`.
-use Rattle.std.proofs.Common.{◌≡◌, ◌≢◌, ◌&&◌, ℕ, Bool, true, false, not, List, [], ◌∷◌, Option, Some, None, cond, refl, sym, ap, ◌∙◌, codes}
+-- Words in which the definition finds no fault give a command with all of its options.
+use Rattle.std.proofs.Common.{◌≡◌, ◌≢◌, ◌&&◌, Bool, true, false, not, List, [], ◌∷◌, Option, Some, None, cond, refl, sym, ap, ◌∙◌, codes}
 use Rattle.std.specs.Prelude.{IfNone, IfSome, option_and_then, option_map}
 use Rattle.std.specs.Option.{is_some, option_map_or}
-use Rattle.clap.specs.Words.{App, Kinds, Row, Shape, Text, built, fault_of, first_of, subcommand_of}
+use Rattle.clap.specs.Words.{App, Kinds, Row, Shape, Text, built, fault_of, subcommand_of}
 use Rattle.clap.specs.Walk.{finished, nothing_held, rows_after, stop_after, walk}
 use Rattle.clap.specs.Faults.{entered_fault, level_fault}
 use Rattle.clap.specs.Simple.{argument_words, built_leaf, entered, filled, inherited, marked_built, names_of, rows_at, with_index, with_leaf_noted}
-use Rattle.vkg_cli.specs.Words.{Options, named_options, options_unless, options_seen, taken_options}
-use Rattle.vkg_cli.specs.declared.words.DumpOptions.{DumpOptions}
-use Rattle.vkg_cli.specs.CommandLine.{dump_app, option_rule, optional_rule, vkg_app}
+use Rattle.vkg_cli.specs.Words.{Command, command_seen, command_unless, named_words, taken_command}
+use Rattle.vkg_cli.specs.declared.words.Command.{Command as CommandValue}
+use Rattle.vkg_cli.specs.CommandLine.{dump_app, option_rule, optional_rule, query_app, sql_app, vkg_app}
 use Rattle.vkg_cli.proofs.AskedLemmas.{asked-taken}
 use Rattle.vkg_cli.proofs.FilledLemmas.{IsOption, argument-check, given-first, level-filled, level-parts, or-false, subcommand-check}
 
@@ -31,7 +31,7 @@ not-and-true true e = refl
 not-and-true false e = cc e
 
 abbrev Gives : Option (Text × List Row) → Type 0
-Gives o = is_some (option_and_then (λ p. named_options p.0 p.1) o) ≡ true
+Gives o = is_some (option_and_then (λ p. named_words p.0 p.1) o) ≡ true
 
 dump-gives : (words : List Text) → level_fault (leaf dump_app) [] nothing_held words false [] ≡ [] → Gives (Some (rows_at (leaf dump_app) words))
 dump-gives words e =
@@ -45,16 +45,48 @@ dump-gives words e =
     let has_base = given-first (codes "base") rows level.0 (not-false _ base.0) in
     rw (has_schema.1, has_folder.1, has_base.1) refl
 
-one : (dumps : Bool) (words : List Text)
-    → is_some (option_map (λ s. rows_at s words) (cond dumps (Some (leaf dump_app)) None)) ≡ true
-    → option_map_or (λ s. level_fault s [] nothing_held words false []) (cond dumps (Some (leaf dump_app)) None) [] ≡ []
-    → Gives (option_map (λ s. rows_at s words) (cond dumps (Some (leaf dump_app)) None))
-one true words here e = dump-gives words e
-one false words here e = cc here
+query-gives : (words : List Text) → level_fault (leaf query_app) [] nothing_held words false [] ≡ [] → Gives (Some (rows_at (leaf query_app) words))
+query-gives words e =
+    let rows = rows_after (leaf query_app).rules [] words in
+    let level = level-filled (leaf query_app) (fits (codes "schema"), (fits (codes "data"), (fits (codes "base"), (fits (codes "query"), (fits-optional (codes "mapping"), tt))))) words e in
+    let schema = or-false _ _ (argument-check (leaf query_app) rows false level.1) in
+    let folder = or-false _ _ schema.1 in
+    let base = or-false _ _ folder.1 in
+    let file = or-false _ _ base.1 in
+    let has_schema = given-first (codes "schema") rows level.0 (not-false _ schema.0) in
+    let has_folder = given-first (codes "data") rows level.0 (not-false _ folder.0) in
+    let has_base = given-first (codes "base") rows level.0 (not-false _ base.0) in
+    let has_file = given-first (codes "query") rows level.0 (not-false _ file.0) in
+    rw (has_schema.1, has_folder.1, has_base.1, has_file.1) refl
+
+sql-gives : (words : List Text) → level_fault (leaf sql_app) [] nothing_held words false [] ≡ [] → Gives (Some (rows_at (leaf sql_app) words))
+sql-gives words e =
+    let rows = rows_after (leaf sql_app).rules [] words in
+    let level = level-filled (leaf sql_app) (fits (codes "schema"), (fits (codes "base"), (fits (codes "query"), (fits-optional (codes "mapping"), tt)))) words e in
+    let schema = or-false _ _ (argument-check (leaf sql_app) rows false level.1) in
+    let base = or-false _ _ schema.1 in
+    let file = or-false _ _ base.1 in
+    let has_schema = given-first (codes "schema") rows level.0 (not-false _ schema.0) in
+    let has_base = given-first (codes "base") rows level.0 (not-false _ base.0) in
+    let has_file = given-first (codes "query") rows level.0 (not-false _ file.0) in
+    rw (has_schema.1, has_base.1, has_file.1) refl
+
+-- the command that is named
+abbrev Found : Bool → Bool → Bool → Option Shape
+Found dumps asks writes = cond dumps (Some (leaf dump_app)) (cond asks (Some (leaf query_app)) (cond writes (Some (leaf sql_app)) None))
+
+one : (dumps asks writes : Bool) (words : List Text)
+    → is_some (option_map (λ s. rows_at s words) (Found dumps asks writes)) ≡ true
+    → option_map_or (λ s. level_fault s [] nothing_held words false []) (Found dumps asks writes) [] ≡ []
+    → Gives (option_map (λ s. rows_at s words) (Found dumps asks writes))
+one true asks writes words here e = dump-gives words e
+one false true writes words here e = query-gives words e
+one false false true words here e = sql-gives words e
+one false false false words here e = cc here
 
 stopped : (stop : Option (Text × List Text)) → is_some (entered (built vkg_app) stop) ≡ true → entered_fault (built vkg_app) stop ≡ [] → Gives (entered (built vkg_app) stop)
 stopped None here e = cc here
-stopped (Some p) here e = one _ p.1 here e
+stopped (Some p) here e = one _ _ _ p.1 here e
 
 pub taken-gives : (words : List Text) → fault_of vkg_app words ≡ [] → Gives (subcommand_of vkg_app words)
 taken-gives words e =
@@ -65,23 +97,23 @@ taken-gives words e =
     let named = is_some (entered (built vkg_app) stop) in
     stopped stop (not-and-true named (subcommand-check (built vkg_app).top rows named parts.1)) parts.0
 
-nothing-given : (words : List Text) → taken_options words ≡ None → (kinds : Kinds) → fault_of vkg_app words ≡ kinds → fault_of vkg_app words ≢ []
+nothing-given : (words : List Text) → taken_command words ≡ None → (kinds : Kinds) → fault_of vkg_app words ≡ kinds → fault_of vkg_app words ≢ []
 nothing-given words none [] e =
     let some = taken-gives words e in
     cc (sym some ∙ ap is_some (sym (asked-taken words e) ∙ none))
 nothing-given words none (k ∷ ks) e = λ empty. cc (sym e ∙ empty)
 
 -- words that give no options have a fault
-pub refusal : (r : Option DumpOptions) (words : List Text) → option_map options_seen r ≡ taken_options words → IfNone r (fault_of vkg_app words ≢ [])
+pub refusal : (r : Option CommandValue) (words : List Text) → option_map command_seen r ≡ taken_command words → IfNone r (fault_of vkg_app words ≢ [])
 refusal None words e = nothing-given words (sym e) (fault_of vkg_app words) refl
 refusal (Some x) words e = tt
 
-faultless : (kinds : Kinds) (x : Options) (words : List Text) → Some x ≡ options_unless kinds words → kinds ≡ []
+faultless : (kinds : Kinds) (x : Command) (words : List Text) → Some x ≡ command_unless kinds words → kinds ≡ []
 faultless [] x words e = refl
 faultless (k ∷ ks) x words e = cc e
 
 -- words that give options have none
-pub taking : (r : Option DumpOptions) (words : List Text) → option_map options_seen r ≡ taken_options words → IfSome r (λ _. fault_of vkg_app words ≡ [])
-unfolding taken_options
+pub taking : (r : Option CommandValue) (words : List Text) → option_map command_seen r ≡ taken_command words → IfSome r (λ _. fault_of vkg_app words ≡ [])
+unfolding taken_command
 taking None words e = tt
-taking (Some x) words e = faultless (fault_of vkg_app words) (options_seen x) words e
+taking (Some x) words e = faultless (fault_of vkg_app words) (command_seen x) words e

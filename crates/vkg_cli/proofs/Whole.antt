@@ -1,6 +1,6 @@
--- The work of `dump` is determined by the files.
-use Rattle.std.proofs.Common.{◌≡◌, ◌∙◌, ℕ, Bool, true, false, List, ap, sym, Ok, Err, length, nat_lt, refl, Some, None}
-use Rattle.std.specs.Prelude.{Option, Result}
+-- The work of a command is determined by the files.
+use Rattle.std.proofs.Common.{◌∙◌, ℕ, Bool, true, false, List, ap, sym, Ok, Err, length, nat_lt, Some, None}
+use Rattle.std.specs.Prelude.{Option}
 use Rattle.vkg_base.specs.Outside.{Files}
 use Rattle.vkg_schema.specs.declared.table.Table.{Table}
 use Rattle.vkg_schema.specs.Rows.{Database}
@@ -9,15 +9,17 @@ use Rattle.vkg_turtle.specs.declared.triple.Triple.{Triple}
 use Rattle.vkg_turtle.specs.declared.reading.TurtleFault.{TurtleFault}
 use Rattle.vkg_cli.specs.declared.load.TheConstants.{LIMIT}
 use Rattle.vkg_schema.specs.declared.reading.SchemaFault.{SchemaFault}
-use Rattle.vkg_cli.specs.declared.stops.Fault.TheVariants.{Schema, Table as AtTable, Keyless, Mapping, Data}
-use Rattle.vkg_cli.specs.declared.stops.Stop.{Stop}
+use Rattle.vkg_cli.specs.declared.stops.Fault.TheVariants.{Schema, Table as AtTable, Keyless, Mapping, Data, Query as AtQuery}
 use Rattle.vkg_cli.specs.declared.stops.Stop.TheVariants.{Refused, Read, Memory}
 use Rattle.vkg_tables.specs.Seen.{Seen, without_rows}
 use Rattle.vkg_schema.proofs.One.{determined}
 use Rattle.vkg_turtle.proofs.One.{determined as determined_triples}
+use Rattle.vkg_sparql.specs.declared.fault.QueryFault.{QueryFault}
+use Rattle.vkg_sparql.specs.declared.query.Query.{Query}
+use Rattle.vkg_sparql.proofs.One.{determined as determined_query}
 use Rattle.vkg_cli.specs.Stages.{IsDetermined, IsOneOutcome}
-use Rattle.vkg_cli.specs.Words.{Options}
-use Rattle.vkg_cli.specs.Work.{Checks, Dumps, LoadsMapping, LoadsText, MapsDirectly, MapsTriples, Reads, ReadsSchema, ReadsTriples, SaysTriples, SaysUnlessLong, UnlessLong, Works, WorksOn}
+use Rattle.vkg_cli.specs.Words.{Command, dump, query, sql}
+use Rattle.vkg_cli.specs.Work.{Checks, Dumps, GivesAnswer, GivesText, LoadsDatabase, LoadsFaultless, LoadsMapping, LoadsQuery, LoadsSchema, LoadsText, MapsDirectly, MapsTriples, Reads, ReadsQuery, ReadsSchema, ReadsTriples, SaysQuery, SaysQueryUnlessLong, SaysTriples, SaysUnlessLong, Scans, UnlessLong, Works}
 use Rattle.vkg_cli.proofs.Ran.{determined_loads, determined_settles, determined_then}
 use Rattle.vkg_cli.proofs.Tables.{determined_tables}
 
@@ -28,6 +30,7 @@ one_reading bytes (Ok v) (Err (Refused (AtTable check table row column))) first 
 one_reading bytes (Ok v) (Err (Refused (Keyless table))) first second = absurd second
 one_reading bytes (Ok v) (Err (Refused (Mapping check at))) first second = absurd second
 one_reading bytes (Ok v) (Err (Refused (Data check map row term))) first second = absurd second
+one_reading bytes (Ok v) (Err (Refused (AtQuery check at))) first second = absurd second
 one_reading bytes (Ok v) (Err Read) first second = absurd second
 one_reading bytes (Ok v) (Err Memory) first second = absurd second
 one_reading bytes (Err (Refused (Schema check at))) (Ok v) first second = absurd (determined.not_both bytes v (record { check = check; at = at }) second first)
@@ -38,12 +41,14 @@ one_reading bytes (Err (Refused (Schema check at))) (Err (Refused (AtTable other
 one_reading bytes (Err (Refused (Schema check at))) (Err (Refused (Keyless table))) first second = absurd second
 one_reading bytes (Err (Refused (Schema check at))) (Err (Refused (Mapping other place))) first second = absurd second
 one_reading bytes (Err (Refused (Schema check at))) (Err (Refused (Data other map row term))) first second = absurd second
+one_reading bytes (Err (Refused (Schema check at))) (Err (Refused (AtQuery other place))) first second = absurd second
 one_reading bytes (Err (Refused (Schema check at))) (Err Read) first second = absurd second
 one_reading bytes (Err (Refused (Schema check at))) (Err Memory) first second = absurd second
 one_reading bytes (Err (Refused (AtTable check table row column))) p first second = absurd first
 one_reading bytes (Err (Refused (Keyless table))) p first second = absurd first
 one_reading bytes (Err (Refused (Mapping check at))) p first second = absurd first
 one_reading bytes (Err (Refused (Data check map row term))) p first second = absurd first
+one_reading bytes (Err (Refused (AtQuery check at))) p first second = absurd first
 one_reading bytes (Err Read) p first second = absurd first
 one_reading bytes (Err Memory) p first second = absurd first
 
@@ -62,6 +67,7 @@ one_saying bytes base (Ok v) (Err (Refused (AtTable check table row column))) fi
 one_saying bytes base (Ok v) (Err (Refused (Keyless table))) first second = absurd second
 one_saying bytes base (Ok v) (Err (Refused (Mapping check at))) first second = absurd (determined_triples.not_both bytes base v (record { check = check; at = at }) first second)
 one_saying bytes base (Ok v) (Err (Refused (Data check map row term))) first second = absurd second
+one_saying bytes base (Ok v) (Err (Refused (AtQuery check at))) first second = absurd second
 one_saying bytes base (Ok v) (Err Read) first second = absurd second
 one_saying bytes base (Ok v) (Err Memory) first second = absurd second
 one_saying bytes base (Err (Refused (Mapping check at))) (Ok v) first second = absurd (determined_triples.not_both bytes base v (record { check = check; at = at }) second first)
@@ -72,12 +78,14 @@ one_saying bytes base (Err (Refused (Mapping check at))) (Err (Refused (Mapping 
     let e = determined_triples.one_fault bytes base (record { check = check; at = at }) (record { check = other; at = place }) first second in
     ap (λ (f : TurtleFault). Err (Refused (Mapping f.check f.at))) e
 one_saying bytes base (Err (Refused (Mapping check at))) (Err (Refused (Data other map row term))) first second = absurd second
+one_saying bytes base (Err (Refused (Mapping check at))) (Err (Refused (AtQuery other place))) first second = absurd second
 one_saying bytes base (Err (Refused (Mapping check at))) (Err Read) first second = absurd second
 one_saying bytes base (Err (Refused (Mapping check at))) (Err Memory) first second = absurd second
 one_saying bytes base (Err (Refused (Schema check at))) p first second = absurd first
 one_saying bytes base (Err (Refused (AtTable check table row column))) p first second = absurd first
 one_saying bytes base (Err (Refused (Keyless table))) p first second = absurd first
 one_saying bytes base (Err (Refused (Data check map row term))) p first second = absurd first
+one_saying bytes base (Err (Refused (AtQuery check at))) p first second = absurd first
 one_saying bytes base (Err Read) p first second = absurd first
 one_saying bytes base (Err Memory) p first second = absurd first
 
@@ -96,13 +104,60 @@ one_direct : (schema : List Table) (base : List ℕ) → IsOneOutcome (MapsDirec
 unfolding MapsDirectly
 one_direct schema base o p first second = first.0 ∙ sym second.0
 
+one_asking : (bytes base : List ℕ) → IsOneOutcome (SaysQuery bytes base)
+one_asking bytes base (Ok v) (Ok w) first second = ap (λ (q : Query). Ok q) (determined_query.one_value bytes base v w first second)
+one_asking bytes base (Ok v) (Err (Refused (Schema check at))) first second = absurd second
+one_asking bytes base (Ok v) (Err (Refused (AtTable check table row column))) first second = absurd second
+one_asking bytes base (Ok v) (Err (Refused (Keyless table))) first second = absurd second
+one_asking bytes base (Ok v) (Err (Refused (Mapping check at))) first second = absurd second
+one_asking bytes base (Ok v) (Err (Refused (Data check map row term))) first second = absurd second
+one_asking bytes base (Ok v) (Err (Refused (AtQuery check at))) first second = absurd (determined_query.not_both bytes base v (record { check = check; at = at }) first second)
+one_asking bytes base (Ok v) (Err Read) first second = absurd second
+one_asking bytes base (Ok v) (Err Memory) first second = absurd second
+one_asking bytes base (Err (Refused (AtQuery check at))) (Ok v) first second = absurd (determined_query.not_both bytes base v (record { check = check; at = at }) second first)
+one_asking bytes base (Err (Refused (AtQuery check at))) (Err (Refused (Schema other place))) first second = absurd second
+one_asking bytes base (Err (Refused (AtQuery check at))) (Err (Refused (AtTable other table row column))) first second = absurd second
+one_asking bytes base (Err (Refused (AtQuery check at))) (Err (Refused (Keyless table))) first second = absurd second
+one_asking bytes base (Err (Refused (AtQuery check at))) (Err (Refused (Mapping other place))) first second = absurd second
+one_asking bytes base (Err (Refused (AtQuery check at))) (Err (Refused (Data other map row term))) first second = absurd second
+one_asking bytes base (Err (Refused (AtQuery check at))) (Err (Refused (AtQuery other place))) first second =
+    let e = determined_query.one_fault bytes base (record { check = check; at = at }) (record { check = other; at = place }) first second in
+    ap (λ (f : QueryFault). Err (Refused (AtQuery f.check f.at))) e
+one_asking bytes base (Err (Refused (AtQuery check at))) (Err Read) first second = absurd second
+one_asking bytes base (Err (Refused (AtQuery check at))) (Err Memory) first second = absurd second
+one_asking bytes base (Err (Refused (Schema check at))) p first second = absurd first
+one_asking bytes base (Err (Refused (AtTable check table row column))) p first second = absurd first
+one_asking bytes base (Err (Refused (Keyless table))) p first second = absurd first
+one_asking bytes base (Err (Refused (Mapping check at))) p first second = absurd first
+one_asking bytes base (Err (Refused (Data check map row term))) p first second = absurd first
+one_asking bytes base (Err Read) p first second = absurd first
+one_asking bytes base (Err Memory) p first second = absurd first
+
+asks_unless : (long : Bool) (bytes base : List ℕ) → IsOneOutcome (SaysQueryUnlessLong long bytes base)
+asks_unless true bytes base = λ o p first second. first ∙ sym second
+asks_unless false bytes base = one_asking bytes base
+
+pub one_query : (bytes base : List ℕ) → IsOneOutcome (ReadsQuery bytes base)
+unfolding ReadsQuery
+one_query bytes base = asks_unless (nat_lt 2147483647 (length bytes)) bytes base
+
 pub one_check : (db : Seen) → IsOneOutcome (Checks db)
 unfolding Checks
 one_check db o p first second = first.0 ∙ sym second.0
 
+pub one_scan : (db : Database) (mapping : Maps) → IsOneOutcome (Scans db mapping)
+one_scan db mapping o p first second = first ∙ sym second
+
 pub one_dump : (db : Database) (mapping : Maps) → IsOneOutcome (Dumps db mapping)
 unfolding Dumps
 one_dump db mapping o p first second = first.0 ∙ sym second.0
+
+pub one_answer : (db : Seen) (mapping : Maps) (asked : Query) → IsOneOutcome (GivesAnswer db mapping asked)
+unfolding GivesAnswer
+one_answer db mapping asked o p first second = first.0 ∙ sym second.0
+
+pub one_text : (schema : List Table) (mapping : Maps) (asked : Query) → IsOneOutcome (GivesText schema mapping asked)
+one_text schema mapping asked o p first second = first ∙ sym second
 
 pub determined_text : (files : Files) (name : List ℕ) (schema : List Table) (base : List ℕ) → IsDetermined (LoadsText files name schema base)
 determined_text files name schema base =
@@ -113,13 +168,29 @@ pub determined_mapping : (files : Files) (file : Option (List ℕ)) (schema : Li
 determined_mapping files None schema base = determined_settles _ (one_direct schema base)
 determined_mapping files (Some name) schema base = determined_text files name schema base
 
-pub determined_on : (options : Options) (files : Files) (db : Seen) → IsDetermined (WorksOn options files db)
-determined_on options files db =
-    determined_then _ _ (determined_settles _ (one_check db)) (λ met.
-    determined_then _ _ (determined_mapping files options.mapping db.schema options.base) (λ mapping. determined_settles _ (one_dump db.tables mapping)))
+pub determined_schema : (files : Files) (name : List ℕ) → IsDetermined (LoadsSchema files name)
+determined_schema files name = determined_then _ _ (determined_loads LIMIT files name) (λ bytes. determined_settles _ (one_schema bytes))
 
-pub determined_work : (options : Options) (files : Files) → IsDetermined (Works options files)
-determined_work options files =
-    determined_then _ _ (determined_loads LIMIT files options.schema) (λ bytes.
-    determined_then _ _ (determined_settles _ (one_schema bytes)) (λ schema.
-    determined_then _ _ (determined_tables files options.folder (without_rows schema) 0 schema) (λ db. determined_on options files db)))
+pub determined_database : (files : Files) (name folder : List ℕ) → IsDetermined (LoadsDatabase files name folder)
+determined_database files name folder =
+    determined_then _ _ (determined_schema files name) (λ schema.
+    determined_then _ _ (determined_tables files folder (without_rows schema) 0 schema) (λ db. determined_settles _ (one_check db)))
+
+pub determined_faultless : (files : Files) (file : Option (List ℕ)) (db : Seen) (base : List ℕ) → IsDetermined (LoadsFaultless files file db base)
+determined_faultless files file db base = determined_then _ _ (determined_mapping files file db.schema base) (λ mapping. determined_settles _ (one_scan db.tables mapping))
+
+pub determined_asked : (files : Files) (name base : List ℕ) → IsDetermined (LoadsQuery files name base)
+determined_asked files name base = determined_then _ _ (determined_loads LIMIT files name) (λ bytes. determined_settles _ (one_query bytes base))
+
+pub determined_work : (command : Command) (files : Files) → IsDetermined (Works command files)
+determined_work (dump words) files =
+    determined_then _ _ (determined_database files words.schema words.folder) (λ db.
+    determined_then _ _ (determined_faultless files words.mapping db words.base) (λ mapping. determined_settles _ (one_dump db.tables mapping)))
+determined_work (query words) files =
+    determined_then _ _ (determined_database files words.schema words.folder) (λ db.
+    determined_then _ _ (determined_faultless files words.mapping db words.base) (λ mapping.
+    determined_then _ _ (determined_asked files words.query words.base) (λ asked. determined_settles _ (one_answer db mapping asked))))
+determined_work (sql words) files =
+    determined_then _ _ (determined_schema files words.schema) (λ schema.
+    determined_then _ _ (determined_mapping files words.mapping schema words.base) (λ mapping.
+    determined_then _ _ (determined_asked files words.query words.base) (λ asked. determined_settles _ (one_text schema mapping asked))))

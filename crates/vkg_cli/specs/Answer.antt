@@ -1,5 +1,5 @@
 -- How a call ends: the status with its cause, the bytes of the output and the line of the standard error.
-use Rattle.std.specs.Prelude.{◌≡◌, ◌⊎◌, ℕ, List, codes, Some, Result, Ok, Err}
+use Rattle.std.specs.Prelude.{◌≡◌, ◌⊎◌, ℕ, List, [], ◌∷◌, codes, Some, Result, Ok, Err}
 use Rattle.vkg_base.specs.Outside.{Files, StoreState, SinkState, Rose, Took, Broke}
 use Rattle.vkg_base.specs.Written.{written}
 use Rattle.vkg_base.specs.declared.status.Status.{Status}
@@ -10,8 +10,8 @@ use Rattle.vkg_cli.specs.declared.stops.Stop.{Stop}
 use Rattle.vkg_cli.specs.declared.stops.Stop.TheVariants as stop
 use Rattle.vkg_cli.specs.FaultLine.{fault_line, status_of, usage_line}
 use Rattle.vkg_cli.specs.Stages.{AsksSome}
-use Rattle.vkg_cli.specs.Words.{Asked, Options, dump, help, refused}
-use Rattle.vkg_cli.specs.Work.{Works}
+use Rattle.vkg_cli.specs.Words.{Asked, Command, help, refused, run}
+use Rattle.vkg_cli.specs.Work.{MayStop, Works}
 
 -- the store of files, the output and the standard error
 pub record World : Type 0 where
@@ -27,27 +27,28 @@ WhereTold world fact = (files : Files) → world.store.files ≡ Some files → 
 abbrev pub Tells : SinkState → SinkState → List ℕ → Type 0
 Tells old new line = Took old new line ⊎ Broke old new line
 
--- the options ask for these lines, over these files
-abbrev pub HasText : Options → Files → List (List ℕ) → Type 0
-HasText options files lines = (names : List (List ℕ)) × Works options files names (Ok lines)
+-- the command asks for these lines, over these files
+abbrev pub HasText : Command → Files → List (List ℕ) → Type 0
+HasText command files lines = (names : List (List ℕ)) × Works command files names (Ok lines)
 
 -- this is the first fault, over these files
-abbrev pub HasFault : Options → Files → Fault → Type 0
-HasFault options files fault = (names : List (List ℕ)) × Works options files names (Err (stop.Refused fault))
+abbrev pub HasFault : Command → Files → Fault → Type 0
+HasFault command files fault = (names : List (List ℕ)) × Works command files names (Err (stop.Refused fault))
 
 -- all of the text was taken, no fault was counted, and nothing was told
-pub record IsDone (options : Options) (old new : World) : Type 0 where
+pub record IsDone (command : Command) (old new : World) : Type 0 where
   pub lines : List (List ℕ)
-  pub defined : WhereTold old (λ files. HasText options files lines)
+  pub defined : WhereTold old (λ files. HasText command files lines)
   pub taken : Took old.out new.out (written lines)
   pub store : new.store.faults ≡ old.store.faults
   pub err : new.err ≡ old.err
 
 -- the first fault stands, and is told
-pub record IsRefused (options : Options) (old new : World) (status : Status) : Type 0 where
+pub record IsRefused (command : Command) (old new : World) (status : Status) : Type 0 where
   pub fault : Fault
   pub status_is : status ≡ status_of fault
-  pub defined : WhereTold old (λ files. HasFault options files fault)
+  pub may : MayStop command (stop.Refused fault)
+  pub defined : WhereTold old (λ files. HasFault command files fault)
   pub out : new.out ≡ old.out
   pub store : new.store.faults ≡ old.store.faults
   pub told : Tells old.err new.err (fault_line fault)
@@ -59,9 +60,9 @@ pub record IsUnread (old new : World) : Type 0 where
   pub told : Tells old.err new.err (codes "vkg: read fault\n")
 
 -- a write failed, after a prefix of the text
-pub record IsUnwritten (options : Options) (old new : World) : Type 0 where
+pub record IsUnwritten (command : Command) (old new : World) : Type 0 where
   pub lines : List (List ℕ)
-  pub defined : WhereTold old (λ files. HasText options files lines)
+  pub defined : WhereTold old (λ files. HasText command files lines)
   pub taken : Broke old.out new.out (written lines)
   pub store : new.store.faults ≡ old.store.faults
   pub told : Tells old.err new.err (codes "vkg: write fault\n")
@@ -71,27 +72,34 @@ pub record IsShort (old new : World) : Type 0 where
   pub out : new.out ≡ old.out
   pub told : Tells old.err new.err (codes "vkg: want of memory\n")
 
--- why `dump` may end with a status, and what it leaves
-abbrev pub Ends : Options → World → World → Status → Type 0
-Ends options old new Done = IsDone options old new
-Ends options old new BadWords = ⊥
-Ends options old new BadSchema = IsRefused options old new BadSchema
-Ends options old new BadTable = IsRefused options old new BadTable
-Ends options old new BadMapping = IsRefused options old new BadMapping
-Ends options old new BadData = IsRefused options old new BadData
-Ends options old new BadQuery = ⊥
-Ends options old new ReadFault = IsUnread old new
-Ends options old new WriteFault = IsUnwritten options old new
-Ends options old new Memory = IsShort old new
+-- why a command may end with a status, and what it leaves
+abbrev pub Ends : Command → World → World → Status → Type 0
+Ends command old new Done = IsDone command old new
+Ends command old new BadWords = ⊥
+Ends command old new BadSchema = IsRefused command old new BadSchema
+Ends command old new BadTable = IsRefused command old new BadTable
+Ends command old new BadMapping = IsRefused command old new BadMapping
+Ends command old new BadData = IsRefused command old new BadData
+Ends command old new BadQuery = IsRefused command old new BadQuery
+Ends command old new ReadFault = IsUnread old new
+Ends command old new WriteFault = IsUnwritten command old new
+Ends command old new Memory = IsShort old new
 
--- the words ask for `dump`
-pub record IsDumpAnswer (options : Options) (old new : World) (status : Status) : Type 0 where
-  pub asked : WhereTold old (λ files. AsksSome (Works options files) old.store.asked new.store.asked)
-  pub ends : Ends options old new status
+-- the words ask for a command
+pub record IsCommandAnswer (command : Command) (old new : World) (status : Status) : Type 0 where
+  pub asked : WhereTold old (λ files. AsksSome (Works command files) old.store.asked new.store.asked)
+  pub ends : Ends command old new status
 
 -- a line for each command, with its options
+abbrev pub help_lines : List (List ℕ)
+help_lines =
+    codes "vkg dump --schema F --data DIR --base IRI [--mapping F]"
+    ∷ codes "vkg query --schema F --data DIR --base IRI --query F [--mapping F]"
+    ∷ codes "vkg sql --schema F --base IRI --query F [--mapping F]"
+    ∷ []
+
 abbrev pub help_text : List ℕ
-help_text = codes "vkg dump --schema F --data DIR --base IRI [--mapping F]\n"
+help_text = written help_lines
 
 -- help is written, or a write failed
 abbrev pub WritesHelp : SinkState → SinkState → SinkState → SinkState → Status → Type 0
@@ -114,7 +122,7 @@ Rejects usage old new status = (new.store ≡ old.store) × (((status ≡ BadWor
 abbrev pub IsAnswer : Asked → World → World → Status → Type 0
 IsAnswer help old new status = Helps old new status
 IsAnswer (refused usage) old new status = Rejects usage old new status
-IsAnswer (dump options) old new status = IsDumpAnswer options old new status
+IsAnswer (run command) old new status = IsCommandAnswer command old new status
 
 -- why there is no text is told
 abbrev pub TellsStop : Stop → SinkState → SinkState → Status → Type 0

@@ -3,20 +3,20 @@ use Rattle.std.specs.Prelude.{◌≡◌, ◌⊎◌, ℕ, List, codes, Some}
 use Rattle.vkg_base.specs.Outside.{Files, Rose, Took, Broke}
 use Rattle.vkg_base.specs.Written.{written}
 use Rattle.vkg_base.specs.declared.status.Status.{Status}
-use Rattle.vkg_base.specs.declared.status.Status.TheVariants.{Done, Usage as BadWords, BadQuery, ReadFault, WriteFault, Memory}
+use Rattle.vkg_base.specs.declared.status.Status.TheVariants.{Done, Usage as BadWords, BadTable, BadData, BadQuery, ReadFault, WriteFault, Memory}
 use Rattle.vkg_cli.specs.declared.stops.Fault.{Fault}
 use Rattle.vkg_cli.specs.declared.stops.Usage.{Usage}
 use Rattle.vkg_cli.specs.FaultLine.{status_of, usage_line}
-use Rattle.vkg_cli.specs.Headline.{IsDump}
+use Rattle.vkg_cli.specs.Headline.{IsTextOf}
 use Rattle.vkg_cli.specs.Stages.{AsksSome}
-use Rattle.vkg_cli.specs.Words.{Asked, Options, dump, help, refused}
+use Rattle.vkg_cli.specs.Words.{Asked, Command, dump, help, refused, run, sql}
 use Rattle.vkg_cli.specs.Work.{Works}
 use Rattle.vkg_cli.specs.Answer.{HasFault, HasText, IsRefused, IsUnwritten, Tells, WhereTold, World, help_text}
 
--- `dump` is done: the output took the lines, each with its line feed; no fault was counted, and nothing was told.
-pub record WritesDump (options : Options) (old new : World) : Type 0 where
+-- A command is done: the output took the lines, each with its line feed; no fault was counted, and nothing was told.
+pub record Writes (command : Command) (old new : World) : Type 0 where
   pub lines : List (List ℕ)
-  pub dump_of : WhereTold old (λ files. IsDump options files lines)
+  pub text_of : WhereTold old (λ files. IsTextOf command files lines)
   pub taken : Took old.out new.out (written lines)
   pub store : new.store.faults ≡ old.store.faults
   pub err : new.err ≡ old.err
@@ -25,7 +25,7 @@ pub record WritesDump (options : Options) (old new : World) : Type 0 where
 abbrev pub IsDoneOnly : Asked → World → World → Status → Type 0
 IsDoneOnly asked old new status = status ≡ Done →
     ((asked ≡ help) × Took old.out new.out help_text × (new.store ≡ old.store) × (new.err ≡ old.err))
-    ⊎ ((options : Options) × (asked ≡ dump options) × WritesDump options old new)
+    ⊎ ((command : Command) × (asked ≡ run command) × Writes command old new)
 
 -- Usage: exactly where the words are not taken, but for want of memory; they are told so.
 abbrev pub IsUsageExactly : Asked → World → World → Status → Type 0
@@ -37,8 +37,8 @@ IsUsageExactly asked old new status =
 -- fault is told.
 abbrev pub IsRefusedExactly : Status → Asked → World → World → Status → Type 0
 IsRefusedExactly bad asked old new status =
-    (status ≡ bad → (options : Options) × (asked ≡ dump options) × IsRefused options old new bad)
-    × ((options : Options) → asked ≡ dump options → (files : Files) → old.store.files ≡ Some files → (fault : Fault) → HasFault options files fault → status_of fault ≡ bad
+    (status ≡ bad → (command : Command) × (asked ≡ run command) × IsRefused command old new bad)
+    × ((command : Command) → asked ≡ run command → (files : Files) → old.store.files ≡ Some files → (fault : Fault) → HasFault command files fault → status_of fault ≡ bad
     → (status ≡ bad) ⊎ ((status ≡ ReadFault) × Rose old.store.faults new.store.faults) ⊎ (status ≡ Memory))
 
 -- ReadFault: only where a load failed, which the store counted; it is told.
@@ -49,11 +49,13 @@ IsReadFaultOnly old new status = status ≡ ReadFault → Rose old.store.faults 
 abbrev pub IsWriteFaultOnly : Asked → World → World → Status → Type 0
 IsWriteFaultOnly asked old new status = status ≡ WriteFault →
     ((asked ≡ help) × Broke old.out new.out help_text × Tells old.err new.err (codes "vkg: write fault\n"))
-    ⊎ ((options : Options) × (asked ≡ dump options) × IsUnwritten options old new)
+    ⊎ ((command : Command) × (asked ≡ run command) × IsUnwritten command old new)
 
--- No fault of a query is answered: no command reads one.
-abbrev pub IsNoOther : Status → Type 0
-IsNoOther status = ¬ (status ≡ BadQuery)
+-- `dump` reads no query, and `sql` no table: neither is told to be at fault.
+abbrev pub IsNoOther : Asked → Status → Type 0
+IsNoOther (run (dump words)) status = ¬ (status ≡ BadQuery)
+IsNoOther (run (sql words)) status = ¬ (status ≡ BadTable) × ¬ (status ≡ BadData)
+IsNoOther asked status = Unit {0}
 
 -- Memory: it is told.
 abbrev pub IsMemoryTold : World → World → Status → Type 0
@@ -61,8 +63,8 @@ IsMemoryTold old new status = status ≡ Memory → Tells old.err new.err (codes
 
 -- Where there is a text, it is written, but for counted faults and want of memory.
 abbrev pub IsComplete : Asked → World → World → Status → Type 0
-IsComplete asked old new status = (options : Options) → asked ≡ dump options → (files : Files) → old.store.files ≡ Some files
-    → (lines : List (List ℕ)) → HasText options files lines
+IsComplete asked old new status = (command : Command) → asked ≡ run command → (files : Files) → old.store.files ≡ Some files
+    → (lines : List (List ℕ)) → HasText command files lines
     → ¬ (Rose old.store.faults new.store.faults) → ¬ (Rose old.out.faults new.out.faults)
     → ((status ≡ Done) × Took old.out new.out (written lines)) ⊎ (status ≡ Memory)
 
@@ -78,4 +80,4 @@ IsUntouched old new status = ¬ (status ≡ Done) → ¬ (status ≡ WriteFault)
 abbrev pub AsksInOrder : Asked → World → World → Type 0
 AsksInOrder help old new = new.store ≡ old.store
 AsksInOrder (refused usage) old new = new.store ≡ old.store
-AsksInOrder (dump options) old new = WhereTold old (λ files. AsksSome (Works options files) old.store.asked new.store.asked)
+AsksInOrder (run command) old new = WhereTold old (λ files. AsksSome (Works command files) old.store.asked new.store.asked)

@@ -19,9 +19,19 @@ optional_rule name = record (new_rule name) {
   action = Some Set;
 }
 
+-- a command over a schema, tables and a base
+abbrev pub tables_app : Text → App
+tables_app name = with_rule (with_rule (with_rule (new_app name) (option_rule (codes "schema"))) (option_rule (codes "data"))) (option_rule (codes "base"))
+
 abbrev pub dump_app : App
-dump_app =
-    with_rule (with_rule (with_rule (with_rule (new_app (codes "dump")) (option_rule (codes "schema"))) (option_rule (codes "data"))) (option_rule (codes "base")))
+dump_app = with_rule (tables_app (codes "dump")) (optional_rule (codes "mapping"))
+
+abbrev pub query_app : App
+query_app = with_rule (with_rule (tables_app (codes "query")) (option_rule (codes "query"))) (optional_rule (codes "mapping"))
+
+abbrev pub sql_app : App
+sql_app =
+    with_rule (with_rule (with_rule (with_rule (new_app (codes "sql")) (option_rule (codes "schema"))) (option_rule (codes "base"))) (option_rule (codes "query")))
     (optional_rule (codes "mapping"))
 
 -- no flag or command asks for help or a version, and a command has to be named
@@ -35,4 +45,4 @@ vkg_alone = on_top (λ s. record s {
 
 -- the whole command line
 abbrev pub vkg_app : App
-vkg_app = with_subcommand vkg_alone dump_app.top
+vkg_app = with_subcommand (with_subcommand (with_subcommand vkg_alone dump_app.top) query_app.top) sql_app.top

@@ -1,4 +1,4 @@
--- What the program does for `dump`, over known files.
+-- What the program does for a command, over known files.
 use Rattle.std.specs.Prelude.{◌≡◌, ℕ, ◌+◌, Bool, true, false, List, ◌∷◌, [], ◌++◌, codes, length, nat_lt, Option, Some, None, Result, Ok, Err, IfOk}
 use Rattle.vkg_base.specs.Outside.{Files}
 use Rattle.vkg_terms.specs.Safe.{safe}
@@ -25,9 +25,17 @@ use Rattle.vkg_turtle.specs.declared.triple.Triple.{Triple}
 use Rattle.vkg_turtle.specs.Reading.{IsDocumentOf, IsFirstFault as IsTurtleFault}
 use Rattle.vkg_r2rml.specs.declared.map_error.MapFault.{MapFault}
 use Rattle.vkg_r2rml.specs.Mapping.{mapping_of}
-use Rattle.vkg_quads.specs.Dump.{IsDump, dump}
+use Rattle.vkg_quads.specs.Dump.{IsDump, dump as dump_of}
+use Rattle.vkg_sparql.specs.declared.query.Query.{Query}
+use Rattle.vkg_sparql.specs.Reading.{IsQuery, IsFirstFault as IsQueryFault}
+use Rattle.vkg_sparql.specs.Seen.{query_seen}
+use Rattle.vkg_algebra.specs.Answer.{answer}
+use Rattle.vkg_plan.specs.Rows.{rows_of}
+use Rattle.vkg_sqltext.specs.Text.{sql_text}
+use Rattle.vkg_rewrite.specs.Lines.{result_lines}
+use Rattle.vkg_rewrite.specs.Rewritten.{rewritten}
 use Rattle.vkg_cli.specs.Stages.{Stage, Settles, Loads, Then}
-use Rattle.vkg_cli.specs.Words.{Options}
+use Rattle.vkg_cli.specs.Words.{Command, dump, query, sql}
 
 -- the bytes are a schema, or its first fault stands
 abbrev pub Reads : List ℕ → Result (List Table) Stop → Type 0
@@ -37,6 +45,7 @@ Reads bytes (Err (stop.Refused (fault.Table check table row column))) = ⊥
 Reads bytes (Err (stop.Refused (fault.Keyless table))) = ⊥
 Reads bytes (Err (stop.Refused (fault.Mapping check at))) = ⊥
 Reads bytes (Err (stop.Refused (fault.Data check map row term))) = ⊥
+Reads bytes (Err (stop.Refused (fault.Query check at))) = ⊥
 Reads bytes (Err stop.Read) = ⊥
 Reads bytes (Err stop.Memory) = ⊥
 
@@ -78,12 +87,12 @@ checked None = Ok tt
 checked (Some f) = Err (table_stop f)
 
 -- of a loaded database: the first repeated key, else the first reference without a target
-abbrev pub checks : Seen → Result (Unit {0}) Stop
-checks db = unless_fault (key_fault db.schema db.tables) (checked (reference_fault db.schema db.tables))
+abbrev pub checks : Seen → Result Seen Stop
+checks db = unless_fault (key_fault db.schema db.tables) (unless_fault (reference_fault db.schema db.tables) (Ok db))
 
 -- where neither stands, the database meets its schema
-unfoldable pub Checks : Seen → Result (Unit {0}) Stop → Type 0
-Checks db outcome = (outcome ≡ checks db) × IfOk outcome (λ _. MeetsSchema db.schema db.tables)
+unfoldable pub Checks : Seen → Result Seen Stop → Type 0
+Checks db outcome = (outcome ≡ checks db) × IfOk outcome (λ db. MeetsSchema db.schema db.tables)
 
 abbrev pub direct_stop : DirectError → Stop
 direct_stop (direct_error.NoPrimaryKey table) = stop.Refused (fault.Keyless table)
@@ -107,6 +116,7 @@ SaysTriples bytes base (Err (stop.Refused (fault.Table check table row column)))
 SaysTriples bytes base (Err (stop.Refused (fault.Keyless table))) = ⊥
 SaysTriples bytes base (Err (stop.Refused (fault.Mapping check at))) = IsTurtleFault bytes base (record { check = check; at = at })
 SaysTriples bytes base (Err (stop.Refused (fault.Data check map row term))) = ⊥
+SaysTriples bytes base (Err (stop.Refused (fault.Query check at))) = ⊥
 SaysTriples bytes base (Err stop.Read) = ⊥
 SaysTriples bytes base (Err stop.Memory) = ⊥
 
@@ -139,26 +149,91 @@ LoadsMapping files (Some name) schema base = LoadsText files name schema base
 abbrev pub data_stop : DataFault → Stop
 data_stop f = stop.Refused (fault.Data (check_of f.fault) f.map f.row f.term)
 
-abbrev pub unless_data : Option DataFault → Result (List (List ℕ)) Stop → Result (List (List ℕ)) Stop
+abbrev pub unless_data : {A : Type 0} → Option DataFault → Result A Stop → Result A Stop
 unless_data None later = later
 unless_data (Some f) later = Err (data_stop f)
 
--- of a database that meets its schema and a mapping: the least data error, or the lines of the dataset
-abbrev pub dumped : Database → Mapping → Result (List (List ℕ)) Stop
-dumped db mapping = unless_data (least_data_fault mapping db) (Ok (dump (dataset mapping db)))
+-- a mapping that makes each of its terms over the tables, or the least data error
+abbrev pub Scans : Database → Mapping → Result Mapping Stop → Type 0
+Scans db mapping outcome = outcome ≡ unless_data (least_data_fault mapping db) (Ok mapping)
 
--- the lines ascend and stand once each
+-- the bytes are a query, or their first fault stands
+abbrev pub SaysQuery : List ℕ → List ℕ → Result Query Stop → Type 0
+SaysQuery bytes base (Ok asked) = IsQuery bytes base asked
+SaysQuery bytes base (Err (stop.Refused (fault.Schema check at))) = ⊥
+SaysQuery bytes base (Err (stop.Refused (fault.Table check table row column))) = ⊥
+SaysQuery bytes base (Err (stop.Refused (fault.Keyless table))) = ⊥
+SaysQuery bytes base (Err (stop.Refused (fault.Mapping check at))) = ⊥
+SaysQuery bytes base (Err (stop.Refused (fault.Data check map row term))) = ⊥
+SaysQuery bytes base (Err (stop.Refused (fault.Query check at))) = IsQueryFault bytes base (record { check = check; at = at })
+SaysQuery bytes base (Err stop.Read) = ⊥
+SaysQuery bytes base (Err stop.Memory) = ⊥
+
+-- own: a query of 2147483648 bytes is past the limit (Q09), before any other fault of it
+abbrev pub SaysQueryUnlessLong : Bool → List ℕ → List ℕ → Result Query Stop → Type 0
+SaysQueryUnlessLong true bytes base outcome = outcome ≡ Err (stop.Refused (fault.Query 9 2147483647))
+SaysQueryUnlessLong false bytes base outcome = SaysQuery bytes base outcome
+
+unfoldable pub ReadsQuery : List ℕ → List ℕ → Result Query Stop → Type 0
+ReadsQuery bytes base outcome = SaysQueryUnlessLong (nat_lt 2147483647 (length bytes)) bytes base outcome
+
+-- the query of a file
+abbrev pub LoadsQuery : Files → List ℕ → List ℕ → Stage Query
+LoadsQuery files name base = Then (Loads LIMIT files name) (λ bytes. Settles (ReadsQuery bytes base))
+
+-- the schema of a file
+abbrev pub LoadsSchema : Files → List ℕ → Stage (List Table)
+LoadsSchema files name = Then (Loads LIMIT files name) (λ bytes. Settles (ReadsSchema bytes))
+
+-- a database that meets its schema: the schema, then the tables in its order, then keys and references
+abbrev pub LoadsDatabase : Files → List ℕ → List ℕ → Stage Seen
+LoadsDatabase files name folder =
+    Then (LoadsSchema files name) (λ schema. Then (LoadsTables files folder (without_rows schema) 0 schema) (λ db. Settles (Checks db)))
+
+-- a mapping without a data error
+abbrev pub LoadsFaultless : Files → Option (List ℕ) → Seen → List ℕ → Stage Mapping
+LoadsFaultless files file db base = Then (LoadsMapping files file db.schema base) (λ mapping. Settles (Scans db.tables mapping))
+
+-- the lines of the dataset: they ascend and stand once each
 unfoldable pub Dumps : Database → Mapping → Result (List (List ℕ)) Stop → Type 0
-Dumps db mapping outcome = (outcome ≡ dumped db mapping) × IfOk outcome (λ lines. IsDump lines (dataset mapping db))
+Dumps db mapping outcome = (outcome ≡ Ok (dump_of (dataset mapping db))) × IfOk outcome (λ lines. IsDump lines (dataset mapping db))
 
--- the text of a loaded database: its keys and references are checked, the mapping is loaded, and the dataset is written
-abbrev pub WorksOn : Options → Files → Seen → Stage (List (List ℕ))
-WorksOn options files db =
-    Then (Settles (Checks db)) (λ met. Then (LoadsMapping files options.mapping db.schema options.base) (λ mapping. Settles (Dumps db.tables mapping)))
+-- the answer to a query over the dataset: its lines are those of the rows of its plan, too
+unfoldable pub GivesAnswer : Seen → Mapping → Query → Result (List (List ℕ)) Stop → Type 0
+GivesAnswer db mapping asked outcome =
+    (outcome ≡ Ok (answer (query_seen asked) (dataset mapping db.tables)))
+    × IfOk outcome (λ lines. lines ≡ result_lines (query_seen asked) (rows_of db.schema (rewritten db.schema mapping (query_seen asked)) db.tables))
 
--- `dump`: the schema, then the tables in its order, then the mapping and the text
-abbrev pub Works : Options → Files → Stage (List (List ℕ))
-Works options files =
-    Then (Loads LIMIT files options.schema) (λ bytes.
-    Then (Settles (ReadsSchema bytes)) (λ schema.
-    Then (LoadsTables files options.folder (without_rows schema) 0 schema) (λ db. WorksOn options files db)))
+-- the text of the query's plan
+abbrev pub GivesText : List Table → Mapping → Query → Result (List (List ℕ)) Stop → Type 0
+GivesText schema mapping asked outcome = outcome ≡ Ok (sql_text schema (rewritten schema mapping (query_seen asked)) ∷ [])
+
+-- the work of a command
+abbrev pub Works : Command → Files → Stage (List (List ℕ))
+Works (dump words) files =
+    Then (LoadsDatabase files words.schema words.folder) (λ db.
+    Then (LoadsFaultless files words.mapping db words.base) (λ mapping. Settles (Dumps db.tables mapping)))
+Works (query words) files =
+    Then (LoadsDatabase files words.schema words.folder) (λ db.
+    Then (LoadsFaultless files words.mapping db words.base) (λ mapping.
+    Then (LoadsQuery files words.query words.base) (λ asked. Settles (GivesAnswer db mapping asked))))
+Works (sql words) files =
+    Then (LoadsSchema files words.schema) (λ schema.
+    Then (LoadsMapping files words.mapping schema words.base) (λ mapping.
+    Then (LoadsQuery files words.query words.base) (λ asked. Settles (GivesText schema mapping asked))))
+
+-- faults of the tables' files, and of the terms made of their rows
+abbrev pub is_of_tables : Stop → Bool
+is_of_tables (stop.Refused (fault.Table check table row column)) = true
+is_of_tables (stop.Refused (fault.Data check map row term)) = true
+is_of_tables why = false
+
+abbrev pub is_of_query : Stop → Bool
+is_of_query (stop.Refused (fault.Query check at)) = true
+is_of_query why = false
+
+-- `dump` reads no query, and `sql` no table
+abbrev pub MayStop : Command → Stop → Type 0
+MayStop (dump words) why = is_of_query why ≡ false
+MayStop (query words) why = Unit {0}
+MayStop (sql words) why = is_of_tables why ≡ false

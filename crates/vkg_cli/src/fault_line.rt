@@ -1,6 +1,6 @@
 // The lines of the standard error that name a fault. They take no memory.
 ghost use Rattle.std.specs.Prelude.{◌≡◌, ◌≤◌, ◌++◌, codes, length, map};
-ghost use Rattle.vkg_cli.specs.FaultLine.{data_words as data_words_of, fault_line as line_of, mapping_words as mapping_words_of, place_line as place_line_of, places_line as places_line_of, schema_words as schema_words_of, status_of, table_words as table_words_of, usage_line as usage_line_of, words_at as words_in};
+ghost use Rattle.vkg_cli.specs.FaultLine.{data_words as data_words_of, fault_line as line_of, mapping_words as mapping_words_of, place_line as place_line_of, places_line as places_line_of, query_words as query_words_of, schema_words as schema_words_of, status_of, table_words as table_words_of, usage_line as usage_line_of, words_at as words_in};
 
 use crate::{Fault, Usage};
 use vkg_base::{FixedLine, Status};
@@ -71,6 +71,20 @@ pub const MAPPING_CHECKS: [&str; 23] = [
 /// The checks of the terms that a mapping makes of rows, by their number.
 pub const DATA_CHECKS: [&str; 4] = ["", "X01 not an IRI", "X02 ill-typed", "X03 number too wide"];
 
+/// The checks of a query, by their number.
+pub const QUERY_CHECKS: [&str; 10] = [
+    "",
+    "Q01 lexical",
+    "Q02 grammar",
+    "Q03 too deep",
+    "Q04 prefix unknown",
+    "Q05 bad IRI",
+    "Q06 blank label in two patterns",
+    "Q07 outside the profile",
+    "Q08 number too wide",
+    "Q09 limit",
+];
+
 fn words_at(checks: &[&'static str], check: u8) -> &'static str
     ensures { result.now ≡ words_in (map (λ words. words.now) checks.entry.now) check }
 {
@@ -106,6 +120,13 @@ fn data_words(check: u8) -> &'static str
     ensures short { length result.now ≤ 32 }
 {
     words_at(&DATA_CHECKS, check)
+}
+
+fn query_words(check: u8) -> &'static str
+    ensures words { result.now ≡ query_words_of check }
+    ensures short { length result.now ≤ 32 }
+{
+    words_at(&QUERY_CHECKS, check)
 }
 
 /// The line up to its places.
@@ -167,6 +188,7 @@ pub fn fault_line(fault: Fault) -> FixedLine
             row,
             term,
         } => places_line(data_words(check), map, row, term),
+        Fault::Query { check, at } => place_line(query_words(check), at),
     }
 }
 
@@ -179,6 +201,7 @@ pub fn fault_status(fault: Fault) -> Status
         Fault::Table { .. } => Status::BadTable,
         Fault::Keyless { .. } | Fault::Mapping { .. } => Status::BadMapping,
         Fault::Data { .. } => Status::BadData,
+        Fault::Query { .. } => Status::BadQuery,
     }
 }
 

@@ -1,8 +1,8 @@
 // Files loaded from a store, and read.
-ghost use Rattle.std.specs.Prelude.{◌≡◌, ◌≤◌, ◌<◌, length, string_bytes, IfOk};
+ghost use Rattle.std.specs.Prelude.{◌≡◌, ◌≤◌, ◌<◌, length, string_bytes, IfErr, IfOk, false};
 ghost use Rattle.vkg_cli.specs.Stages.{Answers, Loads, Ran, carried, seen};
 ghost use Rattle.vkg_tables.specs.Seen.{loaded, without_rows};
-ghost use Rattle.vkg_cli.specs.Work.{LoadsTable, LoadsTables, ReadsSchema, loaded_or, table_file, table_stop as stop_at};
+ghost use Rattle.vkg_cli.specs.Work.{LoadsSchema, LoadsTable, LoadsTables, ReadsSchema, is_of_query, is_of_tables, loaded_or, table_file, table_stop as stop_at};
 
 use crate::{Fault, Stop};
 use std::alloc::Global;
@@ -15,7 +15,8 @@ use vkg_terms::iri_safe;
 pub const LIMIT: u64 = 2147483648;
 
 pub fn load_file<S: Store>(alloc: Global, store: &mut S, name: &str) -> Result<Vec<u8>, Stop>
-    ensures { Ran (λ files. Loads LIMIT files name.now) (S.state store.old) (S.state store.new) (seen (λ v. v.items) result) }
+    ensures ran { Ran (λ files. Loads LIMIT files name.now) (S.state store.old) (S.state store.new) (seen (λ v. v.items) result) }
+    ensures kind { IfErr result (λ why. (is_of_query why ≡ false) × (is_of_tables why ≡ false)) }
 {
     match store.load(alloc, name, LIMIT) {
         Ok(bytes) => Ok(bytes),
@@ -26,8 +27,9 @@ pub fn load_file<S: Store>(alloc: Global, store: &mut S, name: &str) -> Result<V
 
 /// The schema of a file's bytes.
 #[tactic(auto, unfolding(crate::specs::Work::ReadsSchema))]
-pub fn schema_of(alloc: Global, bytes: &[u8]) -> Result<Schema, Stop>
-    ensures { Answers (ReadsSchema bytes.now) result }
+fn schema_of(alloc: Global, bytes: &[u8]) -> Result<Schema, Stop>
+    ensures value { Answers (ReadsSchema bytes.now) result }
+    ensures kind { IfErr result (λ why. (is_of_query why ≡ false) × (is_of_tables why ≡ false)) }
 {
     if bytes.len() > 2147483647 {
         return Err(Stop::Refused(Fault::Schema {
@@ -43,6 +45,18 @@ pub fn schema_of(alloc: Global, bytes: &[u8]) -> Result<Schema, Stop>
         })),
         Err(SchemaError::Memory) => Err(Stop::Memory),
     }
+}
+
+/// The schema of a file.
+pub fn load_schema<S: Store>(alloc: Global, store: &mut S, name: &str) -> Result<Schema, Stop>
+    ensures ran { Ran (λ files. LoadsSchema files name.now) (S.state store.old) (S.state store.new) result }
+    ensures kind { IfErr result (λ why. (is_of_query why ≡ false) × (is_of_tables why ≡ false)) }
+{
+    let bytes = match load_file(alloc, store, name) {
+        Ok(bytes) => bytes,
+        Err(stop) => return Err(stop),
+    };
+    schema_of(alloc, &bytes)
 }
 
 fn table_path(alloc: Global, folder: &str, table: &Table) -> Result<String, Memory>
@@ -71,6 +85,7 @@ fn read_table(alloc: Global, db: &mut Database, k: usize, bytes: &[u8]) -> Resul
     requires { k < length db.old.schema }
     ensures read { Answers (λ outcome. outcome ≡ loaded_or (loaded db.old k bytes.now)) (carried db.new result) }
     ensures schema { db.new.schema ≡ db.old.schema }
+    ensures kind { IfErr result (λ why. is_of_query why ≡ false) }
 {
     match db.load_table(alloc, k, bytes) {
         Ok(()) => Ok(()),
@@ -91,6 +106,7 @@ fn load_table<S: Store>(
     requires { k < length db.old.schema }
     ensures ran { Ran (λ files. LoadsTable files folder.now db.old k table.now) (S.state store.old) (S.state store.new) (carried db.new result) }
     ensures schema { db.new.schema ≡ db.old.schema }
+    ensures kind { IfErr result (λ why. is_of_query why ≡ false) }
 {
     let path = match table_path(alloc, folder, table) {
         Ok(path) => path,
@@ -110,7 +126,8 @@ pub fn load_tables<S: Store>(
     folder: &str,
     schema: &Schema,
 ) -> Result<Database, Stop>
-    ensures { Ran (λ files. LoadsTables files folder.now (without_rows schema.now) 0 schema.now) (S.state store.old) (S.state store.new) result }
+    ensures ran { Ran (λ files. LoadsTables files folder.now (without_rows schema.now) 0 schema.now) (S.state store.old) (S.state store.new) result }
+    ensures kind { IfErr result (λ why. is_of_query why ≡ false) }
 {
     let mut db = match Database::new(alloc, schema) {
         Ok(db) => db,

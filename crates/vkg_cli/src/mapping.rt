@@ -1,9 +1,10 @@
 // The mapping: the direct one, or that of a file.
-ghost use Rattle.std.specs.Prelude.{◌≡◌, IfOk, None, option_map, true};
+ghost use Rattle.std.specs.Prelude.{◌≡◌, IfErr, IfOk, None, false, option_map, true};
 ghost use Rattle.vkg_terms.specs.Iri.{is_absolute};
 ghost use Rattle.vkg_direct.specs.Laws.{MakesEachTerm};
+ghost use Rattle.vkg_maps.specs.Within.{IsWithin};
 ghost use Rattle.vkg_cli.specs.Stages.{Answers, Ran, seen};
-ghost use Rattle.vkg_cli.specs.Work.{LoadsMapping, LoadsText, MapsDirectly, ReadsTriples, MapsTriples};
+ghost use Rattle.vkg_cli.specs.Work.{LoadsMapping, LoadsText, MapsDirectly, MapsTriples, ReadsTriples, is_of_query, is_of_tables};
 
 use crate::load::load_file;
 use crate::{Fault, Stop};
@@ -21,7 +22,10 @@ fn direct_mapping(alloc: Global, schema: &Schema, base: &str) -> Result<Mapping,
     requires { is_absolute base.now ≡ true }
     ensures maps { Answers (MapsDirectly schema.now base.now) result }
     ensures faultless { IfOk result (MakesEachTerm schema.now) }
+    ensures within { IfOk result (IsWithin schema.now) }
+    ensures kind { IfErr result (λ why. (is_of_query why ≡ false) × (is_of_tables why ≡ false)) }
 {
+    let _tables = schema.tables();
     match direct(alloc, schema, base) {
         Ok(mapping) => Ok(mapping),
         Err(DirectError::NoPrimaryKey(table)) => Err(Stop::Refused(Fault::Keyless { table })),
@@ -34,7 +38,8 @@ fn direct_mapping(alloc: Global, schema: &Schema, base: &str) -> Result<Mapping,
 #[tactic(auto, unfolding(crate::specs::Work::ReadsTriples))]
 fn triples_of(alloc: Global, base: &str, bytes: &[u8]) -> Result<Items<Triple>, Stop>
     requires { is_absolute base.now ≡ true }
-    ensures { Answers (ReadsTriples bytes.now base.now) result }
+    ensures value { Answers (ReadsTriples bytes.now base.now) result }
+    ensures kind { IfErr result (λ why. (is_of_query why ≡ false) × (is_of_tables why ≡ false)) }
 {
     if bytes.len() > 2147483647 {
         return Err(Stop::Refused(Fault::Mapping {
@@ -60,7 +65,9 @@ fn mapping_of(
     base: &str,
 ) -> Result<Mapping, Stop>
     requires { is_absolute base.now ≡ true }
-    ensures { Answers (MapsTriples triples.now schema.now base.now) result }
+    ensures value { Answers (MapsTriples triples.now schema.now base.now) result }
+    ensures within { IfOk result (IsWithin schema.now) }
+    ensures kind { IfErr result (λ why. (is_of_query why ≡ false) × (is_of_tables why ≡ false)) }
 {
     match read_mapping(alloc, triples, schema, base) {
         Ok(mapping) => Ok(mapping),
@@ -81,7 +88,9 @@ fn load_text<S: Store>(
     base: &str,
 ) -> Result<Mapping, Stop>
     requires { is_absolute base.now ≡ true }
-    ensures { Ran (λ files. LoadsText files name.now schema.now base.now) (S.state store.old) (S.state store.new) result }
+    ensures ran { Ran (λ files. LoadsText files name.now schema.now base.now) (S.state store.old) (S.state store.new) result }
+    ensures within { IfOk result (IsWithin schema.now) }
+    ensures kind { IfErr result (λ why. (is_of_query why ≡ false) × (is_of_tables why ≡ false)) }
 {
     let bytes = match load_file(alloc, store, name) {
         Ok(bytes) => bytes,
@@ -105,6 +114,8 @@ pub fn load_mapping<S: Store>(
     requires { is_absolute base.now ≡ true }
     ensures ran { Ran (λ files. LoadsMapping files (option_map (λ s. s.now) file.entry) schema.now base.now) (S.state store.old) (S.state store.new) result }
     ensures faultless { file.entry ≡ None → IfOk result (MakesEachTerm schema.now) }
+    ensures within { IfOk result (IsWithin schema.now) }
+    ensures kind { IfErr result (λ why. (is_of_query why ≡ false) × (is_of_tables why ≡ false)) }
 {
     match file {
         None => direct_mapping(alloc, schema, base),

@@ -46,6 +46,11 @@ pub enum Fault {
         row: usize,
         term: usize,
     },
+    /// A check of the query's file fails at a byte.
+    Query {
+        check: u8,
+        at: usize,
+    },
 }
 
 /// Why a text is not made.

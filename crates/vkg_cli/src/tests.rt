@@ -31,11 +31,11 @@ fn call(alloc: Global, words: &[&str], room: usize) -> Result<Ended, Fail> {
 
 #[test]
 fn help_is_written(rt: HostRuntime) -> Result<(), Fail> {
-    let ended = call(rt.alloc(), ["vkg", "--help"].as_slice(), 100)?;
+    let ended = call(rt.alloc(), ["vkg", "--help"].as_slice(), 200)?;
     assert!(rt; ended.status == Status::Done);
     assert_eq!(rt;
         ended.out.as_slice(),
-        b"vkg dump --schema F --data DIR --base IRI [--mapping F]\n".as_slice()
+        b"vkg dump --schema F --data DIR --base IRI [--mapping F]\nvkg query --schema F --data DIR --base IRI --query F [--mapping F]\nvkg sql --schema F --base IRI --query F [--mapping F]\n".as_slice()
     );
     assert_eq!(rt; ended.err.as_slice(), b"".as_slice());
     Ok(())

@@ -1,17 +1,23 @@
 // The top call.
-ghost use Rattle.std.specs.Prelude.{◌≡◌, map, string_bytes};
+ghost use Rattle.std.specs.Prelude.{◌≡◌, OnErr, OnOk, map, string_bytes};
+ghost use Rattle.std.specs.List.{flat_map};
+ghost use Rattle.vkg_base.specs.Outside.{Broke, Took};
 ghost use Rattle.vkg_cli.specs.Answer.{Delivers, IsAnswer, Tells, TellsStop, World, WritesHelp};
 ghost use Rattle.vkg_cli.specs.Clauses.{AsksInOrder, HelpIsGiven, IsComplete, IsDoneOnly, IsMemoryTold, IsNoOther, IsReadFaultOnly, IsRefusedExactly, IsUntouched, IsUsageExactly, IsWriteFaultOnly};
 ghost use Rattle.vkg_cli.specs.Words.{asked_of};
 
 use crate::Stop;
-use crate::dump::dump;
 use crate::fault_line::{fault_line, fault_status, usage_line};
 use crate::words::{Request, read_request};
+use crate::work::text_of;
 use std::alloc::Global;
-use vkg_base::{Lines, Memory, Sink, Status, Store};
+use vkg_base::{Lines, Memory, Sink, Status, Store, WriteFault};
 
-const HELP: &str = "vkg dump --schema F --data DIR --base IRI [--mapping F]\n";
+const HELP: [&str; 3] = [
+    "vkg dump --schema F --data DIR --base IRI [--mapping F]\n",
+    "vkg query --schema F --data DIR --base IRI --query F [--mapping F]\n",
+    "vkg sql --schema F --base IRI --query F [--mapping F]\n",
+];
 
 /// Tells one line. A sink that fails changes nothing else.
 fn tell<E: Sink>(err: &mut E, line: &str)
@@ -63,10 +69,23 @@ fn deliver<O: Sink, E: Sink>(made: Result<Lines, Stop>, out: &mut O, err: &mut E
     }
 }
 
+/// Writes each line, with its line feed, in one write.
+fn write_each<O: Sink>(lines: &[&'static str], out: &mut O) -> Result<(), WriteFault>
+    ensures ok { OnOk result (Took (O.state out.old) (O.state out.new) (flat_map (λ line. line.now) lines.now)) }
+    ensures fault { OnErr result (Broke (O.state out.old) (O.state out.new) (flat_map (λ line. line.now) lines.now)) }
+{
+    for line in lines {
+        let Ok(()) = out.write(line.as_bytes()) else {
+            return Err(WriteFault);
+        };
+    }
+    Ok(())
+}
+
 fn write_help<O: Sink, E: Sink>(out: &mut O, err: &mut E) -> Status
     ensures { WritesHelp (O.state out.old) (O.state out.new) (E.state err.old) (E.state err.new) result }
 {
-    match out.write(HELP.as_bytes()) {
+    match write_each(&HELP, out) {
         Ok(()) => Status::Done,
         Err(_) => {
             tell(err, "vkg: write fault\n");
@@ -92,8 +111,8 @@ fn run<S: Store, O: Sink, E: Sink>(
             tell(err, usage_line(usage));
             Status::Usage
         }
-        Ok(Request::Dump(options)) => {
-            let made = dump(alloc, store, &options);
+        Ok(Request::Run(command)) => {
+            let made = text_of(alloc, store, &command);
             deliver(made, out, err)
         }
         Err(Memory) => {
@@ -105,7 +124,7 @@ fn run<S: Store, O: Sink, E: Sink>(
 
 /// Does what the words ask for, of which the first is the program's name: loads files from the store, writes to `out`, and
 /// tells one line of `err` where it stops.
-#[tactic(auto, using(crate::proofs::Clauses::done_only, crate::proofs::Clauses::usage_exactly, crate::proofs::Clauses::bad_schema, crate::proofs::Clauses::bad_table, crate::proofs::Clauses::bad_mapping, crate::proofs::Clauses::bad_data, crate::proofs::Clauses::read_only, crate::proofs::Clauses::write_only, crate::proofs::Clauses::memory_told, crate::proofs::Clauses::no_other, crate::proofs::Clauses::complete, crate::proofs::Clauses::help_given, crate::proofs::Clauses::untouched, crate::proofs::Clauses::in_order))]
+#[tactic(auto, using(crate::proofs::Clauses::done_only, crate::proofs::Clauses::usage_exactly, crate::proofs::Clauses::bad_schema, crate::proofs::Clauses::bad_table, crate::proofs::Clauses::bad_mapping, crate::proofs::Clauses::bad_data, crate::proofs::Clauses::bad_query, crate::proofs::Clauses::read_only, crate::proofs::Clauses::write_only, crate::proofs::Clauses::memory_told, crate::proofs::Clauses::no_other, crate::proofs::Clauses::complete, crate::proofs::Clauses::help_given, crate::proofs::Clauses::untouched, crate::proofs::Clauses::in_order))]
 pub fn vkg<S: Store, O: Sink, E: Sink>(
     alloc: Global,
     words: &Vec<String>,
@@ -131,6 +150,9 @@ pub fn vkg<S: Store, O: Sink, E: Sink>(
     ensures bad_data { IsRefusedExactly Status.BadData (asked_of (map string_bytes words.now.items))
         (record { store = S.state store.old; out = O.state out.old; err = E.state err.old })
         (record { store = S.state store.new; out = O.state out.new; err = E.state err.new }) result }
+    ensures bad_query { IsRefusedExactly Status.BadQuery (asked_of (map string_bytes words.now.items))
+        (record { store = S.state store.old; out = O.state out.old; err = E.state err.old })
+        (record { store = S.state store.new; out = O.state out.new; err = E.state err.new }) result }
     ensures read_fault { IsReadFaultOnly
         (record { store = S.state store.old; out = O.state out.old; err = E.state err.old })
         (record { store = S.state store.new; out = O.state out.new; err = E.state err.new }) result }
@@ -140,7 +162,7 @@ pub fn vkg<S: Store, O: Sink, E: Sink>(
     ensures memory { IsMemoryTold
         (record { store = S.state store.old; out = O.state out.old; err = E.state err.old })
         (record { store = S.state store.new; out = O.state out.new; err = E.state err.new }) result }
-    ensures no_other { IsNoOther result }
+    ensures no_other { IsNoOther (asked_of (map string_bytes words.now.items)) result }
     ensures complete { IsComplete (asked_of (map string_bytes words.now.items))
         (record { store = S.state store.old; out = O.state out.old; err = E.state err.old })
         (record { store = S.state store.new; out = O.state out.new; err = E.state err.new }) result }

@@ -2,7 +2,7 @@
 ghost use Rattle.std.specs.Prelude.{◌≡◌, ◌≢◌, ◌↔◌, [], IfNone, IfOk, IfSome, IsTrue, IsOk, map, option_and_then, option_map, string_bytes};
 ghost use Rattle.clap.specs.Words.{fault_of, first_of, found_of, rows_of, subcommand_of, subcommand_rows_of};
 ghost use Rattle.vkg_cli.specs.CommandLine.{vkg_app};
-ghost use Rattle.vkg_cli.specs.Words.{HasBase, asked_of, dump_options, is_help, named_options, options_seen, request_seen, taken_options, with_base as asked_for};
+ghost use Rattle.vkg_cli.specs.Words.{HasBase, asked_of, base_of as base_of_command, command_seen, dump_words, is_help, named_words, query_words, request_seen, sql_words, taken_command, with_base as asked_for};
 
 use crate::Usage;
 use crate::command_line::program;
@@ -25,12 +25,48 @@ pub struct DumpOptions<'w> {
     pub mapping: Option<&'w str>,
 }
 
+/// The values of the options of `query`.
+#[derive(Clone, Copy, Debug, PartialEq, Eq)]
+pub struct QueryOptions<'w> {
+    /// The file of the schema.
+    pub schema: &'w str,
+    /// The folder of the tables' files.
+    pub data: &'w str,
+    /// The base IRI.
+    pub base: &'w str,
+    /// The file of the query.
+    pub query: &'w str,
+    /// The file of the mapping; without one it is the direct mapping.
+    pub mapping: Option<&'w str>,
+}
+
+/// The values of the options of `sql`.
+#[derive(Clone, Copy, Debug, PartialEq, Eq)]
+pub struct SqlOptions<'w> {
+    /// The file of the schema.
+    pub schema: &'w str,
+    /// The base IRI.
+    pub base: &'w str,
+    /// The file of the query.
+    pub query: &'w str,
+    /// The file of the mapping; without one it is the direct mapping.
+    pub mapping: Option<&'w str>,
+}
+
+/// A command with its options.
+#[derive(Clone, Copy, Debug, PartialEq, Eq)]
+pub enum Command<'w> {
+    Dump(DumpOptions<'w>),
+    Query(QueryOptions<'w>),
+    Sql(SqlOptions<'w>),
+}
+
 /// What the words ask for.
 #[derive(Clone, Copy, Debug, PartialEq, Eq)]
 pub enum Request<'w> {
     Help,
     Refused(Usage),
-    Dump(DumpOptions<'w>),
+    Run(Command<'w>),
 }
 
 /// The first value of an option.
@@ -40,45 +76,67 @@ fn value<'w>(matches: &ArgMatches<'w>, name: &str) -> Option<&'w str>
     matches.get_str(name)
 }
 
-fn read_dump<'w>(matches: &ArgMatches<'w>) -> Option<DumpOptions<'w>>
-    ensures { option_map options_seen result ≡ dump_options (rows_of (found_of matches.now)) }
+fn read_dump<'w>(matches: &ArgMatches<'w>) -> Option<Command<'w>>
+    ensures { option_map command_seen result ≡ dump_words (rows_of (found_of matches.now)) }
 {
-    Some(DumpOptions {
+    Some(Command::Dump(DumpOptions {
         schema: value(matches, "schema")?,
         data: value(matches, "data")?,
         base: value(matches, "base")?,
         mapping: value(matches, "mapping"),
-    })
+    }))
 }
 
-fn read_named<'w>(name: &str, matches: &ArgMatches<'w>) -> Option<DumpOptions<'w>>
-    ensures { option_map options_seen result ≡ named_options name.now (rows_of (found_of matches.now)) }
+fn read_query<'w>(matches: &ArgMatches<'w>) -> Option<Command<'w>>
+    ensures { option_map command_seen result ≡ query_words (rows_of (found_of matches.now)) }
+{
+    Some(Command::Query(QueryOptions {
+        schema: value(matches, "schema")?,
+        data: value(matches, "data")?,
+        base: value(matches, "base")?,
+        query: value(matches, "query")?,
+        mapping: value(matches, "mapping"),
+    }))
+}
+
+fn read_sql<'w>(matches: &ArgMatches<'w>) -> Option<Command<'w>>
+    ensures { option_map command_seen result ≡ sql_words (rows_of (found_of matches.now)) }
+{
+    Some(Command::Sql(SqlOptions {
+        schema: value(matches, "schema")?,
+        base: value(matches, "base")?,
+        query: value(matches, "query")?,
+        mapping: value(matches, "mapping"),
+    }))
+}
+
+fn read_named<'w>(name: &str, matches: &ArgMatches<'w>) -> Option<Command<'w>>
+    ensures { option_map command_seen result ≡ named_words name.now (rows_of (found_of matches.now)) }
 {
     match name {
         "dump" => read_dump(matches),
+        "query" => read_query(matches),
+        "sql" => read_sql(matches),
         _ => None,
     }
 }
 
-fn read_command<'w>(matches: &ArgMatches<'w>) -> Option<DumpOptions<'w>>
-    ensures { option_map options_seen result ≡ option_and_then (λ p. named_options p.0 p.1) (subcommand_rows_of matches.now) }
+fn read_matches<'w>(matches: &ArgMatches<'w>) -> Option<Command<'w>>
+    ensures { option_map command_seen result ≡ option_and_then (λ p. named_words p.0 p.1) (subcommand_rows_of matches.now) }
 {
     let (name, inner) = matches.subcommand()?;
     read_named(name, inner)
 }
 
-/// The options of `dump`, where the command line's definition takes the words.
-fn read_options<'w>(
-    alloc: Global,
-    words: &'w Vec<String>,
-) -> Result<Option<DumpOptions<'w>>, Memory>
-    ensures value { IfOk result (λ r. option_map options_seen r ≡ taken_options (map string_bytes words.entry.now.items)) }
+/// The command, where the command line's definition takes the words.
+fn read_command<'w>(alloc: Global, words: &'w Vec<String>) -> Result<Option<Command<'w>>, Memory>
+    ensures value { IfOk result (λ r. option_map command_seen r ≡ taken_command (map string_bytes words.entry.now.items)) }
     ensures taken { IfOk result (λ r. IfSome r (λ _. fault_of vkg_app (map string_bytes words.entry.now.items) ≡ [])) }
     ensures refused { IfOk result (λ r. IfNone r (fault_of vkg_app (map string_bytes words.entry.now.items) ≢ [])) }
 {
     let program = program(alloc)?;
     match program.try_get_matches_from(words.as_slice()) {
-        Ok(matches) => Ok(read_command(&matches)),
+        Ok(matches) => Ok(read_matches(&matches)),
         Err(error) => match error.kind() {
             ErrorKind::OutOfMemory => Err(Memory),
             _ => Ok(None),
@@ -96,15 +154,26 @@ fn is_help_request(words: &[String]) -> bool
     }
 }
 
-fn with_base<'w>(options: Option<DumpOptions<'w>>) -> Request<'w>
-    ensures value { request_seen result ≡ asked_for (option_map options_seen options.entry) }
+/// The base of a command.
+fn base_of<'w>(command: &Command<'w>) -> &'w str
+    ensures { result.now ≡ base_of_command (command_seen command.now) }
+{
+    match command {
+        Command::Dump(options) => options.base,
+        Command::Query(options) => options.base,
+        Command::Sql(options) => options.base,
+    }
+}
+
+fn with_base<'w>(command: Option<Command<'w>>) -> Request<'w>
+    ensures value { request_seen result ≡ asked_for (option_map command_seen command.entry) }
     ensures base { HasBase result }
 {
-    match options {
+    match command {
         None => Request::Refused(Usage::Words),
-        Some(options) => {
-            if is_absolute(options.base) {
-                Request::Dump(options)
+        Some(command) => {
+            if is_absolute(base_of(&command)) {
+                Request::Run(command)
             } else {
                 Request::Refused(Usage::Base)
             }
@@ -121,5 +190,5 @@ pub fn read_request<'w>(alloc: Global, words: &'w Vec<String>) -> Result<Request
     if is_help_request(words) {
         return Ok(Request::Help);
     }
-    Ok(with_base(read_options(alloc, words)?))
+    Ok(with_base(read_command(alloc, words)?))
 }

@@ -1,17 +1,15 @@
-use Rattle.std.proofs.Common.{◌≡◌, ◌∙◌, ap, ap₂, true}
+use Rattle.std.proofs.Common.{◌≡◌, ◌∙◌, ap, ap₂}
 use Rattle.std.proofs.lemmas.Result.{IfOk-weaker}
 use Rattle.clap.specs.Words.{App, app_of, with_subcommand}
-use Rattle.clap.specs.Simple.{app_of_fields, on_top}
-use Rattle.vkg_cli.specs.CommandLine.{vkg_alone}
+use Rattle.vkg_cli.specs.CommandLine.{dump_app, query_app, vkg_alone}
 use Rattle.vkg_cli.proofs.command_line.program.Goals as goal
 
 pub returns : goal.returns
 returns c =
-    let one = ap app_of_fields c.disable_help_flag.ensures ∙ ap (on_top (λ s. record s { disable_help_flag = true })) c.new.ensures.app in
-    let two = ap app_of_fields c.disable_help_subcommand.ensures ∙ ap (on_top (λ s. record s { disable_help_subcommand = true })) one in
-    let three = ap app_of_fields c.disable_version_flag.ensures ∙ ap (on_top (λ s. record s { disable_version_flag = true })) two in
-    let alone : app_of c.subcommand_required.result ≡ vkg_alone =
-    ap app_of_fields c.subcommand_required.ensures ∙ ap (on_top (λ s. record s { subcommand_required = true })) three in
-    IfOk-weaker c.subcommand.result _ _
-    (λ r h. h.shape c.in_ok-dump.ensures.local ∙ ap₂ with_subcommand alone (ap (λ (a : App). a.top) c.in_ok-dump.ensures.app))
-    c.subcommand.ensures
+    let one : app_of c.in_ok-subcommand.field-0 ≡ with_subcommand vkg_alone dump_app.top =
+    c.in_ok-subcommand.ensures.shape c.in_ok-dump.ensures.local ∙ ap₂ with_subcommand c.alone.ensures (ap (λ (a : App). a.top) c.in_ok-dump.ensures.app) in
+    let two : app_of c.in_ok-subcommand-2.field-0 ≡ with_subcommand (with_subcommand vkg_alone dump_app.top) query_app.top =
+    c.in_ok-subcommand-2.ensures.shape c.in_ok-query.ensures.local ∙ ap₂ with_subcommand one (ap (λ (a : App). a.top) c.in_ok-query.ensures.app) in
+    IfOk-weaker c.subcommand-3.result _ _
+    (λ r h. h.shape c.in_ok-sql.ensures.local ∙ ap₂ with_subcommand two (ap (λ (a : App). a.top) c.in_ok-sql.ensures.app))
+    c.subcommand-3.ensures

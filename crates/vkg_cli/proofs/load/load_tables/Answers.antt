@@ -16,8 +16,8 @@ load_table-requires g c =
     let same = c.loop-k.invariant.schema ∙ sym c.tables-table-items.ensures.value in
     rw same inside
 
-pub returns-in-Err-load_table : goal.returns-in-Err-load_table
-returns-in-Err-load_table g c =
+pub returns-in-Err-load_table-clause-ran : goal.returns-in-Err-load_table-clause-ran
+returns-in-Err-load_table-clause-ran g c =
     c.loop-k.invariant.rest _ _ (tables_stop _ _ _ _ _ c.loop-k-test.true c.table-item.is _ _ _ c.in-Err-load_table.ensures.ran)
 
 pub loop-k-preserved : goal.loop-k-preserved
@@ -26,5 +26,5 @@ loop-k-preserved g c = record {
   rest = λ new result ran. c.loop-k.invariant.rest new result (tables_next _ _ _ _ _ c.loop-k-test.true c.table-item.is _ _ _ _ _ c.in-Ok-load_table.ensures.ran ran);
 }
 
-pub returns : goal.returns
-returns g c = c.loop-k.invariant.rest _ _ (rw (drop_all _ _ c.loop-k-test.false) (ran_settle _ _ _ refl))
+pub returns-clause-ran : goal.returns-clause-ran
+returns-clause-ran g c = c.loop-k.invariant.rest _ _ (rw (drop_all _ _ c.loop-k-test.false) (ran_settle _ _ _ refl))

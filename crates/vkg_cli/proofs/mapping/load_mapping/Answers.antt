@@ -5,4 +5,4 @@ pub returns-in-None-clause-ran : goal.returns-in-None-clause-ran
 returns-in-None-clause-ran g c = rw c.in-None.is (ran_settle _ _ c.direct_mapping.result c.direct_mapping.ensures.maps)
 
 pub returns-in-Some-clause-ran : goal.returns-in-Some-clause-ran
-returns-in-Some-clause-ran g c = rw c.in-Some.is c.load_text.ensures
+returns-in-Some-clause-ran g c = rw c.in-Some.is c.load_text.ensures.ran

@@ -7,17 +7,17 @@ use Rattle.vkg_cli.proofs.Ran.{determined_loads, determined_settles, ran_settle,
 use Rattle.vkg_cli.proofs.Whole.{one_document}
 use Rattle.vkg_cli.proofs.mapping.load_text.Goals as goal
 
-pub returns-in-Err : goal.returns-in-Err
-returns-in-Err g c = ran_stop _ _ _ _ _ c.in-Err.ensures
+pub returns-in-Err-clause-ran : goal.returns-in-Err-clause-ran
+returns-in-Err-clause-ran g c = ran_stop _ _ _ _ _ c.in-Err.ensures.ran
 
-pub returns-in-Err-triples_of : goal.returns-in-Err-triples_of
-returns-in-Err-triples_of g c =
-    let is = subst (λ b. Answers {A = List Triple} (ReadsTriples b c.args.base.now) (Err c.in-Err-triples_of.stop)) c.deref.ensures.value c.in-Err-triples_of.ensures in
-    ran_then _ _ _ _ _ _ _ (λ files. determined_loads LIMIT files _) c.in-Ok.ensures (ran_stop _ _ _ _ _ (ran_settle _ _ (Err c.in-Err-triples_of.stop) is))
+pub returns-in-Err-triples_of-clause-ran : goal.returns-in-Err-triples_of-clause-ran
+returns-in-Err-triples_of-clause-ran g c =
+    let is = subst (λ b. Answers {A = List Triple} (ReadsTriples b c.args.base.now) (Err c.in-Err-triples_of.stop)) c.deref.ensures.value c.in-Err-triples_of.ensures.value in
+    ran_then _ _ _ _ _ _ _ (λ files. determined_loads LIMIT files _) c.in-Ok.ensures.ran (ran_stop _ _ _ _ _ (ran_settle _ _ (Err c.in-Err-triples_of.stop) is))
 
-pub returns : goal.returns
-returns g c =
-    let is = subst (λ b. Answers {A = List Triple} (ReadsTriples b c.args.base.now) (Ok c.in-Ok-triples_of.triples)) c.deref.ensures.value c.in-Ok-triples_of.ensures in
-    ran_then _ _ _ _ _ _ _ (λ files. determined_loads LIMIT files _) c.in-Ok.ensures
+pub returns-clause-ran : goal.returns-clause-ran
+returns-clause-ran g c =
+    let is = subst (λ b. Answers {A = List Triple} (ReadsTriples b c.args.base.now) (Ok c.in-Ok-triples_of.triples)) c.deref.ensures.value c.in-Ok-triples_of.ensures.value in
+    ran_then _ _ _ _ _ _ _ (λ files. determined_loads LIMIT files _) c.in-Ok.ensures.ran
     (ran_then _ _ _ _ _ _ _ (λ files. determined_settles _ (one_document _ _)) (ran_settle _ _ (Ok c.in-Ok-triples_of.triples) is)
-    (ran_settle _ _ c.mapping_of.result (rw c.as_slice.ensures at c.mapping_of.ensures)))
+    (ran_settle _ _ c.mapping_of.result (rw c.as_slice.ensures at c.mapping_of.ensures.value)))

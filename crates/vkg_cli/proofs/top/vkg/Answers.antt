@@ -1,4 +1,4 @@
-use Rattle.vkg_cli.proofs.Clauses.{bad_data, bad_mapping, bad_schema, bad_table, complete}
+use Rattle.vkg_cli.proofs.Clauses.{bad_data, bad_mapping, bad_query, bad_schema, bad_table, complete}
 use Rattle.vkg_cli.proofs.top.vkg.Goals as goal
 
 pub returns-clause-bad_schema : goal.returns-clause-bad_schema
@@ -15,3 +15,6 @@ returns-clause-bad_data g c = bad_data _ _ _ _ c.run.ensures
 
 pub returns-clause-complete : goal.returns-clause-complete
 returns-clause-complete g c = complete _ _ _ _ c.run.ensures
+
+pub returns-clause-bad_query : goal.returns-clause-bad_query
+returns-clause-bad_query g c = bad_query _ _ _ _ c.run.ensures

@@ -1,0 +1,66 @@
+-- Checks of a loaded database, and of a mapping over it.
+use Rattle.std.proofs.Common.{◌≡◌, List, [], ◌∷◌, ap, sym, Ok, Err, refl}
+use Rattle.std.specs.Prelude.{OnOk, Result, Option, Some, None}
+use Rattle.vkg_schema.specs.Meets.{MeetsSchema}
+use Rattle.vkg_schema.specs.Rows.{Database}
+use Rattle.vkg_maps.specs.declared.mapping.Mapping.{Mapping}
+use Rattle.vkg_maps.specs.declared.data_fault.DataFault.{DataFault}
+use Rattle.vkg_maps.specs.DataFaults.{data_faults, least_data_fault}
+use Rattle.vkg_cli.specs.declared.stops.Stop.{Stop}
+use Rattle.vkg_cli.specs.declared.stops.Stop.TheVariants.{Refused, Read, Memory}
+use Rattle.vkg_tables.specs.declared.fault.TableFault.{TableFault}
+use Rattle.vkg_cli.specs.Stages.{Answers, carried, done_or}
+use Rattle.vkg_tables.specs.Seen.{Seen}
+use Rattle.vkg_lists.specs.Firsts.{first_of}
+use Rattle.vkg_tables.specs.Checks.{key_fault, reference_fault}
+use Rattle.vkg_cli.specs.Work.{Checks, Scans, checked, data_stop, table_stop, unless_data, unless_fault}
+
+pub same_error : {A B : Type 0} (stop other : Stop) → (let one : Result A Stop = Err stop in one ≡ Err other) → (let one : Result B Stop = Err stop in one ≡ Err other)
+same_error stop other e = cc
+
+no_value : (stop : Stop) → (let one : Result (Unit {0}) Stop = Err stop in one ≡ Ok tt) → ⊥
+no_value stop e = cc
+
+refused_by : {A : Type 0} (found : Option TableFault) (stop : Stop) (later : Result A Stop) → (let one : Result (Unit {0}) Stop = Err stop in one ≡ checked found) → (let one : Result A Stop = Err stop in one ≡ unless_fault found later)
+refused_by None stop later e = absurd (no_value stop e)
+refused_by {A} (Some f) stop later e = same_error {A = Unit {0}} {B = A} stop (table_stop f) e
+
+pub none_found : (found : Option TableFault) → (let one : Result (Unit {0}) Stop = Ok tt in one ≡ checked found) → found ≡ None
+none_found None e = refl
+none_found (Some f) e = cc e
+
+module _ (db : Seen) where
+  -- a repeated key, or want of memory
+  pub checks_keys : (stop : Stop) → Answers {A = Unit {0}} (λ outcome. outcome ≡ checked (key_fault db.schema db.tables)) (Err stop) → Answers {A = Seen} (Checks db) (Err stop)
+  unfolding Checks
+  checks_keys (Refused fault) is = (refused_by (key_fault db.schema db.tables) (Refused fault) _ is, tt)
+  checks_keys Read is = absurd is
+  checks_keys Memory is = tt
+
+  -- a reference without a target, or none
+  pub checks_references : {B : Type 0} (result : Result B Stop) → key_fault db.schema db.tables ≡ None
+      → Answers {A = Unit {0}} (λ outcome. outcome ≡ checked (reference_fault db.schema db.tables)) (done_or result) → OnOk result (MeetsSchema db.schema db.tables)
+      → Answers (Checks db) (carried db result)
+  unfolding Checks
+  checks_references (Ok v) keys is meets = (rw (keys, none_found (reference_fault db.schema db.tables) is) refl, meets)
+  checks_references (Err (Refused fault)) keys is meets = (rw keys (refused_by (reference_fault db.schema db.tables) (Refused fault) (Ok db) is), tt)
+  checks_references (Err Read) keys is meets = absurd is
+  checks_references (Err Memory) keys is meets = tt
+
+module _ (db : Database) (mapping : Mapping) where
+  pub scans_fault : (fault : DataFault) → least_data_fault mapping db ≡ Some fault → Answers {A = Mapping} (Scans db mapping) (Err (data_stop fault))
+  scans_fault fault is = ap (λ f. unless_data f (Ok mapping)) (sym is)
+
+  pub scans_none : least_data_fault mapping db ≡ None → Answers {A = Mapping} (Scans db mapping) (Ok mapping)
+  scans_none is = ap (λ f. unless_data f (Ok mapping)) (sym is)
+
+  pub none_of : data_faults mapping db ≡ [] → least_data_fault mapping db ≡ None
+  none_of is = rw is refl
+
+none_first : {A : Type 0} (xs : List A) → first_of xs ≡ None → xs ≡ []
+none_first [] e = refl
+none_first (x ∷ xs) e = cc e
+
+-- where there is no least data error there is none
+pub faultless_of : (db : Database) (mapping : Mapping) → least_data_fault mapping db ≡ None → data_faults mapping db ≡ []
+faultless_of db mapping is = none_first (data_faults mapping db) is

@@ -1,0 +1,11 @@
+use Rattle.vkg_cli.specs.declared.load.TheConstants.{LIMIT}
+use Rattle.vkg_cli.proofs.Ran.{determined_loads, ran_settle, ran_stop, ran_then}
+use Rattle.vkg_cli.proofs.query.load_query.Goals as goal
+
+pub returns-in-Err-clause-ran : goal.returns-in-Err-clause-ran
+returns-in-Err-clause-ran g c = ran_stop _ _ _ _ _ c.in-Err.ensures.ran
+
+pub returns-clause-ran : goal.returns-clause-ran
+returns-clause-ran g c =
+    ran_then _ _ _ _ _ _ _ (λ files. determined_loads LIMIT files _) c.in-Ok.ensures.ran
+    (ran_settle _ _ c.query_of.result (rw c.deref.ensures.value at c.query_of.ensures.value))

@@ -1,0 +1,104 @@
+// The text of `query`.
+ghost use Rattle.std.specs.Prelude.{◌≡◌, [], IfErr, IfOk, false, true};
+ghost use Rattle.vkg_terms.specs.Iri.{is_absolute};
+ghost use Rattle.vkg_schema.specs.Meets.{MeetsSchema};
+ghost use Rattle.vkg_maps.specs.DataFaults.{data_faults};
+ghost use Rattle.vkg_maps.specs.Within.{IsWithin};
+ghost use Rattle.vkg_sparql.specs.Lawful.{IsLawfulQuery};
+ghost use Rattle.vkg_sparql.specs.Seen.{query_seen};
+ghost use Rattle.vkg_cli.specs.Stages.{Answers, Ran};
+ghost use Rattle.vkg_cli.specs.Words.{command_seen};
+ghost use Rattle.vkg_cli.specs.declared.words.Command.TheVariants.{Query as OfQuery};
+ghost use Rattle.vkg_cli.specs.Work.{GivesAnswer, LoadsQuery, ReadsQuery, Works, is_of_tables};
+
+use crate::database::load_database;
+use crate::load::load_file;
+use crate::scan::load_faultless;
+use crate::words::QueryOptions;
+use crate::{Fault, Stop};
+use std::alloc::Global;
+use vkg_base::{Lines, Memory, Store};
+use vkg_maps::Mapping;
+use vkg_rewrite::answer_lines;
+use vkg_sparql::{Query, QueryError, read_query};
+use vkg_tables::Database;
+
+/// The query of a file's bytes.
+#[tactic(auto, unfolding(crate::specs::Work::ReadsQuery))]
+fn query_of(alloc: Global, base: &str, bytes: &[u8]) -> Result<Query, Stop>
+    ensures value { Answers (ReadsQuery bytes.now base.now) result }
+    ensures lawful { IfOk result (λ query. IsLawfulQuery (query_seen query)) }
+    ensures kind { IfErr result (λ why. is_of_tables why ≡ false) }
+{
+    if bytes.len() > 2147483647 {
+        return Err(Stop::Refused(Fault::Query {
+            check: 9,
+            at: 2147483647,
+        }));
+    }
+    match read_query(alloc, bytes, base) {
+        Ok(query) => Ok(query),
+        Err(QueryError::Fault(fault)) => Err(Stop::Refused(Fault::Query {
+            check: fault.check,
+            at: fault.at,
+        })),
+        Err(QueryError::Memory) => Err(Stop::Memory),
+    }
+}
+
+/// The query of a file.
+pub fn load_query<S: Store>(
+    alloc: Global,
+    store: &mut S,
+    name: &str,
+    base: &str,
+) -> Result<Query, Stop>
+    ensures ran { Ran (λ files. LoadsQuery files name.now base.now) (S.state store.old) (S.state store.new) result }
+    ensures lawful { IfOk result (λ query. IsLawfulQuery (query_seen query)) }
+    ensures kind { IfErr result (λ why. is_of_tables why ≡ false) }
+{
+    let bytes = match load_file(alloc, store, name) {
+        Ok(bytes) => bytes,
+        Err(stop) => return Err(stop),
+    };
+    query_of(alloc, base, &bytes)
+}
+
+/// The answer over the dataset of a mapping without a data error.
+#[tactic(auto, unfolding(crate::specs::Work::GivesAnswer))]
+fn answer(alloc: Global, db: &Database, mapping: &Mapping, query: &Query) -> Result<Lines, Stop>
+    requires meets { MeetsSchema db.now.schema db.now.tables }
+    requires within { IsWithin db.now.schema mapping.now }
+    requires faultless { data_faults mapping.now db.now.tables ≡ [] }
+    requires lawful { IsLawfulQuery (query_seen query.now) }
+    ensures { Answers (GivesAnswer db.now mapping.now query.now) result }
+{
+    match answer_lines(alloc, db, mapping, query) {
+        Ok(lines) => Ok(lines),
+        Err(Memory) => Err(Stop::Memory),
+    }
+}
+
+/// The text of `query`: the database, the mapping, the query, and the answer.
+pub fn text_of_query<S: Store>(
+    alloc: Global,
+    store: &mut S,
+    options: &QueryOptions<'_>,
+) -> Result<Lines, Stop>
+    requires { is_absolute options.now.base.now ≡ true }
+    ensures { Ran (Works (command_seen (OfQuery options.now))) (S.state store.old) (S.state store.new) result }
+{
+    let db = match load_database(alloc, store, options.schema, options.data) {
+        Ok(db) => db,
+        Err(stop) => return Err(stop),
+    };
+    let mapping = match load_faultless(alloc, store, options.mapping, &db, options.base) {
+        Ok(mapping) => mapping,
+        Err(stop) => return Err(stop),
+    };
+    let query = match load_query(alloc, store, options.query, options.base) {
+        Ok(query) => query,
+        Err(stop) => return Err(stop),
+    };
+    answer(alloc, &db, &mapping, &query)
+}

@@ -1,0 +1,77 @@
+// The text of `sql`.
+ghost use Rattle.std.specs.Prelude.{◌≡◌, [], ◌∷◌, IfErr, IfOk, false, true};
+ghost use Rattle.vkg_terms.specs.Iri.{is_absolute};
+ghost use Rattle.vkg_maps.specs.Within.{IsWithin};
+ghost use Rattle.vkg_sparql.specs.Seen.{query_seen};
+ghost use Rattle.vkg_sqltext.specs.Text.{sql_text as text_of_plan};
+ghost use Rattle.vkg_rewrite.specs.Rewritten.{rewritten};
+ghost use Rattle.vkg_cli.specs.Stages.{Answers, Ran};
+ghost use Rattle.vkg_cli.specs.Words.{command_seen};
+ghost use Rattle.vkg_cli.specs.declared.words.Command.TheVariants.{Sql};
+ghost use Rattle.vkg_cli.specs.Work.{GivesText, Works, is_of_tables};
+
+use crate::Stop;
+use crate::load::load_schema;
+use crate::mapping::load_mapping;
+use crate::query::load_query;
+use crate::words::SqlOptions;
+use std::alloc::Global;
+use vkg_base::{Box, Lines, Memory, Store};
+use vkg_maps::Mapping;
+use vkg_rewrite::rewrite;
+use vkg_schema::Schema;
+use vkg_sparql::Query;
+use vkg_sqltext::sql_text;
+
+/// The line of a query's plan.
+fn plan_line(
+    alloc: Global,
+    schema: &Schema,
+    mapping: &Mapping,
+    query: &Query,
+) -> Result<Lines, Memory>
+    requires { IsWithin schema.now mapping.now }
+    ensures { IfOk result (λ lines. lines ≡ text_of_plan schema.now (rewritten schema.now mapping.now (query_seen query.now)) ∷ []) }
+{
+    let plan = Box::new(alloc, rewrite(alloc, schema, mapping, query)?)?;
+    let mut lines = Lines::new(alloc);
+    lines.push(sql_text(alloc, &plan, schema)?)?;
+    Ok(lines)
+}
+
+/// The text of a query's plan.
+fn text(alloc: Global, schema: &Schema, mapping: &Mapping, query: &Query) -> Result<Lines, Stop>
+    requires { IsWithin schema.now mapping.now }
+    ensures value { Answers (GivesText schema.now mapping.now query.now) result }
+    ensures kind { IfErr result (λ why. is_of_tables why ≡ false) }
+{
+    match plan_line(alloc, schema, mapping, query) {
+        Ok(lines) => Ok(lines),
+        Err(Memory) => Err(Stop::Memory),
+    }
+}
+
+/// The text of `sql`: the schema, the mapping, the query, and the text of its plan. No table is loaded.
+pub fn text_of_sql<S: Store>(
+    alloc: Global,
+    store: &mut S,
+    options: &SqlOptions<'_>,
+) -> Result<Lines, Stop>
+    requires { is_absolute options.now.base.now ≡ true }
+    ensures ran { Ran (Works (command_seen (Sql options.now))) (S.state store.old) (S.state store.new) result }
+    ensures kind { IfErr result (λ why. is_of_tables why ≡ false) }
+{
+    let schema = match load_schema(alloc, store, options.schema) {
+        Ok(schema) => schema,
+        Err(stop) => return Err(stop),
+    };
+    let mapping = match load_mapping(alloc, store, options.mapping, &schema, options.base) {
+        Ok(mapping) => mapping,
+        Err(stop) => return Err(stop),
+    };
+    let query = match load_query(alloc, store, options.query, options.base) {
+        Ok(query) => query,
+        Err(stop) => return Err(stop),
+    };
+    text(alloc, &schema, &mapping, &query)
+}

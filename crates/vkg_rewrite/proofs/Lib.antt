@@ -1,0 +1,5 @@
+pub mod Answered
+pub mod Joined
+pub mod Permuted
+pub mod RowLists
+pub mod Typed

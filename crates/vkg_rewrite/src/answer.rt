@@ -1,0 +1,54 @@
+// The answer to a query.
+ghost use Rattle.std.specs.Prelude.{◌≡◌, [], IfOk, IsPermutation};
+ghost use Rattle.vkg_schema.specs.Meets.{MeetsSchema};
+ghost use Rattle.vkg_maps.specs.DataFaults.{data_faults};
+ghost use Rattle.vkg_maps.specs.Dataset.{dataset};
+ghost use Rattle.vkg_sparql.specs.Lawful.{IsLawfulQuery};
+ghost use Rattle.vkg_sparql.specs.Seen.{query_seen};
+ghost use Rattle.vkg_algebra.specs.Answer.{answer};
+ghost use Rattle.vkg_plan.specs.Rows.{rows_of};
+ghost use Rattle.vkg_maps.specs.Within.{IsWithin};
+ghost use Rattle.vkg_row_rules.specs.RowRules.{row_rules};
+ghost use Rattle.vkg_fine_rules.specs.Texts.{HoldTexts};
+ghost use Rattle.vkg_rewrite.specs.Lines.{result_lines as lines_of};
+ghost use Rattle.vkg_rewrite.specs.Rewritten.{rewritten};
+
+use crate::lines::result_lines;
+use crate::rewriting::planned;
+use std::alloc::Global;
+use vkg_base::{Box, Lines, Memory};
+use vkg_engine::{Rows, run};
+use vkg_maps::Mapping;
+use vkg_sparql::Query;
+use vkg_tables::Database;
+
+/// The answer to a query over the dataset of a mapping without a data error: its header, then the lines of its solutions,
+/// ascending by bytes, each as often as the algebra gives it. They are the lines of the rows of its plan. The query is asked to
+/// be one that `read_query` answers, the mapping one of the database's schema.
+pub fn answer_lines(
+    alloc: Global,
+    db: &Database,
+    mapping: &Mapping,
+    query: &Query,
+) -> Result<Lines, Memory>
+    requires meets { MeetsSchema db.now.schema db.now.tables }
+    requires within { IsWithin db.now.schema mapping.now }
+    requires faultless { data_faults mapping.now db.now.tables ≡ [] }
+    requires lawful { IsLawfulQuery (query_seen query.now) }
+    ensures answer { IfOk result (λ lines. lines ≡ answer (query_seen query.now) (dataset mapping.now db.now.tables)) }
+    ensures rows { IfOk result (λ lines. lines ≡ lines_of (query_seen query.now) (rows_of db.now.schema (rewritten db.now.schema mapping.now (query_seen query.now)) db.now.tables)) }
+{
+    let _tables = db.schema().tables();
+    let rows = plan_rows(alloc, db, mapping, query)?;
+    result_lines(alloc, query, &rows)
+}
+
+/// The rows of the query's plan.
+fn plan_rows(alloc: Global, db: &Database, mapping: &Mapping, query: &Query) -> Result<Rows, Memory>
+    requires { IsWithin db.now.schema mapping.now }
+    ensures bag { IfOk result (λ rows. IsPermutation rows (rows_of db.now.schema (rewritten db.now.schema mapping.now (query_seen query.now)) db.now.tables)) }
+    ensures texts { IfOk result (λ _. HoldTexts (row_rules db.now.schema mapping.now)) }
+{
+    let plan = Box::new(alloc, planned(alloc, db.schema(), mapping, query)?)?;
+    run(alloc, &plan, db)
+}
