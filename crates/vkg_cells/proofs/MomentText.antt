@@ -5,6 +5,7 @@ use Rattle.std.specs.Char.{is_ascii_digit}
 use Rattle.std.specs.Str.{IsAscii}
 use Rattle.std.proofs.lemmas.Str.{IsAscii-append}
 use Rattle.std.proofs.lemmas.Str.Ascii.{IsAscii-nil, IsAscii-cons}
+use Rattle.std.proofs.lemmas.Option.{same_Some}
 use Rattle.vkg_lists.proofs.Bools.{and_parts}
 use Rattle.vkg_cells.specs.Number.{is_digits, after_point, without_trailing_zeros}
 use Rattle.vkg_cells.specs.Moment.{two_digits_at, day_of_text, clock_of_text, is_date, is_clock, cut, or_cut, form_if, form_at, form_of_parts, stamp_form}
@@ -96,9 +97,6 @@ clock_fixed text e =
 pub form_ascii : (date clock ds : List ℕ) → is_date date ≡ true → is_clock clock ≡ true → Digits ds → IsAscii (date ++ codes "T" ++ clock ++ after_point ds)
 form_ascii date clock ds d c f = IsAscii-append _ (after_point ds) (IsAscii-append _ clock (IsAscii-append date (codes "T") (date_fixed date d).ascii (IsAscii-cons 84 [] (lit< tt) IsAscii-nil)) (clock_fixed clock c).ascii) (after_ascii ds f)
 
-some_is : {X : Type 0} (x y : X) → Some x ≡ Some y → x ≡ y
-some_is x y e = cc
-
 -- what `stamp_form` gives is made of a date, a time of day and digits
 pub record Made (form : List ℕ) : Type 0 where
   pub date : List ℕ
@@ -118,7 +116,7 @@ made_if true date clock fraction form h e = record {
   is_date = (h refl).0;
   is_clock = (h refl).1;
   is_digits = trail_digits fraction (h refl).2;
-  is = some_is _ _ (sym e);
+  is = same_Some _ _ (sym e);
 }
 
 made_at : (date rest : List ℕ) (p : Option (List ℕ × List ℕ)) (form : List ℕ) → form_at date rest p ≡ Some form → Made form

@@ -3,6 +3,7 @@ use Rattle.std.proofs.Common.{◌≡◌, ◌⊎◌, inl, inr, ℕ, zero, suc, �
 use Rattle.std.specs.Prelude.{Contains, chars, option_map, slice_get, unwrap_or, IfSome, IsTrue, IsUtf8}
 use Rattle.std.specs.List.{AllByRecursion, AllZip, enumerate_from, find, list_any}
 use Rattle.std.proofs.lemmas.Str.{scalars-chars}
+use Rattle.std.proofs.lemmas.Option.{same_Some}
 use lib.Utf8.{scalars}
 use Rattle.vkg_terms.specs.declared.term.Term.TheVariants.{Lit}
 use Rattle.vkg_terms.specs.Iri.{is_absolute}
@@ -22,20 +23,19 @@ use Rattle.vkg_maps.specs.Dataset.{dataset}
 use Rattle.vkg_direct.specs.DirectGraph.{primary_key, row_node, direct_graph}
 use Rattle.vkg_direct.specs.DirectMapping.{direct_map, has_primary_key, direct}
 use Rattle.vkg_lists.proofs.Members.{each_from_recursion, Contains-none, Contains-cons_cases, Contains-there, Contains-here}
-use Rattle.vkg_direct.proofs.Members.{some_is}
 use Rattle.vkg_direct.proofs.Whole.{some_at, parent_at, AllMade, same_quads}
 use Rattle.vkg_direct.proofs.Cells.{Formed, formed}
 use Rattle.vkg_direct.proofs.Nodes.{Known, Named, node_made}
 
 all_at : {X : Type 0} (P : X → Type 0) (xs : List X) (j : ℕ) (x : X) → AllByRecursion P xs → slice_get xs j ≡ Some x → P x
 all_at P [] j x a e = cc
-all_at P (y ∷ ys) zero x a e = subst P (some_is y x e) a.0
+all_at P (y ∷ ys) zero x a e = subst P (same_Some y x e) a.0
 all_at P (y ∷ ys) (suc j) x a e = all_at P ys j x a.1 e
 
 zip_at : {X Y : Type 0} (R : X → Y → Type 0) (xs : List X) (ys : List Y) (j : ℕ) (x : X) → AllZip R xs ys → slice_get xs j ≡ Some x → (y : Y) × (slice_get ys j ≡ Some y) × R x y
 zip_at R [] ys j x z e = cc
 zip_at R (a ∷ xs) [] j x z e = absurd z
-zip_at R (a ∷ xs) (b ∷ ys) zero x z e = (b, refl, subst (λ w. R w b) (some_is a x e) z.0)
+zip_at R (a ∷ xs) (b ∷ ys) zero x z e = (b, refl, subst (λ w. R w b) (same_Some a x e) z.0)
 zip_at R (a ∷ xs) (b ∷ ys) (suc j) x z e = zip_at R xs ys j x z.1 e
 
 place_of : {X : Type 0} (n : ℕ) (xs : List X) (p : ℕ × X) → Contains (enumerate_from n xs) p → (j : ℕ) × (p.0 ≡ n + j) × (slice_get xs j ≡ Some p.1)
@@ -97,7 +97,7 @@ named tables table t = record { name = scalars-chars table.name t.name; columns 
 module _ (base : List ℕ) (tables : List Table) (db : Database) (absolute : is_absolute base ≡ true) (well : IsWellFormed tables) (meets : MeetsSchema tables db) (keyed : (t : Table) → Contains tables t → has_primary_key t ≡ true) where
   contained : {X : Type 0} (xs : List X) (j : ℕ) (x : X) → slice_get xs j ≡ Some x → Contains xs x
   contained [] j x e = cc
-  contained (y ∷ ys) zero x e = (0, omega arith, some_is y x e)
+  contained (y ∷ ys) zero x e = (0, omega arith, same_Some y x e)
   contained (y ∷ ys) (suc j) x e = Contains-there y ys x (contained ys j x e)
 
   row_fits : (k : ℕ) (table : Table) → slice_get tables k ≡ Some table → (row : Row) → Contains (rows_of db k) row → AllZip FitsColumn table.columns row

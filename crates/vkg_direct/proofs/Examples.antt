@@ -13,6 +13,7 @@ use Rattle.vkg_cells.specs.declared.cell.Cell.TheVariants as cell
 use Rattle.vkg_cells.specs.Field.{cell_of_field}
 use Rattle.vkg_cells.specs.Moment.{day_of_text, clock_of_text}
 use Rattle.vkg_schema.specs.declared.table.Table.{Table}
+use Rattle.vkg_schema.specs.Company.{company, dept}
 use Rattle.vkg_schema.specs.Rows.{Database, equal_at, is_known}
 use Rattle.vkg_schema.specs.Meets.{MeetsSchema, FitsColumn, IsWellFormed}
 use Rattle.vkg_maps.specs.DataFaults.{data_faults}
@@ -20,7 +21,7 @@ use Rattle.vkg_maps.specs.Dataset.{quads}
 use Rattle.vkg_direct.specs.declared.direct_error.DirectError.TheVariants.{NoPrimaryKey}
 use Rattle.vkg_direct.specs.DirectGraph.{direct_graph}
 use Rattle.vkg_direct.specs.DirectMapping.{direct, direct_result}
-use Rattle.vkg_maps.proofs.Company.{dept, emp, tables, text, db, base, i_text, a_text}
+use Rattle.vkg_maps.proofs.Company.{text, db, base, i_text, a_text}
 
 -- what the examples compute with
 unfoldable opened : Unit {0}
@@ -60,15 +61,15 @@ two_tables =
     ∷ (codes "<http://e/emp/id=8> " ++ a_text ++ codes " <http://e/emp> .")
     ∷ lines_9
 
-graph_of_two_tables : lines_of (direct_graph tables base db) ≡ two_tables
+graph_of_two_tables : lines_of (direct_graph company base db) ≡ two_tables
 unfolding opened
 graph_of_two_tables = refl
 
-mapping_of_two_tables : lines_of (quads (direct tables base) db) ≡ two_tables
+mapping_of_two_tables : lines_of (quads (direct company base) db) ≡ two_tables
 unfolding opened
 mapping_of_two_tables = refl
 
-no_data_fault : data_faults (direct tables base) db ≡ []
+no_data_fault : data_faults (direct company base) db ≡ []
 unfolding opened
 no_data_fault = refl
 
@@ -83,7 +84,7 @@ text_fits name text u = record { kind = inr (text, u, refl); not_null = λ _ is.
 null_fits : (name : List ℕ) (k : SqlType) → FitsColumn (record { name = name; kind = k; not_null = false }) cell.Null
 null_fits name k = record { kind = inl refl; not_null = λ h. cc }
 
-meets_schema : MeetsSchema tables db
+meets_schema : MeetsSchema company db
 unfolding opened
 meets_schema = (
   record {
@@ -107,7 +108,7 @@ meets_schema = (
   ),
 )
 
-well_formed : IsWellFormed tables
+well_formed : IsWellFormed company
 unfolding opened
 well_formed = (
   record {

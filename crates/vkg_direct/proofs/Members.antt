@@ -36,6 +36,3 @@ from_filter t (x ∷ xs) y h = elim (t x) as (λ b. Contains (cond b (x ∷ filt
   | true ↦ λ c. elim (Contains-cons_cases x (filter t xs) y c) [ inl e ↦ first x y xs e | inr d ↦ Contains-there x xs y (from_filter t xs y d) ]
   | false ↦ λ c. Contains-there x xs y (from_filter t xs y c)
 ] h
-
-pub some_is : {X : Type 0} (a b : X) → Some a ≡ Some b → a ≡ b
-some_is a b e = ap (λ o. elim o [ Some x ↦ x | None ↦ a ]) e

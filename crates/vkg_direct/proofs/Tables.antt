@@ -3,6 +3,7 @@ use Rattle.std.proofs.Common.{◌≡◌, refl, ℕ, ◌≢◌, List, [], ◌∷�
 use Rattle.std.specs.Prelude.{Contains, filter_map, option_map, slice_get, unwrap_or}
 use Rattle.std.specs.List.{enumerate_from}
 use Rattle.std.proofs.lemmas.List.Elements.{Contains-append_left, Contains-append_right, Contains-append_cases}
+use Rattle.std.proofs.lemmas.Option.{same_Some}
 use Rattle.vkg_terms.specs.declared.term.Term.TheVariants.{Iri, Lit}
 use Rattle.vkg_terms.specs.Vocabulary.{rdf_type}
 use Rattle.vkg_terms.specs.NQuads.{Quad}
@@ -23,7 +24,7 @@ use Rattle.vkg_maps.specs.Dataset.{quad_from, quad_of, quads_of_rule}
 use Rattle.vkg_direct.specs.DirectGraph.{table_iri, column_iri, reference_iri, row_node, triple, literal_triple, reference_triples, row_graph}
 use Rattle.vkg_direct.specs.DirectMapping.{column_property, reference_property, direct_map}
 use Rattle.vkg_lists.proofs.Members.{Contains-here, Contains-there, Contains-cons_cases, Contains-from_flat_map, Contains-flat_map, Contains-from_map, Contains-map}
-use Rattle.vkg_direct.proofs.Members.{first, only, from_filter_map, in_filter_map, from_filter, some_is}
+use Rattle.vkg_direct.proofs.Members.{first, only, from_filter_map, in_filter_map, from_filter}
 
 -- each term map of the table makes what the direct graph has, of this row
 pub record Makes (base : List ℕ) (tables : List Table) (maps : List TriplesMap) (db : Database) (k : ℕ) (table : Table) (row : Row) : Type 0 where
@@ -112,7 +113,7 @@ module _ (base : List ℕ) (tables : List Table) (maps : List TriplesMap) (db : 
         let b = from_filter_map (quad_of base class_rule a.0) (a.0 ∷ []) q a.2 in
         let e : quad_of base class_rule a.0 a.0 ≡ Some q = ap (λ o. quad_of base class_rule a.0 o) (only a.0 b.0 b.1) ∙ b.2 in
         Contains-flat_map (row_graph base tables db table) (rows_of db k) a.0 q a.1
-        (in_head a.0 q (some_is (head a.0) q (sym (class_quad a.0 (made a.0 a.1)) ∙ e)))
+        (in_head a.0 q (same_Some (head a.0) q (sym (class_quad a.0 (made a.0 a.1)) ∙ e)))
 
     column_in : (c : ℕ × Column) → Contains (enumerate_from 0 table.columns) c → (q : Quad) → Contains (quads_of_rule base db (column_rule c)) q → Contains graph q
     column_in c is q h =
@@ -126,7 +127,7 @@ module _ (base : List ℕ) (tables : List Table) (maps : List TriplesMap) (db : 
     reference_in r is q h =
         let a = Contains-from_flat_map (λ row. filter_map (quad_of base (reference_rule r) row) (filter (agree r.pairs row) (rows_of db r.table))) (rows_of db k) q (subst (λ qs. Contains qs q) (reference_rows r (refers r is)) h) in
         let b = from_filter_map (quad_of base (reference_rule r) a.0) (filter (agree r.pairs a.0) (rows_of db r.table)) q a.2 in
-        let e = some_is _ q (sym (reference_quad a.0 (made a.0 a.1) r is b.0 (from_filter _ _ b.0 b.1)) ∙ b.2) in
+        let e = same_Some _ q (sym (reference_quad a.0 (made a.0 a.1) r is b.0 (from_filter _ _ b.0 b.1)) ∙ b.2) in
         Contains-flat_map (row_graph base tables db table) (rows_of db k) a.0 q a.1
         (in_references a.0 q (Contains-flat_map (reference_triples base tables db table a.0) table.references r q is
         (subst (λ x. Contains (reference_triples base tables db table a.0 r) x) e

@@ -1,30 +1,8 @@
--- The tables of the worked examples: departments, and employees who may have one.
-use Rattle.std.specs.Prelude.{ℕ, true, false, List, [], ◌∷◌, codes}
-use Rattle.vkg_cells.specs.declared.cell.SqlType.TheVariants as kind
+-- The rows of the worked examples, for the schema of the example company.
+use Rattle.std.specs.Prelude.{ℕ, List, [], ◌∷◌, codes}
 use Rattle.vkg_cells.specs.declared.cell.Cell.{Cell}
 use Rattle.vkg_cells.specs.declared.cell.Cell.TheVariants as cell
-use Rattle.vkg_schema.specs.declared.table.Table.{Table}
 use Rattle.vkg_schema.specs.Rows.{Row, Database}
-
-abbrev pub dept : Table
-dept = record {
-  name = codes "dept";
-  columns = record { name = codes "id"; kind = kind.Int; not_null = true } ∷ record { name = codes "title"; kind = kind.Text; not_null = false } ∷ [];
-  keys = record { primary = true; columns = 0 ∷ [] } ∷ [];
-  references = [];
-}
-
-abbrev pub emp : Table
-emp = record {
-  name = codes "emp";
-  columns = record { name = codes "id"; kind = kind.Int; not_null = true } ∷ record { name = codes "name"; kind = kind.Text; not_null = false }
-      ∷ record { name = codes "dept"; kind = kind.Int; not_null = false } ∷ [];
-  keys = record { primary = true; columns = 0 ∷ [] } ∷ [];
-  references = record { table = 0; pairs = (2, 0) ∷ [] } ∷ [];
-}
-
-abbrev pub tables : List Table
-tables = dept ∷ emp ∷ []
 
 abbrev pub int : List ℕ → Cell
 int text = cell.Int text

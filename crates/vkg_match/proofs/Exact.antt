@@ -6,6 +6,7 @@ use Rattle.std.proofs.lemmas.Str.{IsUtf8-nil, IsUtf8-append}
 use lib.Utf8.{encode, encodes, scalar, scalars}
 use Rattle.std.proofs.lemmas.Slice.Eq.{bytes_eq-Decides}
 use Rattle.std.proofs.lemmas.List.Folds.{list_all-append}
+use Rattle.std.proofs.lemmas.Option.{same_Some}
 use Rattle.hex.specs.Hex.{decode_of, encode_lower, IsBytes}
 use Rattle.hex.specs.declared.error.FromHexError.{FromHexError}
 use Rattle.hex.proofs.HexLemmas.{decode_of-encode_lower}
@@ -69,9 +70,6 @@ module _ (sort : Sort) (row : Row) where
 
   chars_text : (s : List ℕ) → piece_text sort row (Chars s) ≡ Some s
   chars_text s = elim sort as (λ t. piece_text t row (Chars s) ≡ Some s) [ OfIri ↦ refl | OfBlank ↦ refl | OfLit a ↦ refl ]
-
-  some_text : (s t : List ℕ) → ◌≡◌ {A = Text} (Some s) (Some t) → s ≡ t
-  some_text s t e = cc
 
   constant_is : (ps : List Piece) (s : List ℕ) → constant_of ps ≡ Some s → pieces_text sort row ps ≡ Some s
   constant_is [] s e = e

@@ -3,6 +3,7 @@ use Rattle.std.proofs.Common.{◌≡◌, ◌⊎◌, inl, inr, ℕ, ◌<◌, refl
 use Rattle.std.specs.Prelude.{Option, Some, None, option_map, option_and_then, bytes_eq, IsSome, is_some, chars, flat_map, encode_utf8, unwrap_or}
 use Rattle.std.specs.List.{list_all}
 use Rattle.std.specs.Str.{NonePass, NoCharPasses, is_utf8}
+use Rattle.std.proofs.lemmas.Option.{same_Some}
 use Rattle.std.proofs.lemmas.Slice.Eq.{bytes_eq-Decides}
 use Rattle.std.proofs.lemmas.Str.{scalars-chars, is_utf8-from_IsUtf8, IsUtf8-from_is_utf8, NoCharPasses-append, NoCharPasses-nil, encode_ascii}
 use Rattle.percent_encoding.specs.Percent.{percent_decode}
@@ -60,15 +61,12 @@ known_true (Some b) e = ap Some e
 no_some : (s : List ℕ) → ◌≡◌ {A = Text} None (Some s) → ⊥
 no_some s e = cc
 
-some_is : (s t : List ℕ) → ◌≡◌ {A = Text} (Some s) (Some t) → s ≡ t
-some_is s t e = cc
-
 -- cells of one family are equal where their forms are
 same_known : (c d : Cell) (s t : List ℕ) → family_of c ≡ family_of d → lexical_form c ≡ Some s → lexical_form d ≡ Some t → known (same c d) ≡ bytes_eq s t
 same_known c d s t f a b =
     let law = by-form c d f (has (lexical_form c) s a) in
     one_truth _ _
-    (λ e. (bytes_eq-Decides s t).1 (some_is s t (sym a ∙ law.0 (known_true (same c d) e) ∙ b)))
+    (λ e. (bytes_eq-Decides s t).1 (same_Some s t (sym a ∙ law.0 (known_true (same c d) e) ∙ b)))
     (λ e. ap known (law.1 (a ∙ ap Some ((bytes_eq-Decides s t).0 e) ∙ sym b)))
   where
     has : (o : Text) (s : List ℕ) → o ≡ Some s → IsSome o
@@ -153,7 +151,7 @@ text_kept s t b e = elim (is_utf8 s) as (λ u. is_utf8 s ≡ u → cond (u && b)
 ] refl e
   where
     by : (b : Bool) → cond b (Some s) None ≡ Some t → (b ≡ true) × (s ≡ t)
-    by true f = (refl, some_is s t f)
+    by true f = (refl, same_Some s t f)
     by false f = absurd (no_some t f)
 
 pub text_there : (s : List ℕ) (b : Bool) → IsUtf8 s → b ≡ true → text_if s b ≡ Some s

@@ -2,6 +2,7 @@
 use Rattle.std.proofs.Common.{◌≡◌, refl, sym, ap, subst, ◌∙◌, ℕ, List, [], ◌∷◌, ◌++◌, true, nat_lt, IsUtf8}
 use Rattle.std.specs.Prelude.{Some, None, option_map}
 use Rattle.std.specs.List.{AllByRecursion}
+use Rattle.std.proofs.lemmas.Option.{same_Some}
 use Rattle.std.proofs.lemmas.Str.{IsUtf8-from_ascii}
 use Rattle.std.proofs.lemmas.List.Folds.{list_all-append}
 use Rattle.vkg_lists.proofs.Bools.{and_parts}
@@ -31,13 +32,10 @@ record Joined (a b : Text) (w : List ℕ) : Type 0 where
   second : b ≡ Some back
   is : front ++ back ≡ w
 
-some_text : (s t : List ℕ) → ◌≡◌ {A = Text} (Some s) (Some t) → s ≡ t
-some_text s t e = cc
-
 joined_there : (a b : Text) (w : List ℕ) → joined a b ≡ Some w → Joined a b w
 joined_there None b w e = cc
 joined_there (Some s) None w e = cc
-joined_there (Some s) (Some t) w e = record { front = s; back = t; first = refl; second = refl; is = some_text (s ++ t) w e }
+joined_there (Some s) (Some t) w e = record { front = s; back = t; first = refl; second = refl; is = same_Some (s ++ t) w e }
 
 parts_small : (s t w : List ℕ) → s ++ t ≡ w → small w ≡ true → (small s ≡ true) × (small t ≡ true)
 parts_small s t w e h = and_parts (small s) (small t) (sym (list_all-append (λ b. nat_lt b 128) s t) ∙ ap small e ∙ h)
@@ -47,7 +45,7 @@ iri_texts row [] w e h = tt
 iri_texts row (Chars s ∷ ps) w e h =
     let j = joined_there (Some s) (pieces_text OfIri row ps) w e in
     let p = parts_small j.front j.back w j.is h in
-    (subst IsUtf8 (sym (some_text s j.front j.first)) (IsUtf8-from_ascii j.front (ascii_small j.front p.0)), iri_texts row ps j.back j.second p.1)
+    (subst IsUtf8 (sym (same_Some s j.front j.first)) (IsUtf8-from_ascii j.front (ascii_small j.front p.0)), iri_texts row ps j.back j.second p.1)
 iri_texts row (Hole at k ∷ ps) w e h =
     let j = joined_there (piece_text OfIri row (Hole at k)) (pieces_text OfIri row ps) w e in
     (tt, iri_texts row ps j.back j.second (parts_small j.front j.back w j.is h).1)

@@ -4,11 +4,12 @@ use Rattle.std.specs.Prelude.{IfSome, Option, Some, None, option_and_then, repli
 use Rattle.std.specs.List.{AllByRecursion, filter, flat_map, list_all}
 use Rattle.std.specs.Option.{option_map_or}
 use Rattle.std.specs.Cmp.Lexicographic.{pointwise}
+use Rattle.std.proofs.lemmas.Option.{same_Some}
 use Rattle.vkg_lists.specs.Sets.{distinct}
 use Rattle.vkg_cells.specs.declared.cell.Cell.TheVariants as cell
 use Rattle.vkg_cells.specs.declared.cell.SqlType.TheVariants as kind
 use Rattle.vkg_schema.specs.Rows.{Database, Row}
-use Rattle.vkg_expr.proofs.ValueFits.{kind_same, null_fits, some_is, values-fit}
+use Rattle.vkg_expr.proofs.ValueFits.{kind_same, null_fits, values-fit}
 use Rattle.vkg_expr.specs.Expr.{Expr, exprs}
 use Rattle.vkg_expr.specs.Laws.{FitsRow, HasKinds}
 use Rattle.vkg_expr.specs.Typing.{fits, is_one, kind_of, kinds_of, same_kind}
@@ -45,7 +46,7 @@ kinds-append (x ∷ ks) ls (c ∷ cs) ds h k = (h.0, kinds-append ks ls cs ds h.
 pub fits_row : (ks : Kinds) (row : Row) → HasKinds ks row → FitsRow ks row
 fits_row [] row h at k e = cc
 fits_row (l ∷ ks) [] h at k e = absurd h
-fits_row (l ∷ ks) (c ∷ cs) h zero k e = subst (λ m. fits m c ≡ true) (some_is l k e) h.0
+fits_row (l ∷ ks) (c ∷ cs) h zero k e = subst (λ m. fits m c ≡ true) (same_Some l k e) h.0
 fits_row (l ∷ ks) (c ∷ cs) h (suc at) k e = fits_row ks cs h.1 at k e
 
 pairs-fit : (ks ls : Kinds) (xs ys : List Row) → HaveKinds ks xs → HaveKinds ls ys → HaveKinds (ks ++ ls) (pairs xs ys)
@@ -110,17 +111,17 @@ checked_is c (Some ls) ks e = at (is_one kind.Bool (kind_of c ls)) e
     at false e = cc
 
 two_is : (a b : Option Kinds) (ks : Kinds) → beside_two a b ≡ Some ks → (ls : Kinds) × (a ≡ Some ls) × ((ms : Kinds) × (b ≡ Some ms) × (ls ++ ms ≡ ks))
-two_is (Some ls) (Some ms) ks e = (ls, refl, (ms, refl, some_is (ls ++ ms) ks e))
+two_is (Some ls) (Some ms) ks e = (ls, refl, (ms, refl, same_Some (ls ++ ms) ks e))
 two_is (Some ls) None ks e = cc
 two_is None b ks e = cc
 
 beside_is : (o : Option (List Kinds)) (ks : Kinds) → beside_all o ≡ Some ks → (kss : List Kinds) × (o ≡ Some kss) × (joined kss ≡ ks)
 beside_is None ks e = cc
 beside_is (Some []) ks e = cc
-beside_is (Some (ls ∷ kss)) ks e = (ls ∷ kss, refl, some_is (joined (ls ∷ kss)) ks e)
+beside_is (Some (ls ∷ kss)) ks e = (ls ∷ kss, refl, same_Some (joined (ls ∷ kss)) ks e)
 
 first_is : (a : Option Kinds) (b : Option (List Kinds)) (kss : List Kinds) → with_first a b ≡ Some kss → (ks : Kinds) × (a ≡ Some ks) × ((lss : List Kinds) × (b ≡ Some lss) × (ks ∷ lss ≡ kss))
-first_is (Some ks) (Some lss) kss e = (ks, refl, (lss, refl, some_is (ks ∷ lss) kss e))
+first_is (Some ks) (Some lss) kss e = (ks, refl, (lss, refl, same_Some (ks ∷ lss) kss e))
 first_is (Some ks) None kss e = cc
 first_is None b kss e = cc
 
@@ -135,7 +136,7 @@ alike_is (Some (ls ∷ kss)) ks e = at (list_all (pointwise same_kind ls) kss) r
   where
     at : (b : Bool) → list_all (pointwise same_kind ls) kss ≡ b → (if b then Some ls else None) ≡ Some ks → (kss' : List Kinds) × (Some (ls ∷ kss) ≡ Some kss') × (list_all (pointwise same_kind ks) kss' ≡ true)
     at true p e =
-        let i : ls ≡ ks = some_is ls ks e in
+        let i : ls ≡ ks = same_Some ls ks e in
         let all : list_all (pointwise same_kind ls) (ls ∷ kss) ≡ true = rw (themselves ls) p in
         (ls ∷ kss, refl, subst (λ m. list_all (pointwise same_kind m) (ls ∷ kss) ≡ true) i all)
     at false p e = cc
@@ -143,7 +144,7 @@ alike_is (Some (ls ∷ kss)) ks e = at (list_all (pointwise same_kind ls) kss) r
 module _ (s : Tables) (db : Database) (t : TablesFit s db) where
   mutual
     pub rows-fit : (p : Plan) (ks : Kinds) → plan_kinds s p ≡ Some ks → HaveKinds ks (rows_of s p db)
-    rows-fit UnitPlan ks e = (subst (λ m. HasKinds m []) (some_is [] ks e) tt, tt)
+    rows-fit UnitPlan ks e = (subst (λ m. HasKinds m []) (same_Some [] ks e) tt, tt)
     rows-fit (Empty ls) ks e = tt
     rows-fit (Scan table) ks e = t table ks e
     rows-fit (Select c p) ks e = All-filter (HasKinds ks) (holds c) (rows_of s p db) (rows-fit p ks (checked_is c (plan_kinds s p) ks e))
@@ -166,7 +167,7 @@ module _ (s : Tables) (db : Database) (t : TablesFit s db) where
     rows-fit (Distinct p) ks e = distinct-fit ks (rows_of s p db) (rows-fit p ks e)
 
     each-fit : (ps : Plans) (kss : List Kinds) → kinds_of_each s ps ≡ Some kss → EachHasKinds kss (rows_of_each s ps db)
-    each-fit Nil kss e = subst (λ l. EachHasKinds l []) (some_is [] kss e) tt
+    each-fit Nil kss e = subst (λ l. EachHasKinds l []) (same_Some [] kss e) tt
     each-fit (More p ps) kss e =
         let a = first_is (plan_kinds s p) (kinds_of_each s ps) kss e in
         subst (λ l. EachHasKinds l (rows_of s p db ∷ rows_of_each s ps db)) a.2.2 (rows-fit p a.0 a.1, each-fit ps a.2.0 a.2.1)
