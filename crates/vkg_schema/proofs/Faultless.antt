@@ -14,8 +14,9 @@ use Rattle.vkg_ddl.specs.ReferenceChecks.{columns_wrong, no_key, families_differ
 use Rattle.vkg_ddl.specs.FirstFault.{failed, first_fault}
 use Rattle.vkg_schema.proofs.Found.{all_weaken}
 
--- the checks on which the form of a schema rests
+-- the checks on which the form and the names of a schema rest
 pub record IsFaultless (tables : List WrittenTable) : Type 0 where
+  pub names_once : table_twice tables ≡ None
   pub columns_known : key_column_unknown tables ≡ None
   pub tables_known : table_unknown tables ≡ None
   pub columns_right : columns_wrong tables ≡ None
@@ -39,7 +40,7 @@ faultless tables e =
     let r11 = passed 11 (columns_wrong tables) _ r10.1 in
     let r12 = passed 12 (no_key tables) _ r11.1 in
     let r13 = passed 13 (families_differ tables) _ r12.1 in
-    record { columns_known = r7.0; tables_known = r10.0; columns_right = r11.0; to_keys = r12.0; comparable = r13.0 }
+    record { names_once = r3.0; columns_known = r7.0; tables_known = r10.0; columns_right = r11.0; to_keys = r12.0; comparable = r13.0 }
 
 none_from : {A : Type 0} (place : A → Option ℕ) (xs : List A) (best : Option ℕ) → fold (λ b x. lesser b (place x)) best xs ≡ None → (best ≡ None) × AllByRecursion (λ x. place x ≡ None) xs
 none_from place [] best e = (e, tt)

@@ -3,6 +3,7 @@ pub mod Faultless
 pub mod Forms
 pub mod Found
 pub mod One
+pub mod OwnNames
 pub mod Ranges
 pub mod Targets
 pub mod WellFormed

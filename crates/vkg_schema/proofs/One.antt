@@ -1,10 +1,8 @@
 -- There is one answer.
-use Rattle.std.proofs.Common.{◌≡◌, ℕ, List, [], ◌∷◌, Result, Ok, Err, Option, Some, None, ap, sym, ◌∙◌, subst}
-use Rattle.vkg_grammar.specs.declared.note.Note.{Note}
+use Rattle.std.proofs.Common.{◌≡◌, ℕ, List, [], ◌∷◌, Option, Some, None, ap, sym, ◌∙◌, subst}
 use Rattle.vkg_grammar.specs.Grammar.{Derives}
 use Rattle.vkg_grammar.specs.Parsing.{NoTextAt}
 use Rattle.vkg_grammar.proofs.Outcomes.{same_tokens, same_place, not_tokens, no_text as no_text_at, one_place}
-use Rattle.vkg_tokens.specs.declared.cutting.Token.{Token}
 use Rattle.vkg_ddl.specs.declared.grammar_table.TheConstants.{DDL}
 use Rattle.vkg_ddl.specs.declared.written.WrittenTable.{WrittenTable}
 use Rattle.vkg_ddl.specs.FirstFault.{first_fault}

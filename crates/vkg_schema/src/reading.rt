@@ -1,5 +1,6 @@
 ghost use Rattle.std.specs.Prelude.{◌≡◌, IfOk, IfErr, IsUtf8};
 ghost use Rattle.vkg_schema.specs.Reading.{IsSchemaOf, IsSchemaText, Fails, TextFails, IsDetermined, of_text};
+ghost use Rattle.vkg_schema.specs.Names.{HasOwnNames};
 ghost use Rattle.vkg_schema.specs.declared.reading.SchemaError.TheVariants.{Memory as OutOfMemory};
 
 use crate::resolve::resolve;
@@ -45,6 +46,7 @@ fn of_text(e: TextFault) -> SchemaError
 
 fn read_text(alloc: Global, bytes: &[u8]) -> Result<Schema, SchemaError>
     ensures ok { IfOk result (IsSchemaText bytes.now) }
+    ensures names { IfOk result HasOwnNames }
     ensures err { IfErr result (TextFails bytes.now) }
 {
     let text = match str::from_utf8(bytes) {
@@ -66,9 +68,10 @@ fn read_text(alloc: Global, bytes: &[u8]) -> Result<Schema, SchemaError>
 }
 
 /// Reads a schema: `CREATE TABLE` statements of SQL 92, 11.3 to 11.9, in part. One byte order mark at the front is
-/// passed over.
+/// passed over. Each table has a name of its own.
 pub fn read_schema(alloc: Global, bytes: &[u8]) -> Result<Schema, SchemaError>
     ensures ok { IfOk result (IsSchemaOf bytes.now) }
+    ensures names { IfOk result HasOwnNames }
     ensures err { IfErr result (Fails bytes.now) }
 {
     read_text(alloc, without_mark(bytes))

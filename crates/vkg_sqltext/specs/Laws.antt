@@ -1,16 +1,17 @@
 -- No two plans share a text.
-use Rattle.std.specs.Prelude.{◌≡◌, ℕ, ◌<◌, ◌^◌, suc, IsTrue, IsUtf8, length}
+use Rattle.std.specs.Prelude.{◌≡◌, ℕ, ◌<◌, ◌^◌, suc, IsTrue, IsUtf8}
 use Rattle.vkg_terms.specs.declared.term.Annotation.{Annotation}
 use Rattle.vkg_terms.specs.declared.term.Annotation.TheVariants.{Plain, Lang, Typed}
 use Rattle.vkg_terms.specs.NQuads.{term_text}
 use Rattle.vkg_terms.specs.Writable.{HoldsText}
 use Rattle.vkg_cells.specs.declared.cell.Cell.{Cell}
 use Rattle.vkg_cells.specs.declared.cell.Cell.TheVariants as cell
+use Rattle.vkg_schema.specs.Names.{HasOwnNames}
 use Rattle.vkg_expr.specs.Expr.{Expr, Exprs, Col, Const, MakeIri, IriOf, MakeBlank, MakeLit, Lex, IriSafe, Concat, Same, IsNull, Not, And, Or, Coalesce, Sparql, Ebv}
 use Rattle.vkg_expr.specs.Expr as expr
 use Rattle.vkg_plan.specs.Kinds.{Tables, is_well_typed}
 use Rattle.vkg_plan.specs.Plan.{Plan, Plans, Unit as Once, Empty, Scan, Select, Project, Join, Left, UnionAll, Distinct, Nil, More}
-use Rattle.vkg_sqltext.specs.Text.{sql_text, table_name}
+use Rattle.vkg_sqltext.specs.Text.{sql_text}
 
 -- What values of the program hold: numbers of 64 bits and texts in UTF-8. A column's text counts from 1.
 abbrev pub HoldsAnnotation : Annotation → Type 0
@@ -69,11 +70,6 @@ abbrev mutual
   HoldsPlans Nil = Unit {0}
   HoldsPlans (More p ps) = HoldsPlan p × HoldsPlans ps
 
--- each table has a name of its own, in UTF-8
-pub record HasNames (schema : Tables) : Type 0 where
-  pub utf8 : (i : ℕ) → IsUtf8 (table_name schema i)
-  pub apart : (i j : ℕ) → i < length schema → j < length schema → table_name schema i ≡ table_name schema j → i ≡ j
-
 -- well-typed plans over one schema that have one text are one plan
 abbrev pub HaveOwnTexts : Type 0
-HaveOwnTexts = (schema : Tables) → HasNames schema → (p q : Plan) → IsTrue (is_well_typed schema p) → IsTrue (is_well_typed schema q) → HoldsPlan p → HoldsPlan q → sql_text schema p ≡ sql_text schema q → p ≡ q
+HaveOwnTexts = (schema : Tables) → HasOwnNames schema → (p q : Plan) → IsTrue (is_well_typed schema p) → IsTrue (is_well_typed schema q) → HoldsPlan p → HoldsPlan q → sql_text schema p ≡ sql_text schema q → p ≡ q

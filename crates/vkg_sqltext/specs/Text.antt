@@ -1,6 +1,5 @@
 -- The text of a plan over a schema, as a statement in the manner of SQL 92.
-use Rattle.std.specs.Prelude.{ℕ, suc, Bool, true, false, List, [], ◌∷◌, ◌++◌, map, flat_map, slice_get, Option, Some, None, chars, codes, decimal, encode_utf8, ◌==◌, if◌then◌else◌}
-use Rattle.std.specs.Option.{option_map_or}
+use Rattle.std.specs.Prelude.{ℕ, suc, Bool, true, false, List, [], ◌∷◌, ◌++◌, map, flat_map, Option, Some, None, chars, codes, decimal, encode_utf8, ◌==◌, if◌then◌else◌}
 use Rattle.vkg_terms.specs.declared.term.Annotation.{Annotation}
 use Rattle.vkg_terms.specs.declared.term.Annotation.TheVariants.{Plain, Lang, Typed}
 use Rattle.vkg_terms.specs.NQuads.{term_text}
@@ -8,6 +7,7 @@ use Rattle.vkg_cells.specs.declared.cell.Cell.{Cell}
 use Rattle.vkg_cells.specs.declared.cell.Cell.TheVariants as cell
 use Rattle.vkg_cells.specs.declared.cell.SqlType.{SqlType}
 use Rattle.vkg_cells.specs.declared.cell.SqlType.TheVariants as kind
+use Rattle.vkg_schema.specs.Names.{table_name}
 use Rattle.vkg_values.specs.declared.operator.Test.{Test as TermTest}
 use Rattle.vkg_values.specs.declared.operator.Test.TheVariants as test
 use Rattle.vkg_values.specs.declared.operator.Take.{Take as TermTake}
@@ -118,9 +118,6 @@ abbrev mutual
   pub expr_texts : Exprs → List (List ℕ)
   expr_texts expr.Nil = []
   expr_texts (expr.More e es) = expr_text e ∷ expr_texts es
-
-abbrev pub table_name : Tables → ℕ → List ℕ
-table_name schema table = option_map_or (λ t. t.name) (slice_get schema table) []
 
 -- SQL 92, 5.2, delimited identifier: a quote (34) within is doubled
 abbrev pub table_text : Tables → ℕ → List ℕ

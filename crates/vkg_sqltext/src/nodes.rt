@@ -1,7 +1,8 @@
 // The texts of nodes, from the texts of their parts.
 ghost use Rattle.std.specs.Prelude.{◌≡◌, ◌∷◌, ◌++◌, [], IfOk, IsOkAnd, OnOk, codes, decimal, map, string_bytes};
+ghost use Rattle.vkg_schema.specs.Names.{table_name as name_of_table};
 ghost use Rattle.vkg_expr.specs.Seen.{expr_seen};
-ghost use Rattle.vkg_sqltext.specs.Text.{call as call_text, column_text, expr_text as text_of_expr, in_brackets, kind_text, outputs as outputs_of, outputs_text as text_of_outputs, separated, sources as sources_of, table_name as name_of_table, table_text as text_of_table};
+ghost use Rattle.vkg_sqltext.specs.Text.{call as call_text, column_text, expr_text as text_of_expr, in_brackets, kind_text, outputs as outputs_of, outputs_text as text_of_outputs, separated, sources as sources_of, table_text as text_of_table};
 
 use crate::constants::kind_name;
 use crate::expr_texts::expr_text;

@@ -2,9 +2,11 @@ use Rattle.std.proofs.Common.{ap, sym, ◌∙◌, subst}
 use Rattle.vkg_ddl.specs.FirstFault.{first_fault}
 use Rattle.vkg_ddl.specs.Reading.{TextFails as NoText}
 use Rattle.vkg_schema.specs.Meets.{IsWellFormed}
+use Rattle.vkg_schema.specs.Names.{HasOwnNames}
 use Rattle.vkg_schema.specs.Reading.{TextFails, no_utf8}
 use Rattle.vkg_schema.specs.Resolve.{schema_of}
 use Rattle.vkg_schema.proofs.Failing.{no_text_of, no_schema_of}
+use Rattle.vkg_schema.proofs.OwnNames.{own_names}
 use Rattle.vkg_schema.proofs.WellFormed.{well_formed}
 use Rattle.vkg_schema.proofs.reading.read_text.Goals as goal
 
@@ -19,3 +21,9 @@ returns-in-Some-clause-err c = no_schema_of c.in-Ok-read_written.written c.as_sl
 
 pub new-requires : goal.new-requires
 new-requires c = subst IsWellFormed (sym (c.in_ok-tables.ensures ∙ ap schema_of c.as_slice-2.ensures)) (well_formed c.in-Ok-read_written.written (ap first_fault (sym c.as_slice.ensures) ∙ sym c.first_fault.ensures ∙ c.in_default.is) c.in-Ok-read_written.ensures.form)
+
+pub returns-clause-names : goal.returns-clause-names
+returns-clause-names c =
+    let fine = ap first_fault (sym c.as_slice.ensures) ∙ sym c.first_fault.ensures ∙ c.in_default.is in
+    subst HasOwnNames (sym (c.new.ensures ∙ c.in_ok-tables.ensures ∙ ap schema_of c.as_slice-2.ensures))
+    (own_names c.in-Ok-read_written.written fine (well_formed c.in-Ok-read_written.written fine c.in-Ok-read_written.ensures.form))
