@@ -15,3 +15,6 @@ mod running;
 
 pub use rows::Rows;
 pub use running::run;
+
+#[cfg(test)]
+mod tests;

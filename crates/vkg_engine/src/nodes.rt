@@ -1,8 +1,12 @@
 // The rows of a node from those of its parts.
 ghost use Rattle.std.specs.Prelude.{◌≡◌, ◌∷◌, ◌++◌, [], IfOk, OnOk, map, false, unwrap_or};
 ghost use Rattle.std.specs.List.{filter, flat_map};
+ghost use Rattle.vkg_cells.specs.declared.cell.SqlType.TheVariants as kind;
+ghost use Rattle.vkg_engine.specs.Typed.{AreTypedOnRows, TestsRows};
 ghost use Rattle.vkg_expr.specs.Expr.{exprs};
+ghost use Rattle.vkg_expr.specs.Laws.{IsCondition};
 ghost use Rattle.vkg_expr.specs.Seen.{expr_seen};
+ghost use Rattle.vkg_expr.specs.Steps.{Fits};
 ghost use Rattle.vkg_expr.specs.Value.{holds as holds_on, truth_of, values_of};
 
 use std::alloc::Global;
@@ -51,6 +55,7 @@ pub fn add_rows(
 
 /// The rows for which the condition is true.
 pub fn select(alloc: Global, c: &Expr, rows: &[Items<Cell>]) -> Result<Items<Items<Cell>>, Memory>
+    requires { TestsRows (expr_seen c.now) rows.now }
     ensures { IfOk result (λ kept. kept ≡ filter (holds_on (expr_seen c.now)) rows.now) }
 {
     let mut kept = Items::new(alloc);
@@ -63,18 +68,22 @@ pub fn select(alloc: Global, c: &Expr, rows: &[Items<Cell>]) -> Result<Items<Ite
 }
 
 /// Whether a condition is true on a row.
+#[tactic(auto, using(crate::proofs::TypedRows::conditions))]
 pub fn holds(alloc: Global, c: &Expr, row: &[Cell]) -> Result<bool, Memory>
+    requires { IsCondition (expr_seen c.now) row.now }
     ensures { IfOk result (λ b. b ≡ holds_on (expr_seen c.now) row.now) }
 {
     Ok(is_true(&eval_cells(alloc, c, row)?))
 }
 
 fn is_true(cell: &Cell) -> bool
+    requires { Fits kind.Bool cell.now }
     ensures { result ≡ unwrap_or (truth_of cell.now) false }
 {
     match cell {
         Cell::Bool(truth) => *truth,
-        _ => false,
+        Cell::Null => false,
+        _ => unreachable!(),
     }
 }
 
@@ -83,6 +92,7 @@ pub fn project(
     es: &[Expr],
     rows: &[Items<Cell>],
 ) -> Result<Items<Items<Cell>>, Memory>
+    requires { AreTypedOnRows es.now rows.now }
     ensures { IfOk result (λ out. out ≡ map (values_of (exprs (map expr_seen es.now))) rows.now) }
 {
     let mut out = Items::new(alloc);

@@ -1,3 +1,5 @@
 pub mod Texts
 pub mod KindLists
 pub mod ValueFits
+pub mod Weights
+pub mod TypedParts

@@ -2,6 +2,7 @@
 use Rattle.std.proofs.Common.{◌≡◌, ℕ, Bool, true, false, not, List, [], ◌∷◌, refl, sym, subst}
 use Rattle.std.specs.Prelude.{Option, Some, None, option_map, find, unwrap_or, if◌then◌else◌}
 use Rattle.std.specs.List.{list_all}
+use Rattle.std.proofs.lemmas.Option.{same_Some}
 use Rattle.vkg_terms.specs.declared.term.Term.{Term}
 use Rattle.vkg_cells.specs.declared.cell.Cell.{Cell}
 use Rattle.vkg_cells.specs.declared.cell.Cell.TheVariants as cell
@@ -12,19 +13,14 @@ use Rattle.vkg_expr.specs.declared.expr.Operator.{Operator}
 use Rattle.vkg_expr.specs.declared.expr.Operator.TheVariants.{Test, Take, Compare}
 use Rattle.vkg_expr.specs.Expr.{Expr, Exprs, Col, Const, MakeIri, IriOf, MakeBlank, MakeLit, Lex, IriSafe, Concat, Same, IsNull, Not, And, Or, Coalesce, Sparql, Ebv, Nil, More}
 use Rattle.vkg_expr.specs.Laws.{FitsRow, HasKinds, IsOfItsKind}
+use Rattle.vkg_expr.specs.Steps.{Fits}
 use Rattle.vkg_expr.specs.Typing.{common, equality_kind, fits, giving, kind_of, kinds_of, lexical_kind, result_kind, same_family, same_kind, with_kind}
 use Rattle.vkg_expr.specs.Value.{coalesced, operator_value, term_cell, text_cell, truth_cell, value_of, values_of}
 use Rattle.vkg_expr.proofs.KindLists.{itself}
 use Rattle.vkg_lists.proofs.Bools.{and_parts, and_true}
 
-abbrev Fits : SqlType → Cell → Type 0
-Fits k c = fits k c ≡ true
-
-along : (k l : SqlType) (c : Cell) → k ≡ l → Fits k c → Fits l c
+pub along : (k l : SqlType) (c : Cell) → k ≡ l → Fits k c → Fits l c
 along k l c e h = subst (λ m. Fits m c) e h
-
-pub some_is : {X : Type 0} (x y : X) → Some x ≡ Some y → x ≡ y
-some_is x y e = cc
 
 term_fits : (o : Option Term) → Fits kind.Term (term_cell o)
 term_fits (Some t) = refl
@@ -48,7 +44,7 @@ null_fits kind.Stamp = refl
 null_fits kind.Bin = refl
 null_fits kind.Term = refl
 
-given-is : (k l : SqlType) (b : Bool) → giving k b ≡ Some l → (b ≡ true) × (k ≡ l)
+pub given-is : (k l : SqlType) (b : Bool) → giving k b ≡ Some l → (b ≡ true) × (k ≡ l)
 given-is k l true e = (refl, cc)
 given-is k l false e = cc
 
@@ -58,15 +54,15 @@ lexical-is (Some k) l e = (given-is kind.Text l (not (same_kind kind.Term k)) e)
 
 null_test-is : (o : Option SqlType) (l : SqlType) → option_map (λ k. kind.Bool) o ≡ Some l → kind.Bool ≡ l
 null_test-is None l e = cc
-null_test-is (Some k) l e = some_is kind.Bool l e
+null_test-is (Some k) l e = same_Some kind.Bool l e
 
 equality-is : (a b : Option SqlType) (l : SqlType) → equality_kind a b ≡ Some l → kind.Bool ≡ l
 equality-is (Some m) (Some n) l e = (given-is kind.Bool l (same_family m n) e).1
 equality-is (Some m) None l e = cc
 equality-is None b l e = cc
 
-more_given : (a : Option SqlType) (o : Option (List SqlType)) (ls : List SqlType) → with_kind a o ≡ Some ls → (k : SqlType) × (a ≡ Some k) × ((ms : List SqlType) × (o ≡ Some ms) × (k ∷ ms ≡ ls))
-more_given (Some k) (Some ms) ls e = (k, refl, (ms, refl, some_is (k ∷ ms) ls e))
+pub more_given : (a : Option SqlType) (o : Option (List SqlType)) (ls : List SqlType) → with_kind a o ≡ Some ls → (k : SqlType) × (a ≡ Some k) × ((ms : List SqlType) × (o ≡ Some ms) × (k ∷ ms ≡ ls))
+more_given (Some k) (Some ms) ls e = (k, refl, (ms, refl, same_Some (k ∷ ms) ls e))
 more_given (Some k) None ls e = cc
 more_given None o ls e = cc
 
@@ -148,7 +144,7 @@ coalesced-fits k (m ∷ ms) (c ∷ cs) a h =
     at true e h g = g
     at false e h g = h
 
-common_given : (o : Option (List SqlType)) (l : SqlType) → common o ≡ Some l → (ms : List SqlType) × (o ≡ Some ms) × (list_all (same_kind l) ms ≡ true)
+pub common_given : (o : Option (List SqlType)) (l : SqlType) → common o ≡ Some l → (ms : List SqlType) × (o ≡ Some ms) × (list_all (same_kind l) ms ≡ true)
 common_given None l e = cc
 common_given (Some []) l e = cc
 common_given (Some (k ∷ ks)) l e =
@@ -199,7 +195,7 @@ mutual
   value-fits (Ebv e) ks l row w t = along _ l _ (given-is kind.Bool l _ t).1 (truth_fits _)
 
   pub values-fit : (es : Exprs) (ks ls : List SqlType) (row : Row) → FitsRow ks row → kinds_of es ks ≡ Some ls → HasKinds ls (values_of es row)
-  values-fit Nil ks ls row w t = subst (λ z. HasKinds z []) (some_is [] ls t) tt
+  values-fit Nil ks ls row w t = subst (λ z. HasKinds z []) (same_Some [] ls t) tt
   values-fit (More e es) ks ls row w t =
       let m = more_given (kind_of e ks) (kinds_of es ks) ls t in
       subst (λ z. HasKinds z (value_of e row ∷ values_of es row)) m.2.2 (value-fits e ks m.0 row w m.1, values-fit es ks m.2.0 row w m.2.1)

@@ -1,6 +1,7 @@
 // What the steps of an expression make of cells; NULL is unknown and error.
-ghost use Rattle.std.specs.Prelude.{◌≡◌, ◌++◌, IfOk, Option, Some, None, option_and_then, option_map, if◌then◌else◌, string_bytes};
+ghost use Rattle.std.specs.Prelude.{◌≡◌, ◌++◌, ◌<◌, IfOk, Option, Some, None, length, option_and_then, option_map, if◌then◌else◌, string_bytes};
 ghost use Rattle.std.specs.Option.{option_map_or};
+ghost use Rattle.vkg_cells.specs.declared.cell.SqlType.TheVariants as kind;
 ghost use Rattle.vkg_cells.specs.Form.{lexical_form};
 ghost use Rattle.vkg_cells.specs.Order.{same as same_cells};
 ghost use Rattle.vkg_schema.specs.Rows.{cell_at};
@@ -9,6 +10,8 @@ ghost use Rattle.vkg_terms.specs.Safe.{safe as safe_form};
 ghost use Rattle.vkg_values.specs.Known.{widest};
 ghost use Rattle.vkg_values.specs.Logic.{not3};
 ghost use Rattle.vkg_values.specs.Operators.{ebv, take_value, test_value, compare_value, on_two};
+ghost use Rattle.vkg_expr.specs.Steps.{AllFit, Fits};
+ghost use Rattle.vkg_expr.specs.Typing.{arity};
 ghost use Rattle.vkg_expr.specs.Value.{against as text_against, operator_value, term_cell, term_of as term_in, text_cell, text_of as text_in, truth_cell as cell_of_truth, truth_of as truth_in};
 
 use crate::expr::Operator;
@@ -18,22 +21,25 @@ use vkg_cells::{Cell, lex, same};
 use vkg_terms::{Annotation, Term, blank_label, iri_safe, is_absolute};
 use vkg_values::{Compare, Take, Test, compare_terms, effective_truth, negation, take_of, test_of};
 
-/// The cell at a place, and NULL past the end.
+/// The cell at a place.
 pub fn column(row: &[Cell], at: usize) -> Result<Cell, Memory>
+    requires { at < length row.now }
     ensures { IfOk result (λ c. c ≡ cell_at row.now at) }
 {
     match row.get(at) {
         Some(cell) => cell.copy(),
-        None => Ok(Cell::Null),
+        None => unreachable!(),
     }
 }
 
 pub fn truth_of(cell: &Cell) -> Option<bool>
+    requires { Fits kind.Bool cell.now }
     ensures { result ≡ truth_in cell.now }
 {
     match cell {
         Cell::Bool(truth) => Some(*truth),
-        _ => None,
+        Cell::Null => None,
+        _ => unreachable!(),
     }
 }
 
@@ -47,20 +53,24 @@ pub fn truth_cell(truth: Option<bool>) -> Cell
 }
 
 pub fn iri(cell: &Cell) -> Result<Cell, Memory>
+    requires { Fits kind.Text cell.now }
     ensures { IfOk result (λ c. c ≡ term_cell (option_map Term.Iri (text_in cell.now))) }
 {
     match cell {
         Cell::Text(text) => Ok(Cell::Term(Term::Iri(text.copy()?))),
-        _ => Ok(Cell::Null),
+        Cell::Null => Ok(Cell::Null),
+        _ => unreachable!(),
     }
 }
 
 pub fn iri_of(alloc: Global, base: &Text, cell: &Cell) -> Result<Cell, Memory>
+    requires { Fits kind.Text cell.now }
     ensures { IfOk result (λ c. c ≡ text_cell (option_map (text_against base.now) (text_in cell.now))) }
 {
     match cell {
         Cell::Text(text) => Ok(Cell::Text(against(alloc, base, text)?)),
-        _ => Ok(Cell::Null),
+        Cell::Null => Ok(Cell::Null),
+        _ => unreachable!(),
     }
 }
 
@@ -76,6 +86,7 @@ fn against(alloc: Global, base: &Text, text: &Text) -> Result<Text, Memory>
 }
 
 pub fn blank(alloc: Global, cell: &Cell) -> Result<Cell, Memory>
+    requires { Fits kind.Text cell.now }
     ensures { IfOk result (λ c. c ≡ term_cell (option_map (λ s. Term.Blank (label_of s)) (text_in cell.now))) }
 {
     match cell {
@@ -83,11 +94,13 @@ pub fn blank(alloc: Global, cell: &Cell) -> Result<Cell, Memory>
             let label = blank_label(alloc, text.as_str())?;
             Ok(Cell::Term(Term::Blank(Text::from_string(label))))
         }
-        _ => Ok(Cell::Null),
+        Cell::Null => Ok(Cell::Null),
+        _ => unreachable!(),
     }
 }
 
 pub fn literal(cell: &Cell, annotation: &Annotation) -> Result<Cell, Memory>
+    requires { Fits kind.Text cell.now }
     ensures { IfOk result (λ c. c ≡ term_cell (option_map (λ s. Term.Lit s annotation.now) (text_in cell.now))) }
 {
     match cell {
@@ -95,7 +108,8 @@ pub fn literal(cell: &Cell, annotation: &Annotation) -> Result<Cell, Memory>
             let text = text.copy()?;
             Ok(Cell::Term(Term::Lit(text, annotation.copy()?)))
         }
-        _ => Ok(Cell::Null),
+        Cell::Null => Ok(Cell::Null),
+        _ => unreachable!(),
     }
 }
 
@@ -109,6 +123,7 @@ pub fn lexical(alloc: Global, cell: &Cell) -> Result<Cell, Memory>
 }
 
 pub fn safe(alloc: Global, cell: &Cell) -> Result<Cell, Memory>
+    requires { Fits kind.Text cell.now }
     ensures { IfOk result (λ c. c ≡ text_cell (option_map safe_form (text_in cell.now))) }
 {
     match cell {
@@ -116,7 +131,8 @@ pub fn safe(alloc: Global, cell: &Cell) -> Result<Cell, Memory>
             let form = iri_safe(alloc, text.as_str())?;
             Ok(Cell::Text(Text::from_string(form)))
         }
-        _ => Ok(Cell::Null),
+        Cell::Null => Ok(Cell::Null),
+        _ => unreachable!(),
     }
 }
 
@@ -127,42 +143,50 @@ pub fn equality(a: &Cell, b: &Cell) -> Cell
 }
 
 pub fn not(cell: &Cell) -> Cell
+    requires { Fits kind.Bool cell.now }
     ensures { result ≡ cell_of_truth (not3 (truth_in cell.now)) }
 {
     truth_cell(negation(truth_of(cell)))
 }
 
 pub fn truth_of_term(alloc: Global, cell: &Cell) -> Result<Cell, Memory>
+    requires { Fits kind.Term cell.now }
     ensures { IfOk result (λ c. c ≡ cell_of_truth (option_and_then (ebv widest) (term_in cell.now))) }
 {
     match cell {
         Cell::Term(term) => Ok(truth_cell(effective_truth(alloc, term)?)),
-        _ => Ok(Cell::Null),
+        Cell::Null => Ok(Cell::Null),
+        _ => unreachable!(),
     }
 }
 
 /// What an operator makes of terms.
 pub fn operation(alloc: Global, operator: Operator, cells: &[Cell]) -> Result<Cell, Memory>
+    requires count { length cells.now ≡ arity operator }
+    requires terms { AllFit kind.Term cells.now }
     ensures { IfOk result (λ c. c ≡ operator_value operator cells.now) }
 {
     match (operator, cells) {
         (Operator::Test(test), [a]) => tested(alloc, test, a),
         (Operator::Take(take), [a]) => taken(alloc, take, a),
         (Operator::Compare(compare), [a, b]) => compared(alloc, compare, a, b),
-        _ => Ok(Cell::Null),
+        _ => unreachable!(),
     }
 }
 
 fn tested(alloc: Global, test: Test, cell: &Cell) -> Result<Cell, Memory>
+    requires { Fits kind.Term cell.now }
     ensures { IfOk result (λ c. c ≡ cell_of_truth (option_map (test_value widest test) (term_in cell.now))) }
 {
     match cell {
         Cell::Term(term) => Ok(Cell::Bool(test_of(alloc, test, term)?)),
-        _ => Ok(Cell::Null),
+        Cell::Null => Ok(Cell::Null),
+        _ => unreachable!(),
     }
 }
 
 fn taken(alloc: Global, take: Take, cell: &Cell) -> Result<Cell, Memory>
+    requires { Fits kind.Term cell.now }
     ensures { IfOk result (λ c. c ≡ term_cell (option_and_then (take_value take) (term_in cell.now))) }
 {
     match cell {
@@ -170,15 +194,20 @@ fn taken(alloc: Global, take: Take, cell: &Cell) -> Result<Cell, Memory>
             Some(term) => Ok(Cell::Term(term)),
             None => Ok(Cell::Null),
         },
-        _ => Ok(Cell::Null),
+        Cell::Null => Ok(Cell::Null),
+        _ => unreachable!(),
     }
 }
 
 fn compared(alloc: Global, compare: Compare, a: &Cell, b: &Cell) -> Result<Cell, Memory>
+    requires left { Fits kind.Term a.now }
+    requires right { Fits kind.Term b.now }
     ensures { IfOk result (λ c. c ≡ cell_of_truth (on_two (compare_value widest compare) (term_in a.now) (term_in b.now))) }
 {
     match (a, b) {
         (Cell::Term(s), Cell::Term(t)) => Ok(truth_cell(compare_terms(alloc, compare, s, t)?)),
-        _ => Ok(Cell::Null),
+        (Cell::Null, _) => Ok(Cell::Null),
+        (_, Cell::Null) => Ok(Cell::Null),
+        _ => unreachable!(),
     }
 }

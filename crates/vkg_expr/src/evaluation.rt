@@ -1,7 +1,7 @@
 // The value of an expression on a row.
-ghost use Rattle.std.specs.Prelude.{◌≡◌, IfOk, map};
+ghost use Rattle.std.specs.Prelude.{◌≡◌, All, IfOk, map};
 ghost use Rattle.vkg_expr.specs.Expr.{exprs};
-ghost use Rattle.vkg_expr.specs.Laws.{IsOfItsKind};
+ghost use Rattle.vkg_expr.specs.Laws.{IsOfItsKind, IsTyped};
 ghost use Rattle.vkg_expr.specs.Seen.{expr_seen};
 ghost use Rattle.vkg_expr.specs.Value.{value_of, values_of};
 
@@ -13,19 +13,21 @@ use std::alloc::Global;
 use vkg_base::{Items, Memory};
 use vkg_cells::Cell;
 
-/// The value of an expression on a row; unknown and error are NULL. Of a typed expression, on a row whose cells are of the
-/// columns' kinds or NULL, it is of the expression's kind or NULL.
+/// The value of an expression that is typed on the row; unknown and error are NULL. Over columns whose kinds the cells have,
+/// it is of the expression's kind or NULL.
 #[tactic(auto, using(crate::proofs::ValueFits::fitting))]
 pub fn eval(alloc: Global, e: &Expr, row: &Row) -> Result<Cell, Memory>
+    requires { IsTyped (expr_seen e.now) row.now }
     ensures value { IfOk result (λ c. c ≡ value_of (expr_seen e.now) row.now) }
     ensures kind { IfOk result (IsOfItsKind (expr_seen e.now) row.now) }
 {
     eval_on(alloc, e, row.cells())
 }
 
-/// The value of an expression on the cells of a row.
+/// The value of an expression that is typed on the cells of a row.
 #[tactic(auto, using(crate::proofs::ValueFits::fitting))]
 pub fn eval_cells(alloc: Global, e: &Expr, row: &[Cell]) -> Result<Cell, Memory>
+    requires { IsTyped (expr_seen e.now) row.now }
     ensures value { IfOk result (λ c. c ≡ value_of (expr_seen e.now) row.now) }
     ensures kind { IfOk result (IsOfItsKind (expr_seen e.now) row.now) }
 {
@@ -34,6 +36,7 @@ pub fn eval_cells(alloc: Global, e: &Expr, row: &[Cell]) -> Result<Cell, Memory>
 
 #[cycle(eval)]
 fn eval_on(alloc: Global, e: &Expr, row: &[Cell]) -> Result<Cell, Memory>
+    requires { IsTyped (expr_seen e.now) row.now }
     ensures { IfOk result (λ c. c ≡ value_of (expr_seen e.now) row.now) }
 {
     match e {
@@ -57,9 +60,10 @@ fn eval_on(alloc: Global, e: &Expr, row: &[Cell]) -> Result<Cell, Memory>
     }
 }
 
-/// The values of some expressions on the cells of a row.
+/// The values of some expressions that are typed on the cells of a row.
 #[cycle(eval)]
 pub fn eval_each(alloc: Global, list: &[Expr], row: &[Cell]) -> Result<Items<Cell>, Memory>
+    requires { All (λ e. IsTyped (expr_seen e) row.now) list.now }
     ensures { IfOk result (λ cs. cs ≡ values_of (exprs (map expr_seen list.now)) row.now) }
 {
     let mut values = Items::new(alloc);

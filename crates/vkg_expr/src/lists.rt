@@ -1,5 +1,7 @@
 // What the steps of an expression make of lists of cells.
 ghost use Rattle.std.specs.Prelude.{◌≡◌, IfOk};
+ghost use Rattle.vkg_cells.specs.declared.cell.SqlType.TheVariants as kind;
+ghost use Rattle.vkg_expr.specs.Steps.{AllFit};
 ghost use Rattle.vkg_expr.specs.Value.{all_of, any_of, coalesced, concat_of, text_cell, truth_cell as cell_of_truth};
 
 use crate::cells::{truth_cell, truth_of};
@@ -12,12 +14,15 @@ use vkg_values::{conjunction, disjunction};
 /// The texts after each other, and NULL where one is.
 #[tactic(auto, using(crate::proofs::Texts::texts))]
 pub fn concatenation(alloc: Global, cells: &[Cell]) -> Result<Cell, Memory>
+    requires { AllFit kind.Text cells.now }
     ensures { IfOk result (λ c. c ≡ text_cell (concat_of cells.now)) }
 {
     let mut out = String::new(alloc);
     for cell in cells {
-        let Cell::Text(text) = cell else {
-            return Ok(Cell::Null);
+        let text = match cell {
+            Cell::Text(text) => text,
+            Cell::Null => return Ok(Cell::Null),
+            _ => unreachable!(),
         };
         out.push_str(text.as_str())?;
     }
@@ -25,6 +30,7 @@ pub fn concatenation(alloc: Global, cells: &[Cell]) -> Result<Cell, Memory>
 }
 
 pub fn all(cells: &[Cell]) -> Cell
+    requires { AllFit kind.Bool cells.now }
     ensures { result ≡ cell_of_truth (all_of cells.now) }
 {
     let mut all = Some(true);
@@ -35,6 +41,7 @@ pub fn all(cells: &[Cell]) -> Cell
 }
 
 pub fn any(cells: &[Cell]) -> Cell
+    requires { AllFit kind.Bool cells.now }
     ensures { result ≡ cell_of_truth (any_of cells.now) }
 {
     let mut any = Some(false);

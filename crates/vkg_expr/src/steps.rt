@@ -3,7 +3,7 @@ ghost use Rattle.std.specs.Prelude.{◌≡◌, IfOk, IsOkAnd};
 ghost use Rattle.vkg_cells.specs.Order.{same as same_cells};
 ghost use Rattle.vkg_expr.specs.Value.{truth_cell};
 ghost use Rattle.vkg_expr.specs.Seen.{expr_seen};
-ghost use Rattle.vkg_expr.specs.Steps.{of_each, of_one};
+ghost use Rattle.vkg_expr.specs.Steps.{TakesEach, TakesOne, of_each, of_one};
 
 use crate::expr::Expr;
 use crate::strict::is_null;
@@ -14,6 +14,7 @@ use vkg_cells::Cell;
 
 /// Of an expression of one part, on the part's value.
 pub fn after_one(alloc: Global, e: &Expr, value: Result<Cell, Memory>) -> Result<Cell, Memory>
+    requires { IfOk value (TakesOne (expr_seen e.now)) }
     ensures { IfOk result (λ c. IsOkAnd value (λ v. c ≡ of_one (expr_seen e.now) v)) }
 {
     let value = value?;
@@ -26,6 +27,7 @@ pub fn after_each(
     e: &Expr,
     values: Result<Items<Cell>, Memory>,
 ) -> Result<Cell, Memory>
+    requires { IfOk values (TakesEach (expr_seen e.now)) }
     ensures { IfOk result (λ c. IsOkAnd values (λ vs. c ≡ of_each (expr_seen e.now) vs)) }
 {
     let values = values?;
@@ -42,6 +44,7 @@ pub fn after_both(a: Result<Cell, Memory>, b: Result<Cell, Memory>) -> Result<Ce
 }
 
 fn step_of_one(alloc: Global, e: &Expr, value: &Cell) -> Result<Cell, Memory>
+    requires { TakesOne (expr_seen e.now) value.now }
     ensures { IfOk result (λ c. c ≡ of_one (expr_seen e.now) value.now) }
 {
     match e {
@@ -54,18 +57,19 @@ fn step_of_one(alloc: Global, e: &Expr, value: &Cell) -> Result<Cell, Memory>
         Expr::IsNull(_) => Ok(Cell::Bool(is_null(value))),
         Expr::Not(_) => Ok(cells::not(value)),
         Expr::Ebv(_) => cells::truth_of_term(alloc, value),
-        Expr::Col(_) => Ok(Cell::Null),
-        Expr::Const(_, _) => Ok(Cell::Null),
-        Expr::Concat(_) => Ok(Cell::Null),
-        Expr::Same(_, _) => Ok(Cell::Null),
-        Expr::And(_) => Ok(Cell::Null),
-        Expr::Or(_) => Ok(Cell::Null),
-        Expr::Coalesce(_) => Ok(Cell::Null),
-        Expr::Sparql(_, _) => Ok(Cell::Null),
+        Expr::Col(_) => unreachable!(),
+        Expr::Const(_, _) => unreachable!(),
+        Expr::Concat(_) => unreachable!(),
+        Expr::Same(_, _) => unreachable!(),
+        Expr::And(_) => unreachable!(),
+        Expr::Or(_) => unreachable!(),
+        Expr::Coalesce(_) => unreachable!(),
+        Expr::Sparql(_, _) => unreachable!(),
     }
 }
 
 fn step_of_each(alloc: Global, e: &Expr, values: &[Cell]) -> Result<Cell, Memory>
+    requires { TakesEach (expr_seen e.now) values.now }
     ensures { IfOk result (λ c. c ≡ of_each (expr_seen e.now) values.now) }
 {
     match e {
@@ -74,6 +78,6 @@ fn step_of_each(alloc: Global, e: &Expr, values: &[Cell]) -> Result<Cell, Memory
         Expr::Or(_) => Ok(lists::any(values)),
         Expr::Coalesce(_) => lists::first_known(values),
         Expr::Sparql(operator, _) => cells::operation(alloc, *operator, values),
-        _ => Ok(Cell::Null),
+        _ => unreachable!(),
     }
 }

@@ -1,3 +1,6 @@
+ghost use Rattle.std.specs.Prelude.{IfOk};
+ghost use Rattle.vkg_expr.specs.Laws.{HasKinds};
+
 use crate::{Expr, Operator, Row, eval, nulls_on_null, typed};
 use std::alloc::Global;
 use std::test::Fail;
@@ -113,7 +116,9 @@ fn made(alloc: Global, form: &str) -> Made {
 }
 
 // 7, `a b`, NULL and true.
-fn row(alloc: Global) -> Result<Row, Memory> {
+fn row(alloc: Global) -> Result<Row, Memory>
+    ensures { IfOk result (HasKinds KINDS) }
+{
     let mut row = Row::new(alloc);
     row.push(Cell::Int(Text::new(alloc, "7")?))?;
     row.push(Cell::Text(Text::new(alloc, "a b")?))?;
@@ -123,6 +128,17 @@ fn row(alloc: Global) -> Result<Row, Memory> {
 }
 
 const KINDS: [SqlType; 4] = [SqlType::Int, SqlType::Text, SqlType::Int, SqlType::Bool];
+
+// The value of an expression that is typed over them, else NULL.
+#[tactic(auto, using(crate::proofs::TypedParts::typed_by))]
+fn value_on(alloc: Global, e: &Expr, row: &Row) -> Result<Cell, Memory>
+    requires { HasKinds KINDS row.now }
+{
+    match typed(e, &KINDS) {
+        Some(_) => eval(alloc, e, row),
+        None => Ok(Cell::Null),
+    }
+}
 
 fn shown(alloc: Global, cell: &Cell) -> Result<String, Memory> {
     match cell {
@@ -157,7 +173,7 @@ fn each_form_has_its_kind_and_value(rt: HostRuntime) -> Result<(), Fail> {
     for (form, kind, value) in rows {
         let e = Box::new(rt.alloc(), made(rt.alloc(), form)?)?;
         assert_eq!(rt; typed(&e, &KINDS), Some(kind), "{form}");
-        let cell = eval(rt.alloc(), &e, &row)?;
+        let cell = value_on(rt.alloc(), &e, &row)?;
         assert_eq!(rt; shown(rt.alloc(), &cell)?.as_str(), value, "{form}");
     }
     Ok(())

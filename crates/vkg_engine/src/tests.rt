@@ -1,0 +1,174 @@
+use crate::{Rows, run};
+use std::alloc::Global;
+use std::process::Abort;
+use std::test::Fail;
+use vkg_base::{Box, Items, Memory};
+use vkg_cells::{Cell, SqlType, form};
+use vkg_expr::Expr;
+use vkg_plan::{CheckedPlan, Plan, well_typed};
+use vkg_schema::read_schema;
+use vkg_tables::Database;
+
+const COMPANY: &str =
+    "CREATE TABLE dept (id INTEGER PRIMARY KEY, title VARCHAR(20)); CREATE TABLE emp (id INTEGER PRIMARY KEY, name VARCHAR(20), dept INTEGER REFERENCES dept);";
+
+const DEPT: &[u8] = b"id,title\n1,Ore\n2,\\N\n";
+
+const EMP: &[u8] = b"id,name,dept\n7,Ann,1\n8,Bo,\\N\n9,Ann,1\n";
+
+type Made = Result<Plan, Memory>;
+
+type MadeExpr = Result<Expr, Memory>;
+
+fn company(rt: &impl Abort, alloc: Global) -> Database {
+    let schema = read_schema(alloc, COMPANY.as_bytes()).expect(rt, "a schema");
+    let mut database = Database::new(alloc, &schema).expect(rt, "a database");
+    assert!(rt; database.schema().tables().len() == 2);
+    database
+        .load_table(alloc, 0, DEPT)
+        .expect(rt, "departments");
+    assert!(rt; database.schema().tables().len() == 2);
+    database.load_table(alloc, 1, EMP).expect(rt, "employees");
+    database
+}
+
+fn same(alloc: Global, a: usize, b: usize) -> MadeExpr {
+    let a = Box::new(alloc, Expr::Col(a))?;
+    Ok(Expr::Same(a, Box::new(alloc, Expr::Col(b))?))
+}
+
+fn null_test(alloc: Global, at: usize) -> MadeExpr {
+    Ok(Expr::IsNull(Box::new(alloc, Expr::Col(at))?))
+}
+
+fn select(alloc: Global, c: MadeExpr, p: Made) -> Made {
+    let p = Box::new(alloc, p?)?;
+    Ok(Plan::Select(c?, p))
+}
+
+fn project(alloc: Global, at: usize, p: Made) -> Made {
+    let mut es = Items::new(alloc);
+    es.push(Expr::Col(at))?;
+    Ok(Plan::Project(es, Box::new(alloc, p?)?))
+}
+
+fn left(alloc: Global, p: Made, q: Made, c: MadeExpr) -> Made {
+    let p = Box::new(alloc, p?)?;
+    let q = Box::new(alloc, q?)?;
+    Ok(Plan::Left(p, q, c?))
+}
+
+fn distinct(alloc: Global, p: Made) -> Made {
+    Ok(Plan::Distinct(Box::new(alloc, p?)?))
+}
+
+fn scans(alloc: Global, first: usize, second: usize) -> Result<Items<Plan>, Memory> {
+    let mut ps = Items::new(alloc);
+    ps.push(Plan::Scan(first))?;
+    ps.push(Plan::Scan(second))?;
+    Ok(ps)
+}
+
+fn join(alloc: Global) -> Made {
+    let ps = scans(alloc, 1, 0)?;
+    Ok(Plan::Join(ps, same(alloc, 2, 3)?))
+}
+
+fn union(alloc: Global) -> Made {
+    Ok(Plan::UnionAll(scans(alloc, 0, 0)?))
+}
+
+fn empty(alloc: Global) -> Made {
+    Ok(Plan::Empty(Items::from_slice(alloc, &[SqlType::Int])?))
+}
+
+fn made(alloc: Global, node: &str) -> Made {
+    match node {
+        "Unit" => Ok(Plan::Unit),
+        "Empty" => empty(alloc),
+        "Scan" => Ok(Plan::Scan(0)),
+        "Select" => select(alloc, null_test(alloc, 2), Ok(Plan::Scan(1))),
+        "Select of unknown" => select(alloc, same(alloc, 2, 2), Ok(Plan::Scan(1))),
+        "Project" => project(alloc, 1, Ok(Plan::Scan(1))),
+        "Join" => join(alloc),
+        "Left" => left(
+            alloc,
+            Ok(Plan::Scan(1)),
+            Ok(Plan::Scan(0)),
+            same(alloc, 2, 3),
+        ),
+        "UnionAll" => union(alloc),
+        _ => distinct(alloc, union(alloc)),
+    }
+}
+
+// The cells of a row, with a comma between each two.
+fn line(alloc: Global, row: &[Cell]) -> Result<String, Memory> {
+    let mut line = String::new(alloc);
+    for (i, cell) in row.iter().enumerate() {
+        if i > 0 {
+            line.push(',')?;
+        }
+        line.push_str(form(cell).unwrap_or("NULL"))?;
+    }
+    Ok(line)
+}
+
+// The rows in the order of their lines, with a semicolon behind each.
+fn lines(rt: &impl Abort, alloc: Global, rows: &Rows) -> Result<String, Memory> {
+    let mut lines = Vec::new(alloc);
+    for i in 0..rows.len() {
+        lines.push(line(alloc, rows.row(i))?)?;
+    }
+    lines.sort().expect(rt, "sorted");
+    let mut all = String::new(alloc);
+    for line in &lines {
+        all.push_str(line.as_str())?;
+        all.push(';')?;
+    }
+    Ok(all)
+}
+
+// The rows of a plan, if it is well typed.
+fn rows_of(alloc: Global, database: &Database, plan: Plan) -> Result<Option<Rows>, Memory> {
+    if !well_typed(alloc, &plan, database.schema())? {
+        return Ok(None);
+    }
+    let plan = CheckedPlan::new(plan, database.schema());
+    Ok(Some(run(alloc, &plan, database)?))
+}
+
+// The lines of a plan's rows; of an ill-typed one a text that no rows have.
+fn shown(
+    rt: &impl Abort,
+    alloc: Global,
+    database: &Database,
+    node: &str,
+) -> Result<String, Memory> {
+    match rows_of(alloc, database, made(alloc, node)?)? {
+        None => Ok(String::from_str(alloc, "ill typed")?),
+        Some(rows) => lines(rt, alloc, &rows),
+    }
+}
+
+#[test]
+fn each_node_has_its_rows(rt: HostRuntime) -> Result<(), Fail> {
+    let table: [(&str, &str); 10] = [
+        ("Unit", ";"),
+        ("Empty", ""),
+        ("Scan", "1,Ore;2,NULL;"),
+        ("Select", "8,Bo,NULL;"),
+        ("Select of unknown", "7,Ann,1;9,Ann,1;"),
+        ("Project", "Ann;Ann;Bo;"),
+        ("Join", "7,Ann,1,1,Ore;9,Ann,1,1,Ore;"),
+        ("Left", "7,Ann,1,1,Ore;8,Bo,NULL,NULL,NULL;9,Ann,1,1,Ore;"),
+        ("UnionAll", "1,Ore;1,Ore;2,NULL;2,NULL;"),
+        ("Distinct", "1,Ore;2,NULL;"),
+    ];
+    let database = company(&rt, rt.alloc());
+    for (node, expected) in table {
+        let found = shown(&rt, rt.alloc(), &database, node)?;
+        assert_eq!(rt; found.as_str(), expected, "{node}");
+    }
+    Ok(())
+}
