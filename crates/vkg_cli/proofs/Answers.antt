@@ -1,8 +1,12 @@
 -- The answer of a command, by its work and what became of it.
-use Rattle.std.proofs.Common.{◌≡◌, inl, inr, ℕ, List, ◌++◌, length, take, refl, sym, ◌∙◌, ap, subst, Ok, Err, Some}
+use Rattle.std.proofs.Common.{◌≡◌, inl, inr, ℕ, List, [], ◌∷◌, ◌++◌, length, take, refl, sym, ◌∙◌, ap, subst, Ok, Err, Some}
 use Rattle.std.proofs.Math.Seq.{take-length}
 use Rattle.std.proofs.lemmas.List.{append-nil}
-use Rattle.std.specs.Prelude.{Result, Bool, true, false, codes, IfErr, Option, None, if◌then◌else◌, IsTrue, IsOk}
+use Rattle.std.specs.Prelude.{Result, Bool, true, false, codes, IfErr, IfOk, Option, None, if◌then◌else◌, IsTrue, IsOk, option_and_then, option_map}
+use Rattle.std.specs.Str.{bytes_eq}
+use Rattle.std.proofs.lemmas.Option.{same_Some}
+use Rattle.vkg_company.specs.Count.{count_in}
+use Rattle.vkg_gen.specs.Report.{IsReport}
 use Rattle.vkg_base.specs.Outside.{SinkState, StoreState}
 use Rattle.vkg_base.specs.declared.status.Status.{Status}
 use Rattle.vkg_base.specs.declared.status.Status.TheVariants.{ReadFault, Memory}
@@ -13,11 +17,12 @@ use Rattle.vkg_cli.specs.declared.stops.Stop.TheVariants as stop
 use Rattle.vkg_cli.specs.FaultLine.{status_of}
 use Rattle.vkg_cli.specs.declared.stops.Usage.TheVariants.{Base}
 use Rattle.vkg_terms.specs.Iri.{is_absolute}
-use Rattle.clap.specs.Words.{Text}
-use Rattle.vkg_cli.specs.Words.{Asked, Command, asked_of, base_of, help, is_help, refused, run, taken_command, with_base}
+use Rattle.clap.specs.Words.{Kinds, Row, Text, fault_of, first_of, subcommand_of}
+use Rattle.vkg_cli.specs.CommandLine.{vkg_app}
+use Rattle.vkg_cli.specs.Words.{Asked, Command, asked_of, asked_or, base_of, command_unless, dump_words, gen, gen_words, help, is_help, named_words, query_words, refused, run, sql_words, taken_command, with_base}
 use Rattle.vkg_cli.specs.Work.{MayStop, Works}
 use Rattle.vkg_cli.specs.Stages.{Stage, Asks, AsksSome, IsDetermined, Matches, Ran}
-use Rattle.vkg_cli.specs.Answer.{World, IsAnswer, IsCommandAnswer, IsRefused, Ends, Delivers, Tells, TellsStop}
+use Rattle.vkg_cli.specs.Answer.{World, IsAnswer, IsCommandAnswer, IsRefused, Ends, Delivers, Reports, Tells, TellsStop}
 use Rattle.vkg_cli.proofs.Whole.{determined_work}
 
 whole : {A : Type 0} (stage : Stage A) (before now : List (List ℕ)) (made : Result A Stop) → IsDetermined stage → Asks stage before now made → AsksSome stage before now
@@ -76,13 +81,52 @@ read_stop why err after is told = subst (λ w. TellsStop w err after ReadFault) 
 pub memory_stop : (why : Stop) (err after : SinkState) → why ≡ stop.Memory → Tells err after (codes "vkg: want of memory\n") → TellsStop why err after Memory
 memory_stop why err after is told = subst (λ w. TellsStop w err after Memory) (sym is) (refl, told)
 
-no_help : (command : Option Command) → with_base command ≡ help → ⊥
-no_help None e = cc e
-no_help (Some command) e = by (is_absolute (base_of command)) e
+no_help_of : (command : Command) → with_base command ≡ help → ⊥
+no_help_of command e = by (is_absolute (base_of command)) e
   where
     by : (b : Bool) → (if b then run command else refused Base) ≡ help → ⊥
     by true f = cc f
     by false f = cc f
+
+based : (command : Option Command) → option_map with_base command ≡ Some help → ⊥
+based None e = cc e
+based (Some command) e = no_help_of command (same_Some _ _ e)
+
+counted : (word : Option Text) → option_and_then (λ w. option_map gen (count_in w)) word ≡ Some help → ⊥
+counted None e = cc e
+counted (Some word) e = by (count_in word) e
+  where
+    by : (n : Option ℕ) → option_map gen n ≡ Some help → ⊥
+    by None f = cc f
+    by (Some n) f = cc f
+
+named : (name : Text) (rows : List Row) → named_words name rows ≡ Some help → ⊥
+named name rows e = by (bytes_eq name (codes "dump")) (bytes_eq name (codes "query")) (bytes_eq name (codes "sql")) (bytes_eq name (codes "gen")) e
+  where
+    by : (dumps asks writes reports : Bool)
+        → (if dumps then option_map with_base (dump_words rows) else if asks then option_map with_base (query_words rows)
+        else if writes then option_map with_base (sql_words rows) else if reports then gen_words rows else None) ≡ Some help → ⊥
+    by true asks writes reports f = based (dump_words rows) f
+    by false true writes reports f = based (query_words rows) f
+    by false false true reports f = based (sql_words rows) f
+    by false false false true f = counted (first_of (codes "N") rows) f
+    by false false false false f = cc f
+
+no_help_taken : (words : List Text) (kinds : Kinds) → command_unless kinds words ≡ Some help → ⊥
+no_help_taken words (k ∷ ks) e = cc e
+no_help_taken words [] e = by (subcommand_of vkg_app words) e
+  where
+    by : (found : Option (Text × List Row)) → option_and_then (λ p. named_words p.0 p.1) found ≡ Some help → ⊥
+    by None f = cc f
+    by (Some p) f = named p.0 p.1 f
+
+no_help : (words : List Text) → asked_or (taken_command words) ≡ help → ⊥
+unfolding taken_command
+no_help words e = by (taken_command words) (no_help_taken words (fault_of vkg_app words)) e
+  where
+    by : (asked : Option Asked) → (asked ≡ Some help → ⊥) → asked_or asked ≡ help → ⊥
+    by None never f = cc f
+    by (Some a) never f = never (ap Some f)
 
 -- what errs was not asked for help, where help never errs
 pub no_help_asked : {A B : Type 0} (asks : Bool) (result : Result A B) (e : B) → (IsTrue asks → IsOk result) → result ≡ Err e → asks ≡ false
@@ -94,8 +138,8 @@ no_help_asked true (Err x) e never is = let ok = never refl in cc ok
 pub short_words : (words : List Text) (store : StoreState) (out err after : SinkState) → is_help words ≡ false → Tells err after (codes "vkg: want of memory\n")
     → IsAnswer (asked_of words) (record { store = store; out = out; err = err }) (record { store = store; out = out; err = after }) Memory
 short_words words store out err after asks told =
-    subst (λ b. IsAnswer (if b then help else with_base (taken_command words)) (record { store = store; out = out; err = err }) (record { store = store; out = out; err = after }) Memory) (sym asks)
-    (by (with_base (taken_command words)) (no_help (taken_command words)))
+    subst (λ b. IsAnswer (if b then help else asked_or (taken_command words)) (record { store = store; out = out; err = err }) (record { store = store; out = out; err = after }) Memory) (sym asks)
+    (by (asked_or (taken_command words)) (no_help words))
   where
     by : (asked : Asked) → (asked ≡ help → ⊥) → IsAnswer asked (record { store = store; out = out; err = err }) (record { store = store; out = out; err = after }) Memory
     by help never = absurd (never refl)
@@ -104,3 +148,17 @@ short_words words store out err after asks told =
       asked = λ files known names outcome other. (0, sym (append-nil _));
       ends = record { out = refl; told = told };
     }
+    by (gen n) never = (refl, inr (inr (refl, record { out = refl; told = told })))
+
+-- the report on a company, by what became of its lines
+pub reports : (n : ℕ) (made : Result (List (List ℕ)) Stop) (store : StoreState) (out out' err err' : SinkState) (status : Status)
+    → IfOk made (IsReport n) → IfErr made (λ why. why ≡ stop.Memory) → Delivers made out out' err err' status
+    → Reports n (record { store = store; out = out; err = err }) (record { store = store; out = out'; err = err' }) status
+reports n (Ok lines) store out out' err err' status is may (inl (done, took, quiet)) = (refl, inl (done, record { lines = lines; report = is; taken = took; err = quiet }))
+reports n (Ok lines) store out out' err err' status is may (inr (ended, broke, told)) = (refl, inr (inl (ended, record { lines = lines; report = is; taken = broke; told = told })))
+reports n (Err (stop.Refused fault)) store out out' err err' status is may ends = cc may
+reports n (Err stop.Read) store out out' err err' status is may ends = cc may
+reports n (Err stop.Memory) store out out' err err' status is may (same, (short, told)) = (refl, inr (inr (short, record { out = same; told = told })))
+
+pub reports_to : (asked : Asked) (n : ℕ) (old new : World) (status : Status) → gen n ≡ asked → Reports n old new status → IsAnswer asked old new status
+reports_to asked n old new status is reports = subst (λ a. IsAnswer a old new status) is reports

@@ -11,10 +11,10 @@ use Rattle.vkg_cli.specs.declared.stops.Stop.{Stop}
 use Rattle.vkg_cli.specs.declared.stops.Stop.TheVariants as stop
 use Rattle.vkg_cli.specs.declared.stops.Usage.{Usage}
 use Rattle.vkg_cli.specs.FaultLine.{status_of}
-use Rattle.vkg_cli.specs.Words.{Asked, Command, DumpWords, SqlWords, dump, help, query, refused, run, sql}
+use Rattle.vkg_cli.specs.Words.{Asked, Command, DumpWords, SqlWords, dump, gen, help, query, refused, run, sql}
 use Rattle.vkg_cli.specs.Work.{MayStop}
-use Rattle.vkg_cli.specs.Answer.{Ends, HasFault, HasText, IsAnswer, IsDone, IsRefused, World}
-use Rattle.vkg_cli.specs.Clauses.{AsksInOrder, HelpIsGiven, IsComplete, IsDoneOnly, IsMemoryTold, IsNoOther, IsReadFaultOnly, IsRefusedExactly, IsUntouched, IsUsageExactly, IsWriteFaultOnly, Writes}
+use Rattle.vkg_cli.specs.Answer.{Ends, HasFault, HasText, IsAnswer, IsDone, IsRefused, Reports, World, WritesReport}
+use Rattle.vkg_cli.specs.Clauses.{AsksInOrder, HelpIsGiven, IsComplete, IsDoneOnly, IsMemoryTold, IsNoOther, IsReadFaultOnly, IsRefusedExactly, IsReported, IsUntouched, IsUsageExactly, IsWriteFaultOnly, Writes}
 use Rattle.vkg_cli.proofs.Headline.{headline}
 use Rattle.vkg_cli.proofs.Whole.{determined_work}
 
@@ -96,6 +96,18 @@ no_command_refused command usage e = cc
 no_refused_help : (usage : Usage) → refused usage ≡ help → ⊥
 no_refused_help usage e = cc
 
+no_command_gen : (command : Command) (n : ℕ) → run command ≡ gen n → ⊥
+no_command_gen command n e = cc e
+
+no_refused_gen : (usage : Usage) (n : ℕ) → refused usage ≡ gen n → ⊥
+no_refused_gen usage n e = cc e
+
+no_gen_help : (n : ℕ) → gen n ≡ help → ⊥
+no_gen_help n e = cc e
+
+same_gen : (n m : ℕ) → gen n ≡ gen m → n ≡ m
+same_gen n m e = cc e
+
 not_twice : {A : Type 0} (status one other : Status) → status ≡ one → status ≡ other → (one ≡ other → A) → A
 not_twice status one other a b absurdly = absurdly (sym a ∙ b)
 
@@ -148,12 +160,21 @@ module _ (old new : World) (status : Status) where
     err = is.err;
   }
 
+  -- `gen` ends with no other status
+  gen_ends : (n : ℕ) (other : Status) → Reports n old new status → status ≡ other → ¬ (other ≡ Done) → ¬ (other ≡ WriteFault) → ¬ (other ≡ Memory) → ⊥
+  gen_ends n other (same, inl (is, whole)) e a b c = a (sym e ∙ is)
+  gen_ends n other (same, inr (inl (is, broken))) e a b c = b (sym e ∙ is)
+  gen_ends n other (same, inr (inr (is, short))) e a b c = c (sym e ∙ is)
+
   pub done_only : (asked : Asked) → IsAnswer asked old new status → IsDoneOnly asked old new status
   done_only help (same, inl (is, took, quiet)) done = inl (refl, took, same, quiet)
   done_only help (same, inr (is, broke, told)) done = absurd (not_twice status Done WriteFault done is done_written)
   done_only (refused usage) (same, inl (is, why)) done = absurd (not_twice status Done BadWords done is (λ e. cc e))
   done_only (refused usage) (same, inr (is, why)) done = absurd (not_twice status Done Memory done is (λ e. cc e))
-  done_only (run command) is done = inr (command, refl, writes command (subst (Ends command old new) done is.ends))
+  done_only (run command) is done = inr (inl (command, refl, writes command (subst (Ends command old new) done is.ends)))
+  done_only (gen n) (same, inl (is, whole)) done = inr (inr (n, refl, same, whole))
+  done_only (gen n) (same, inr (inl (is, broken))) done = absurd (not_twice status Done WriteFault done is done_written)
+  done_only (gen n) (same, inr (inr (is, short))) done = absurd (not_twice status Done Memory done is (λ e. cc e))
 
   pub usage_exactly : (asked : Asked) → IsAnswer asked old new status → IsUsageExactly asked old new status
   usage_exactly help (same, inl (is, took, quiet)) = (λ bad. absurd (not_twice status BadWords Done bad is (λ e. cc e)), λ usage e. absurd (no_refused_help usage (sym e)))
@@ -161,12 +182,16 @@ module _ (old new : World) (status : Status) where
   usage_exactly (refused usage) (same, inl (is, why)) = (λ bad. (usage, refl, why.told), λ other e. inl is)
   usage_exactly (refused usage) (same, inr (is, why)) = (λ bad. absurd (not_twice status BadWords Memory bad is (λ e. cc e)), λ other e. inr is)
   usage_exactly (run command) is = (λ bad. absurd (subst (Ends command old new) bad is.ends), λ usage e. absurd (no_command_refused command usage e))
+  usage_exactly (gen n) is = (λ bad. absurd (gen_ends n BadWords is bad (λ e. cc e) (λ e. cc e) (λ e. cc e)), λ usage e. absurd (no_refused_gen usage n (sym e)))
 
   pub no_other : (asked : Asked) → IsAnswer asked old new status → IsNoOther asked status
   no_other help is = tt
   no_other (refused usage) is = tt
   no_other (run (dump words)) is = λ bad. no_query old new words (subst (Ends (dump words) old new) bad is.ends)
   no_other (run (query words)) is = tt
+  no_other (gen n) (same, inl (is, whole)) = inl is
+  no_other (gen n) (same, inr (inl (is, broken))) = inr (inl is)
+  no_other (gen n) (same, inr (inr (is, short))) = inr (inr is)
   no_other (run (sql words)) is = (λ bad. no_table old new words (subst (Ends (sql words) old new) bad is.ends), λ bad. no_data old new words (subst (Ends (sql words) old new) bad is.ends))
 
   pub memory_told : (asked : Asked) → IsAnswer asked old new status → IsMemoryTold old new status
@@ -174,6 +199,9 @@ module _ (old new : World) (status : Status) where
   memory_told help (same, inr (is, broke, told)) short = absurd (not_twice status Memory WriteFault short is (λ e. cc e))
   memory_told (refused usage) (same, inl (is, why)) short = absurd (not_twice status Memory BadWords short is (λ e. cc e))
   memory_told (refused usage) (same, inr (is, why)) short = why.told
+  memory_told (gen n) (same, inl (is, whole)) short = absurd (not_twice status Memory Done short is (λ e. cc e))
+  memory_told (gen n) (same, inr (inl (is, broken))) short = absurd (not_twice status Memory WriteFault short is (λ e. cc e))
+  memory_told (gen n) (same, inr (inr (is, why))) short = why.told
   memory_told (run command) is short = let ends = subst (Ends command old new) short is.ends in ends.told
 
   pub read_only : (asked : Asked) → IsAnswer asked old new status → IsReadFaultOnly old new status
@@ -181,6 +209,7 @@ module _ (old new : World) (status : Status) where
   read_only help (same, inr (is, broke, told)) unread = absurd (not_twice status ReadFault WriteFault unread is (λ e. cc e))
   read_only (refused usage) (same, inl (is, why)) unread = absurd (not_twice status ReadFault BadWords unread is (λ e. cc e))
   read_only (refused usage) (same, inr (is, why)) unread = absurd (not_twice status ReadFault Memory unread is (λ e. cc e))
+  read_only (gen n) is unread = absurd (gen_ends n ReadFault is unread (λ e. cc e) (λ e. cc e) (λ e. cc e))
   read_only (run command) is unread = let ends = subst (Ends command old new) unread is.ends in (ends.rose, ends.told)
 
   pub write_only : (asked : Asked) → IsAnswer asked old new status → IsWriteFaultOnly asked old new status
@@ -188,13 +217,19 @@ module _ (old new : World) (status : Status) where
   write_only help (same, inr (is, broke, told)) unwritten = inl (refl, broke, told)
   write_only (refused usage) (same, inl (is, why)) unwritten = absurd (not_twice status WriteFault BadWords unwritten is (λ e. cc e))
   write_only (refused usage) (same, inr (is, why)) unwritten = absurd (not_twice status WriteFault Memory unwritten is (λ e. cc e))
-  write_only (run command) is unwritten = inr (command, refl, subst (Ends command old new) unwritten is.ends)
+  write_only (run command) is unwritten = inr (inl (command, refl, subst (Ends command old new) unwritten is.ends))
+  write_only (gen n) (same, inl (is, whole)) unwritten = absurd (not_twice status Done WriteFault is unwritten done_written)
+  write_only (gen n) (same, inr (inl (is, broken))) unwritten = inr (inr (n, refl, broken))
+  write_only (gen n) (same, inr (inr (is, short))) unwritten = absurd (not_twice status WriteFault Memory unwritten is (λ e. cc e))
 
   pub untouched : (asked : Asked) → IsAnswer asked old new status → IsUntouched old new status
   untouched help (same, inl (is, took, quiet)) a b = absurd (a is)
   untouched help (same, inr (is, broke, told)) a b = absurd (b is)
   untouched (refused usage) (same, inl (is, why)) a b = why.out
   untouched (refused usage) (same, inr (is, why)) a b = why.out
+  untouched (gen n) (same, inl (is, whole)) a b = absurd (a is)
+  untouched (gen n) (same, inr (inl (is, broken))) a b = absurd (b is)
+  untouched (gen n) (same, inr (inr (is, short))) a b = short.out
   untouched (run command) is a b = untouched_by command old new status is.ends a b
 
   pub help_given : (asked : Asked) → IsAnswer asked old new status → HelpIsGiven asked status
@@ -202,10 +237,20 @@ module _ (old new : World) (status : Status) where
   help_given help (same, inr (is, broke, told)) e = inr is
   help_given (refused usage) is e = absurd (no_refused_help usage e)
   help_given (run command) is e = absurd (no_command_help command e)
+  help_given (gen n) is e = absurd (no_gen_help n e)
+
+  pub reported : (asked : Asked) → IsAnswer asked old new status → IsReported asked old new status
+  reported help is n e quiet = absurd (no_gen_help n (sym e))
+  reported (refused usage) is n e quiet = absurd (no_refused_gen usage n e)
+  reported (run command) is n e quiet = absurd (no_command_gen command n e)
+  reported (gen m) (same, inl (is, whole)) n e quiet = inl (is, subst (λ k. WritesReport k old new) (same_gen m n e) whole)
+  reported (gen m) (same, inr (inl (is, broken))) n e quiet = absurd (quiet broken.taken.faults)
+  reported (gen m) (same, inr (inr (is, short))) n e quiet = inr is
 
   pub complete : (asked : Asked) → IsAnswer asked old new status → IsComplete asked old new status
   complete help is command e files told lines text read write = absurd (no_command_help command (sym e))
   complete (refused usage) is command e files told lines text read write = absurd (no_command_refused command usage (sym e))
+  complete (gen n) is command e files told lines text read write = absurd (no_command_gen command n (sym e))
   complete (run asked) is command e files told lines text read write =
       let same = same_command asked command e in
       complete_by asked old new files told lines (subst (λ o. HasText o files lines) (sym same) text) read write status is.ends
@@ -214,6 +259,7 @@ module _ (old new : World) (status : Status) where
   in_order help is = is.0
   in_order (refused usage) is = is.0
   in_order (run command) is = is.asked
+  in_order (gen n) is = is.0
 
   -- how one of the statuses of faults follows from the answer
   refused_exactly : (bad : Status) → ((command : Command) → Ends command old new bad → IsRefused command old new bad) → ¬ (bad ≡ Done) → ¬ (bad ≡ WriteFault) → ¬ (bad ≡ BadWords) → ¬ (bad ≡ Memory)
@@ -222,6 +268,7 @@ module _ (old new : World) (status : Status) where
   refused_exactly bad by a b c d help (same, inr (is, broke, told)) = (λ e. absurd (b (sym e ∙ is)), λ command e. absurd (no_command_help command (sym e)))
   refused_exactly bad by a b c d (refused usage) (same, inl (is, why)) = (λ e. absurd (c (sym e ∙ is)), λ command e. absurd (no_command_refused command usage (sym e)))
   refused_exactly bad by a b c d (refused usage) (same, inr (is, why)) = (λ e. absurd (d (sym e ∙ is)), λ command e. absurd (no_command_refused command usage (sym e)))
+  refused_exactly bad by a b c d (gen n) is = (λ e. absurd (gen_ends n bad is e a b d), λ command e. absurd (no_command_gen command n (sym e)))
   refused_exactly bad by a b c d (run asked) is = (
     λ e. (asked, refl, by asked (subst (Ends asked old new) e is.ends)),
     λ command e files told fault has same.

@@ -4,13 +4,14 @@ use Rattle.vkg_base.specs.Outside.{Files, StoreState, SinkState, Rose, Took, Bro
 use Rattle.vkg_base.specs.Written.{written}
 use Rattle.vkg_base.specs.declared.status.Status.{Status}
 use Rattle.vkg_base.specs.declared.status.Status.TheVariants.{Done, Usage as BadWords, BadSchema, BadTable, BadMapping, BadData, BadQuery, ReadFault, WriteFault, Memory}
+use Rattle.vkg_gen.specs.Report.{IsReport}
 use Rattle.vkg_cli.specs.declared.stops.Fault.{Fault}
 use Rattle.vkg_cli.specs.declared.stops.Usage.{Usage}
 use Rattle.vkg_cli.specs.declared.stops.Stop.{Stop}
 use Rattle.vkg_cli.specs.declared.stops.Stop.TheVariants as stop
 use Rattle.vkg_cli.specs.FaultLine.{fault_line, status_of, usage_line}
 use Rattle.vkg_cli.specs.Stages.{AsksSome}
-use Rattle.vkg_cli.specs.Words.{Asked, Command, help, refused, run}
+use Rattle.vkg_cli.specs.Words.{Asked, Command, gen, help, refused, run}
 use Rattle.vkg_cli.specs.Work.{MayStop, Works}
 
 -- the store of files, the output and the standard error
@@ -96,6 +97,7 @@ help_lines =
     codes "vkg dump --schema F --data DIR --base IRI [--mapping F]"
     ∷ codes "vkg query --schema F --data DIR --base IRI --query F [--mapping F]"
     ∷ codes "vkg sql --schema F --base IRI --query F [--mapping F]"
+    ∷ codes "vkg gen N"
     ∷ []
 
 abbrev pub help_text : List ℕ
@@ -118,11 +120,32 @@ pub record IsUsage (usage : Usage) (old new : World) : Type 0 where
 abbrev pub Rejects : Usage → World → World → Status → Type 0
 Rejects usage old new status = (new.store ≡ old.store) × (((status ≡ BadWords) × IsUsage usage old new) ⊎ ((status ≡ Memory) × IsShort old new))
 
+-- all of the report on a company was taken, and nothing was told
+pub record WritesReport (n : ℕ) (old new : World) : Type 0 where
+  pub lines : List (List ℕ)
+  pub report : IsReport n lines
+  pub taken : Took old.out new.out (written lines)
+  pub err : new.err ≡ old.err
+
+-- a write failed, after a prefix of the report
+pub record BreaksReport (n : ℕ) (old new : World) : Type 0 where
+  pub lines : List (List ℕ)
+  pub report : IsReport n lines
+  pub taken : Broke old.out new.out (written lines)
+  pub told : Tells old.err new.err (codes "vkg: write fault\n")
+
+-- the words ask for the report on a company: no file is asked for
+abbrev pub Reports : ℕ → World → World → Status → Type 0
+Reports n old new status =
+    (new.store ≡ old.store)
+    × (((status ≡ Done) × WritesReport n old new) ⊎ ((status ≡ WriteFault) × BreaksReport n old new) ⊎ ((status ≡ Memory) × IsShort old new))
+
 -- the whole answer
 abbrev pub IsAnswer : Asked → World → World → Status → Type 0
 IsAnswer help old new status = Helps old new status
 IsAnswer (refused usage) old new status = Rejects usage old new status
 IsAnswer (run command) old new status = IsCommandAnswer command old new status
+IsAnswer (gen n) old new status = Reports n old new status
 
 -- why there is no text is told
 abbrev pub TellsStop : Stop → SinkState → SinkState → Status → Type 0

@@ -9,9 +9,9 @@ use Rattle.vkg_cli.specs.declared.stops.Usage.{Usage}
 use Rattle.vkg_cli.specs.FaultLine.{status_of, usage_line}
 use Rattle.vkg_cli.specs.Headline.{IsTextOf}
 use Rattle.vkg_cli.specs.Stages.{AsksSome}
-use Rattle.vkg_cli.specs.Words.{Asked, Command, dump, help, refused, run, sql}
+use Rattle.vkg_cli.specs.Words.{Asked, Command, dump, gen, help, refused, run, sql}
 use Rattle.vkg_cli.specs.Work.{Works}
-use Rattle.vkg_cli.specs.Answer.{HasFault, HasText, IsRefused, IsUnwritten, Tells, WhereTold, World, help_text}
+use Rattle.vkg_cli.specs.Answer.{BreaksReport, HasFault, HasText, IsRefused, IsUnwritten, Tells, WhereTold, World, WritesReport, help_text}
 
 -- A command is done: the output took the lines, each with its line feed; no fault was counted, and nothing was told.
 pub record Writes (command : Command) (old new : World) : Type 0 where
@@ -26,6 +26,7 @@ abbrev pub IsDoneOnly : Asked → World → World → Status → Type 0
 IsDoneOnly asked old new status = status ≡ Done →
     ((asked ≡ help) × Took old.out new.out help_text × (new.store ≡ old.store) × (new.err ≡ old.err))
     ⊎ ((command : Command) × (asked ≡ run command) × Writes command old new)
+    ⊎ ((n : ℕ) × (asked ≡ gen n) × (new.store ≡ old.store) × WritesReport n old new)
 
 -- Usage: exactly where the words are not taken, but for want of memory; they are told so.
 abbrev pub IsUsageExactly : Asked → World → World → Status → Type 0
@@ -50,16 +51,22 @@ abbrev pub IsWriteFaultOnly : Asked → World → World → Status → Type 0
 IsWriteFaultOnly asked old new status = status ≡ WriteFault →
     ((asked ≡ help) × Broke old.out new.out help_text × Tells old.err new.err (codes "vkg: write fault\n"))
     ⊎ ((command : Command) × (asked ≡ run command) × IsUnwritten command old new)
+    ⊎ ((n : ℕ) × (asked ≡ gen n) × BreaksReport n old new)
 
--- `dump` reads no query, and `sql` no table: neither is told to be at fault.
+-- `dump` reads no query, and `sql` no table: neither is told to be at fault. `gen` reads nothing that can be.
 abbrev pub IsNoOther : Asked → Status → Type 0
 IsNoOther (run (dump words)) status = ¬ (status ≡ BadQuery)
 IsNoOther (run (sql words)) status = ¬ (status ≡ BadTable) × ¬ (status ≡ BadData)
+IsNoOther (gen n) status = (status ≡ Done) ⊎ (status ≡ WriteFault) ⊎ (status ≡ Memory)
 IsNoOther asked status = Unit {0}
 
 -- Memory: it is told.
 abbrev pub IsMemoryTold : World → World → Status → Type 0
 IsMemoryTold old new status = status ≡ Memory → Tells old.err new.err (codes "vkg: want of memory\n")
+
+-- The report on a company is written, but for counted faults of the output and want of memory.
+abbrev pub IsReported : Asked → World → World → Status → Type 0
+IsReported asked old new status = (n : ℕ) → asked ≡ gen n → ¬ (Rose old.out.faults new.out.faults) → ((status ≡ Done) × WritesReport n old new) ⊎ (status ≡ Memory)
 
 -- Where there is a text, it is written, but for counted faults and want of memory.
 abbrev pub IsComplete : Asked → World → World → Status → Type 0
@@ -76,8 +83,9 @@ HelpIsGiven asked status = asked ≡ help → (status ≡ Done) ⊎ (status ≡ 
 abbrev pub IsUntouched : World → World → Status → Type 0
 IsUntouched old new status = ¬ (status ≡ Done) → ¬ (status ≡ WriteFault) → new.out ≡ old.out
 
--- The names asked for are the first of those that the command loads, in its order; without a command there are none.
+-- The names asked for are the first of those that the command loads, in its order; without one over files there are none.
 abbrev pub AsksInOrder : Asked → World → World → Type 0
 AsksInOrder help old new = new.store ≡ old.store
 AsksInOrder (refused usage) old new = new.store ≡ old.store
+AsksInOrder (gen n) old new = new.store ≡ old.store
 AsksInOrder (run command) old new = WhereTold old (λ files. AsksSome (Works command files) old.store.asked new.store.asked)

@@ -19,6 +19,13 @@ optional_rule name = record (new_rule name) {
   action = Some Set;
 }
 
+-- a word of its own, which has to be given
+abbrev pub word_rule : Text → Rule
+word_rule name = record (new_rule name) {
+  required = true;
+  action = Some Set;
+}
+
 -- a command over a schema, tables and a base
 abbrev pub tables_app : Text → App
 tables_app name = with_rule (with_rule (with_rule (new_app name) (option_rule (codes "schema"))) (option_rule (codes "data"))) (option_rule (codes "base"))
@@ -34,6 +41,9 @@ sql_app =
     with_rule (with_rule (with_rule (with_rule (new_app (codes "sql")) (option_rule (codes "schema"))) (option_rule (codes "base"))) (option_rule (codes "query")))
     (optional_rule (codes "mapping"))
 
+abbrev pub gen_app : App
+gen_app = with_rule (new_app (codes "gen")) (word_rule (codes "N"))
+
 -- no flag or command asks for help or a version, and a command has to be named
 abbrev pub vkg_alone : App
 vkg_alone = on_top (λ s. record s {
@@ -45,4 +55,4 @@ vkg_alone = on_top (λ s. record s {
 
 -- the whole command line
 abbrev pub vkg_app : App
-vkg_app = with_subcommand (with_subcommand (with_subcommand vkg_alone dump_app.top) query_app.top) sql_app.top
+vkg_app = with_subcommand (with_subcommand (with_subcommand (with_subcommand vkg_alone dump_app.top) query_app.top) sql_app.top) gen_app.top

@@ -2,7 +2,7 @@
 ghost use Rattle.std.specs.Prelude.{◌≡◌, IfOk, false};
 ghost use Rattle.clap.specs.Words.{app_of, rule_of};
 ghost use Rattle.clap.specs.declared.builder.Command.TheViews.{out-Command};
-ghost use Rattle.vkg_cli.specs.CommandLine.{dump_app, option_rule, optional_rule, query_app, sql_app, tables_app, vkg_alone, vkg_app};
+ghost use Rattle.vkg_cli.specs.CommandLine.{dump_app, gen_app, option_rule, optional_rule, query_app, sql_app, tables_app, vkg_alone, vkg_app, word_rule};
 
 use clap::{Arg, ArgAction, Command};
 use std::alloc::{AllocError, Global};
@@ -24,6 +24,14 @@ fn optional<'a>(alloc: Global, name: &'a str) -> Arg<'a>
     ensures local { result.global ≡ false }
 {
     Arg::new(alloc, name).long(name).action(ArgAction::Set)
+}
+
+/// A word of its own, which has to be given.
+fn word<'a>(alloc: Global, name: &'a str) -> Arg<'a>
+    ensures rule { rule_of result ≡ word_rule name.entry.now }
+    ensures local { result.global ≡ false }
+{
+    Arg::new(alloc, name).required(true).action(ArgAction::Set)
 }
 
 /// A command over a schema, tables and a base.
@@ -64,6 +72,13 @@ fn sql<'a>(alloc: Global) -> Result<Command<'a>, AllocError>
         .arg(optional(alloc, "mapping"))
 }
 
+fn gen_command<'a>(alloc: Global) -> Result<Command<'a>, AllocError>
+    ensures app { IfOk result (λ c. app_of c ≡ gen_app) }
+    ensures local { IfOk result (λ c. (out-Command c).has_globals ≡ false) }
+{
+    Command::new(alloc, "gen").arg(word(alloc, "N"))
+}
+
 /// The program without a command. No flag or command asks for help or a version, and a command has to be named.
 fn alone<'a>(alloc: Global) -> Command<'a>
     ensures { app_of result ≡ vkg_alone }
@@ -82,5 +97,6 @@ pub fn program<'a>(alloc: Global) -> Result<Command<'a>, AllocError>
     alone(alloc)
         .subcommand(dump(alloc)?)?
         .subcommand(query(alloc)?)?
-        .subcommand(sql(alloc)?)
+        .subcommand(sql(alloc)?)?
+        .subcommand(gen_command(alloc)?)
 }

@@ -35,7 +35,7 @@ fn help_is_written(rt: HostRuntime) -> Result<(), Fail> {
     assert!(rt; ended.status == Status::Done);
     assert_eq!(rt;
         ended.out.as_slice(),
-        b"vkg dump --schema F --data DIR --base IRI [--mapping F]\nvkg query --schema F --data DIR --base IRI --query F [--mapping F]\nvkg sql --schema F --base IRI --query F [--mapping F]\n".as_slice()
+        b"vkg dump --schema F --data DIR --base IRI [--mapping F]\nvkg query --schema F --data DIR --base IRI --query F [--mapping F]\nvkg sql --schema F --base IRI --query F [--mapping F]\nvkg gen N\n".as_slice()
     );
     assert_eq!(rt; ended.err.as_slice(), b"".as_slice());
     Ok(())
@@ -56,6 +56,18 @@ fn words_are_not_taken(rt: HostRuntime) -> Result<(), Fail> {
     assert!(rt; ended.status == Status::Usage);
     assert_eq!(rt; ended.out.as_slice(), b"".as_slice());
     assert_eq!(rt; ended.err.as_slice(), b"vkg: words not taken\n".as_slice());
+    Ok(())
+}
+
+#[test]
+fn ten_employees_are_generated(rt: HostRuntime) -> Result<(), Fail> {
+    let ended = call(rt.alloc(), ["vkg", "gen", "10"].as_slice(), 200)?;
+    assert!(rt; ended.status == Status::Done);
+    assert_eq!(rt;
+        ended.out.as_slice(),
+        b"quads 52\nnames 10\ndistinct 7\ndepts 10\n".as_slice()
+    );
+    assert_eq!(rt; ended.err.as_slice(), b"".as_slice());
     Ok(())
 }
 

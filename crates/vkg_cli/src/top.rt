@@ -1,22 +1,24 @@
 // The top call.
-ghost use Rattle.std.specs.Prelude.{◌≡◌, OnErr, OnOk, map, string_bytes};
+ghost use Rattle.std.specs.Prelude.{◌≡◌, ◌<◌, ◌≤◌, OnErr, OnOk, map, string_bytes};
 ghost use Rattle.std.specs.List.{flat_map};
-ghost use Rattle.vkg_base.specs.Outside.{Broke, Took};
-ghost use Rattle.vkg_cli.specs.Answer.{Delivers, IsAnswer, Tells, TellsStop, World, WritesHelp};
-ghost use Rattle.vkg_cli.specs.Clauses.{AsksInOrder, HelpIsGiven, IsComplete, IsDoneOnly, IsMemoryTold, IsNoOther, IsReadFaultOnly, IsRefusedExactly, IsUntouched, IsUsageExactly, IsWriteFaultOnly};
+ghost use Rattle.vkg_base.specs.Outside.{Broke, StoreState, Took};
+ghost use Rattle.vkg_cli.specs.Answer.{Delivers, IsAnswer, Reports, Tells, TellsStop, World, WritesHelp};
+ghost use Rattle.vkg_cli.specs.Clauses.{AsksInOrder, HelpIsGiven, IsComplete, IsDoneOnly, IsMemoryTold, IsNoOther, IsReadFaultOnly, IsRefusedExactly, IsReported, IsUntouched, IsUsageExactly, IsWriteFaultOnly};
 ghost use Rattle.vkg_cli.specs.Words.{asked_of};
 
 use crate::Stop;
+use crate::company::text_of_gen;
 use crate::fault_line::{fault_line, fault_status, usage_line};
 use crate::words::{Request, read_request};
 use crate::work::text_of;
 use std::alloc::Global;
 use vkg_base::{Lines, Memory, Sink, Status, Store, WriteFault};
 
-const HELP: [&str; 3] = [
+const HELP: [&str; 4] = [
     "vkg dump --schema F --data DIR --base IRI [--mapping F]\n",
     "vkg query --schema F --data DIR --base IRI --query F [--mapping F]\n",
     "vkg sql --schema F --base IRI --query F [--mapping F]\n",
+    "vkg gen N\n",
 ];
 
 /// Tells one line. A sink that fails changes nothing else.
@@ -94,6 +96,18 @@ fn write_help<O: Sink, E: Sink>(out: &mut O, err: &mut E) -> Status
     }
 }
 
+/// Writes the report on a company, or tells why there is none. No file is asked for.
+fn write_report<O: Sink, E: Sink>(alloc: Global, n: usize, out: &mut O, err: &mut E) -> Status
+    requires some { 0 < n }
+    requires limit { n ≤ 100000 }
+    ensures { (store : StoreState) → Reports n
+        (record { store = store; out = O.state out.old; err = E.state err.old })
+        (record { store = store; out = O.state out.new; err = E.state err.new }) result }
+{
+    let made = text_of_gen(alloc, n);
+    deliver(made, out, err)
+}
+
 fn run<S: Store, O: Sink, E: Sink>(
     alloc: Global,
     words: &Vec<String>,
@@ -115,6 +129,7 @@ fn run<S: Store, O: Sink, E: Sink>(
             let made = text_of(alloc, store, &command);
             deliver(made, out, err)
         }
+        Ok(Request::Gen(n)) => write_report(alloc, n, out, err),
         Err(Memory) => {
             tell(err, "vkg: want of memory\n");
             Status::Memory
@@ -124,7 +139,7 @@ fn run<S: Store, O: Sink, E: Sink>(
 
 /// Does what the words ask for, of which the first is the program's name: loads files from the store, writes to `out`, and
 /// tells one line of `err` where it stops.
-#[tactic(auto, using(crate::proofs::Clauses::done_only, crate::proofs::Clauses::usage_exactly, crate::proofs::Clauses::bad_schema, crate::proofs::Clauses::bad_table, crate::proofs::Clauses::bad_mapping, crate::proofs::Clauses::bad_data, crate::proofs::Clauses::bad_query, crate::proofs::Clauses::read_only, crate::proofs::Clauses::write_only, crate::proofs::Clauses::memory_told, crate::proofs::Clauses::no_other, crate::proofs::Clauses::complete, crate::proofs::Clauses::help_given, crate::proofs::Clauses::untouched, crate::proofs::Clauses::in_order))]
+#[tactic(auto, using(crate::proofs::Clauses::done_only, crate::proofs::Clauses::usage_exactly, crate::proofs::Clauses::bad_schema, crate::proofs::Clauses::bad_table, crate::proofs::Clauses::bad_mapping, crate::proofs::Clauses::bad_data, crate::proofs::Clauses::bad_query, crate::proofs::Clauses::read_only, crate::proofs::Clauses::write_only, crate::proofs::Clauses::memory_told, crate::proofs::Clauses::no_other, crate::proofs::Clauses::complete, crate::proofs::Clauses::help_given, crate::proofs::Clauses::reported, crate::proofs::Clauses::untouched, crate::proofs::Clauses::in_order))]
 pub fn vkg<S: Store, O: Sink, E: Sink>(
     alloc: Global,
     words: &Vec<String>,
@@ -164,6 +179,9 @@ pub fn vkg<S: Store, O: Sink, E: Sink>(
         (record { store = S.state store.new; out = O.state out.new; err = E.state err.new }) result }
     ensures no_other { IsNoOther (asked_of (map string_bytes words.now.items)) result }
     ensures complete { IsComplete (asked_of (map string_bytes words.now.items))
+        (record { store = S.state store.old; out = O.state out.old; err = E.state err.old })
+        (record { store = S.state store.new; out = O.state out.new; err = E.state err.new }) result }
+    ensures reported { IsReported (asked_of (map string_bytes words.now.items))
         (record { store = S.state store.old; out = O.state out.old; err = E.state err.old })
         (record { store = S.state store.new; out = O.state out.new; err = E.state err.new }) result }
     ensures help { HelpIsGiven (asked_of (map string_bytes words.now.items)) result }

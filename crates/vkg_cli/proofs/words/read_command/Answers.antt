@@ -13,7 +13,7 @@ returns-in-Ok-clause-value c =
     let words = ap (map string_bytes) c.as_slice.ensures.value in
     let fault : fault_of vkg_app texts ≡ [] = ap₂ fault_of (sym app) (sym words) ∙ c.in-Ok.ensures.kinds (ap is_simple_and_free app ∙ simple-and-free) in
     let used : subcommand_rows_of c.in-Ok.matches ≡ subcommand_of vkg_app texts = (c.in-Ok.ensures.matches (ap is_simple app ∙ simple)).1 ∙ ap₂ subcommand_of app words in
-    c.read_matches.ensures ∙ ap (option_and_then (λ p. named_words p.0 p.1)) used ∙ sym (asked-taken texts fault)
+    c.read_matches.ensures.value ∙ ap (option_and_then (λ p. named_words p.0 p.1)) used ∙ sym (asked-taken texts fault)
 
 pub returns-clause-value : goal.returns-clause-value
 returns-clause-value c =

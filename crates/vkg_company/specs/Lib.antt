@@ -1,0 +1,2 @@
+pub mod Company
+pub mod Count
