@@ -1,9 +1,10 @@
+use crate::plain::compare;
 use std::alloc::{AllocError, AllocFailed, Global};
-use vkg_base::{Failed, FixedLine, MemSink, Memory, Sink, Store};
+use vkg_base::{Failed, FixedLine, MemSink, Memory, Sink, Status, Store};
 use vkg_cli::vkg;
 
 /// Room for what one call writes.
-const ROOM: usize = 1 << 20;
+pub const ROOM: usize = 1 << 20;
 
 /// A case was not run to its end.
 #[derive(Drop)]
@@ -33,7 +34,8 @@ impl From<Failed> for Stopped {
     }
 }
 
-/// Makes the call of a line, and writes the case's name, what the call wrote and told, and its status.
+/// Makes the call of a line, and writes the case's name, what the call wrote and told, and its status; behind that of an answered
+/// query, whether the plain evaluation over the dump gives the same answer.
 pub fn run_case<S: Store, O: Sink>(
     alloc: Global,
     line: &str,
@@ -59,5 +61,17 @@ pub fn run_case<S: Store, O: Sink>(
     end.push_number(u64::from(status.number()));
     end.push_str("\n");
     out.write(end.as_bytes())?;
+    if status == Status::Done && is_query(&words) {
+        let comparison = compare(alloc, &words, store, written.taken())?;
+        out.write(comparison.line())?;
+    }
     Ok(())
+}
+
+/// Whether the words ask for the answer to a query.
+fn is_query(words: &[String]) -> bool {
+    match words.get(1) {
+        Some(word) => word.as_str() == "query",
+        None => false,
+    }
 }

@@ -1,12 +1,14 @@
 //! Worked cases: calls of `vkg` on files, one after another, with what each writes and answers.
 //!
 //! The file `cases` has a line for each: its name, and the words of the call. The gate compares what this program prints with
-//! the file `stdout`, whose texts were made from the standards' definitions and not by the program.
+//! the file `stdout`, whose texts were made from the standards' definitions and not by the program. Each answer to a query is
+//! also compared with the plain evaluation of the query's algebra over the quads that `dump` writes (SPARQL 1.1, 18.6).
 //!
-//! Stands on `vkg_cli` (the top call) and `vkg_base` (stores, sinks).
+//! Stands on `vkg_cli` (the top call), `vkg_base` (stores, sinks), `vkg_sparql` (queries) and `vkg_plain` (the plain evaluation).
 #![tactic(auto)]
 
 mod case;
+mod plain;
 
 use crate::case::run_case;
 use std::process::ExitCode;

@@ -1,0 +1,39 @@
+//! The plain evaluation of a query: its algebra over a list of quads, operator by operator, by nested loops.
+//!
+//! Follows SPARQL 1.1 Query Language (W3C Recommendation of 2013), 18.3 to 18.6 and 18.2.5, and reads the lines of RDF 1.1
+//! N-Quads that `dump` writes. `evaluate` answers exactly the solutions of an algebra, and `answer` those of a query, in the
+//! order of the definitions in `vkg_algebra`; where a filter asks for the value of a number of more than 38 digits, that is a
+//! fault. `read_quads` answers quads only where the text is their lines, and `solution_lines` the header and lines of solutions.
+//! It is for tests: it looks at each pair of solutions, and reads no mapping and no table.
+//!
+//! Stands on `vkg_algebra` (the algebra, and what it means), `vkg_values` (the operators on terms) and `vkg_terms` (terms and
+//! their texts).
+#![tactic(auto)]
+
+mod answering;
+mod conditions;
+mod distinct;
+mod evaluation;
+mod fault;
+mod graphs;
+mod joins;
+mod left;
+mod lines;
+mod patterns;
+mod quad;
+mod reader;
+mod rows;
+mod solution;
+mod tabs;
+mod truths;
+
+pub use answering::answer;
+pub use evaluation::evaluate;
+pub use fault::PlainFault;
+pub use lines::solution_lines;
+pub use quad::Quad;
+pub use reader::{ReadFault, read_quads};
+pub use solution::Solution;
+
+#[cfg(test)]
+mod tests;
