@@ -1,20 +1,18 @@
 -- The instances of triple patterns in a graph, by what they bind.
-use Rattle.std.proofs.Common.{◌≡◌, ◌≢◌, ◌∙◌, ℕ, zero, suc, ◌<◌, Bool, true, false, cond, IsSome, List, [], ◌∷◌, ◌++◌, flat_map, length, map, Option, Some, None, ⊎_elim, refl, sym, ap, subst, arith, filter, nat_eq}
-use Rattle.std.specs.Bool.{Decides}
+use Rattle.std.proofs.Common.{◌≡◌, ◌≢◌, ◌∙◌, ℕ, zero, suc, ◌<◌, Bool, true, false, cond, IsSome, List, [], ◌∷◌, ◌++◌, flat_map, length, Option, Some, None, ⊎_elim, refl, sym, ap, subst, nat_eq}
 use Rattle.std.specs.List.{AllByRecursion, Contains, IsDistinct}
 use Rattle.std.proofs.Math.ListN.{length-replicate}
 use Rattle.std.proofs.lemmas.Bool.{cases_Bool}
 use Rattle.std.proofs.lemmas.List.{get_or-set_other, get_or-set_same, length-set}
 use Rattle.std.proofs.lemmas.List.Elements.{Contains-append_left, Contains-append_right}
 use Rattle.vkg_lists.proofs.Counts.{eq_apart}
-use Rattle.vkg_lists.proofs.Distinct.{IsDistinct-cons, IsDistinct-filter, IsDistinct-flat_map, IsDistinct-nil}
-use Rattle.vkg_lists.proofs.Members.{Contains-none, Contains-here, Contains-there, Contains-cons_cases, Contains-flat_map, Contains-from_filter, Contains-from_flat_map, each_from_recursion, recursion_from_each}
+use Rattle.vkg_lists.proofs.Distinct.{IsDistinct-filter, IsDistinct-flat_map}
+use Rattle.vkg_lists.proofs.Members.{Contains-none, Contains-here, Contains-cons_cases, Contains-flat_map, Contains-from_filter, Contains-from_flat_map, each_from_recursion, recursion_from_each, Contains-only}
 use Rattle.vkg_lists.proofs.Tests.{nat_test}
 use Rattle.vkg_maps.specs.Dataset.{graph_eq, quad_eq}
 use Rattle.vkg_maps.proofs.Quads.{quads_apart, graphs_apart}
 use Rattle.vkg_terms.proofs.SameLemmas.{terms_apart}
 use Rattle.vkg_terms.specs.declared.term.Term.{Term}
-use Rattle.vkg_terms.specs.declared.term.Term.TheVariants.{Iri}
 use Rattle.vkg_terms.specs.NQuads.{Quad}
 use Rattle.vkg_terms.specs.Same.{term_eq}
 use Rattle.vkg_sparql.specs.declared.pattern.Node.{Node}
@@ -22,10 +20,10 @@ use Rattle.vkg_sparql.specs.declared.pattern.Node.TheVariants as node
 use Rattle.vkg_sparql.specs.declared.pattern.TriplePattern.{TriplePattern}
 use Rattle.vkg_algebra.specs.Answer.{solution_eq}
 use Rattle.vkg_algebra.specs.Evaluation.{Dataset, graph_of}
-use Rattle.vkg_algebra.specs.Laws.{AreBelow, HasInstances, IsInstance, IsInstanceOf, node_numbers, node_term, pattern_numbers}
+use Rattle.vkg_algebra.specs.Laws.{AreBelow, HasInstances, node_numbers, node_term, pattern_numbers}
 use Rattle.vkg_algebra.specs.Patterns.{instances, node_solutions, pattern_solutions, triple_solutions}
 use Rattle.vkg_algebra.specs.Solutions.{Solution, lookup, only, unbound}
-use Rattle.vkg_algebra.proofs.MapLemmas.{in_one, same_map, solution_test}
+use Rattle.vkg_algebra.proofs.MapLemmas.{in_one, solution_test}
 use Rattle.vkg_algebra.proofs.PatternLemmas.{Describes, IsMapOf, both_join, once_join, one_distinct, same_bound}
 
 -- ---- a place of a pattern
@@ -43,9 +41,6 @@ lookup-only_other n v w t h = get_or-set_other (unbound n) v w (Some t) None h �
 
 length-only : (n v : ℕ) (t : Term) → length (only n v t) ≡ n
 length-only n v t = length-set (unbound n) v (Some t) ∙ length-replicate n None
-
-one_number : (v w : ℕ) → Contains (v ∷ []) w → v ≡ w
-one_number v w c = ⊎_elim (λ e. e) (λ d. absurd (Contains-none w d)) (Contains-cons_cases v [] w c)
 
 some_is : (o : Option Term) (t : Term) → o ≡ Some t → IsSome o
 some_is None t h = cc
@@ -65,8 +60,8 @@ numbered : (n v : ℕ) (t : Term) → v < n → Describes n (v ∷ []) (λ s. lo
 numbered n v t l = record {
   onto = λ s c. ⊎_elim (λ e. is_only n v t l s (sym e)) (λ d. absurd (Contains-none s d)) (Contains-cons_cases (only n v t) [] s c);
   back = λ s m. subst (Contains (only n v t ∷ [])) (same_bound (only n v t) s (is_only n v t l (only n v t) refl) m (λ w c.
-      let e = one_number v w c in subst (λ k. lookup (only n v t) k ≡ lookup s k) e (lookup-only n v t l ∙ sym m.fact))) (Contains-here (only n v t) []);
-  binds = λ s p w c. subst (λ k. IsSome (lookup s k)) (one_number v w c) (some_is (lookup s v) t p);
+      let e = Contains-only v w c in subst (λ k. lookup (only n v t) k ≡ lookup s k) e (lookup-only n v t l ∙ sym m.fact))) (Contains-here (only n v t) []);
+  binds = λ s p w c. subst (λ k. IsSome (lookup s k)) (Contains-only v w c) (some_is (lookup s v) t p);
   moves = λ s u p h. h v (Contains-here v []) ∙ p;
 }
 
@@ -116,7 +111,7 @@ module _ (n : ℕ) (p : TriplePattern) (below : (v : ℕ) → Contains (pattern_
       (node_described n p.predicate q.predicate (λ v c. below v (Contains-append_right s (r ++ o) v (Contains-append_left r o v c))))
       (node_described n p.object q.object (λ v c. below v (Contains-append_right s (r ++ o) v (Contains-append_right r o v c)))))
 
-  triple_once : (q : Quad) → IsDistinct solution_eq (triple_solutions n p q)
+  pub triple_once : (q : Quad) → IsDistinct solution_eq (triple_solutions n p q)
   triple_once q =
       let s = node_numbers p.subject in
       let r = node_numbers p.predicate in

@@ -1,23 +1,18 @@
 -- Solutions as maps: when two are one, joins of maps by what they bind, the left join in words.
-use Rattle.std.proofs.Common.{◌≡◌, ◌∙◌, ◌↔◌, ◌⊎◌, ℕ, zero, suc, ◌<◌, Bool, true, false, not, ◌&&◌, cond, IsTrue, IsSome, List, [], ◌∷◌, ◌++◌, length, max, Option, Some, None, inl, inr, ⊎_elim, refl, sym, ap, subst, true≢false, arith, append-nil}
+use Rattle.std.proofs.Common.{◌≡◌, ◌⊎◌, ℕ, suc, Bool, true, false, not, ◌&&◌, cond, List, [], ◌∷◌, length, inl, inr, ⊎_elim, refl, sym, subst, true≢false, arith}
 use Rattle.std.specs.Bool.{Decides}
-use Rattle.std.specs.Cmp.Lexicographic.{pointwise}
-use Rattle.std.specs.List.{Contains, filter, flat_map, list_all, list_any}
-use Rattle.std.specs.Option.{option_eq, option_or}
-use Rattle.std.proofs.lemmas.Bool.{cases_Bool}
+use Rattle.std.specs.List.{Contains, filter, flat_map, list_all}
 use Rattle.std.proofs.lemmas.List.Elements.{Contains-append_left, Contains-append_right, Contains-append_cases}
-use Rattle.vkg_lists.specs.Rows.{value_at, merged_if_compatible}
+use Rattle.vkg_lists.specs.Rows.{merged_if_compatible}
 use Rattle.vkg_lists.specs.Sets.{IsEqualityTest}
-use Rattle.vkg_lists.proofs.Counts.{Decides-list_any, eq_same}
-use Rattle.vkg_lists.proofs.Members.{Contains-none, Contains-here, Contains-there, Contains-cons_cases, Contains-filter, Contains-from_filter, Contains-flat_map, Contains-from_flat_map}
-use Rattle.vkg_lists.proofs.Rows.{Decides-compatible, length-merge, value_at-merge}
-use Rattle.vkg_lists.proofs.Tests.{list_test, nat_test, option_test}
-use Rattle.vkg_terms.specs.declared.term.Term.{Term}
+use Rattle.vkg_lists.proofs.Members.{Contains-none, Contains-here, Contains-cons_cases, Contains-filter, Contains-from_filter, Contains-flat_map, Contains-from_flat_map, each_of_all, all_of_each}
+use Rattle.vkg_lists.proofs.Rows.{Decides-compatible, value_at-merge}
+use Rattle.vkg_lists.proofs.Tests.{list_test, option_test}
 use Rattle.vkg_terms.proofs.SameLemmas.{terms_apart}
 use Rattle.vkg_terms.specs.Same.{term_eq}
 use Rattle.vkg_algebra.specs.Answer.{solution_eq}
 use Rattle.vkg_algebra.specs.Laws.{AreCompatible, IsAlone, IsJoined, IsLeftJoin, KeepsMaps}
-use Rattle.vkg_algebra.specs.Solutions.{Solution, compatible, difference, join, left_join, lookup, merge}
+use Rattle.vkg_algebra.specs.Solutions.{Solution, compatible, difference, join, lookup, merge}
 
 -- ---- tests of terms and of solutions
 
@@ -70,26 +65,6 @@ Contains-join ls rs l r c d h =
     (Contains-flat_map (λ r. merged_if_compatible term_eq l r) rs r (merge l r) d (one_in (compatible l r) (merge l r) h))
 
 -- ---- the left join
-
-first_true : (b c : Bool) → b && c ≡ true → b ≡ true
-first_true true c h = refl
-first_true false c h = h
-
-second_true : (b c : Bool) → b && c ≡ true → c ≡ true
-second_true true c h = h
-second_true false c h = absurd (true≢false (sym h))
-
-two_true : (b c : Bool) → b ≡ true → c ≡ true → b && c ≡ true
-two_true true c e h = h
-two_true false c e h = e
-
-each_of_all : {A : Type 0} (p : A → Bool) (xs : List A) → list_all p xs ≡ true → (x : A) → Contains xs x → p x ≡ true
-each_of_all p [] h x c = absurd (Contains-none x c)
-each_of_all p (y ∷ xs) h x c = ⊎_elim (λ e. ap p (sym e) ∙ first_true (p y) (list_all p xs) h) (λ d. each_of_all p xs (second_true (p y) (list_all p xs) h) x d) (Contains-cons_cases y xs x c)
-
-all_of_each : {A : Type 0} (p : A → Bool) (xs : List A) → ((x : A) → Contains xs x → p x ≡ true) → list_all p xs ≡ true
-all_of_each p [] h = refl
-all_of_each p (y ∷ xs) h = two_true (p y) (list_all p xs) (h y (Contains-here y xs)) (all_of_each p xs (λ x c. h x (Contains-there y xs x c)))
 
 not_both : (b c : Bool) → not (b && c) ≡ true → b ≡ true → c ≡ true → ⊥
 not_both true true h e f = true≢false (sym h)

@@ -1,14 +1,12 @@
 -- The instances of a basic graph pattern are the maps under which each pattern is a triple of the graph.
-use Rattle.std.proofs.Common.{◌≡◌, ◌∙◌, ◌↔◌, ◌⊎◌, ℕ, zero, suc, ◌<◌, ◌≢◌, Bool, true, false, cond, IsTrue, IsSome, List, [], ◌∷◌, ◌++◌, flat_map, length, map, max, nat_eq, Option, Some, None, inl, inr, ⊎_elim, refl, sym, ap, subst, true≢false, arith, replicate}
-use Rattle.std.specs.Bool.{Decides}
-use Rattle.std.specs.List.{Contains, IsDistinct, list_any}
+use Rattle.std.proofs.Common.{◌≡◌, ◌∙◌, ◌⊎◌, ℕ, zero, suc, ◌≢◌, Bool, true, false, cond, IsSome, List, [], ◌∷◌, ◌++◌, flat_map, length, Option, Some, None, inl, inr, ⊎_elim, refl, sym, ap, subst, true≢false, arith}
+use Rattle.std.specs.List.{Contains, IsDistinct}
 use Rattle.std.specs.Option.{option_or}
 use Rattle.std.proofs.lemmas.Bool.{cases_Bool}
 use Rattle.std.proofs.lemmas.List.Elements.{Contains-append_left, Contains-append_right, Contains-append_cases}
-use Rattle.vkg_lists.specs.Sets.{IsEqualityTest}
 use Rattle.vkg_lists.proofs.Counts.{Decides-list_any}
 use Rattle.vkg_lists.proofs.Distinct.{IsDistinct-cons, IsDistinct-flat_map, IsDistinct-nil}
-use Rattle.vkg_lists.proofs.Members.{Contains-none, Contains-here, Contains-there, Contains-cons_cases, Contains-flat_map, Contains-from_flat_map}
+use Rattle.vkg_lists.proofs.Members.{Contains-none, Contains-from_flat_map}
 use Rattle.vkg_lists.proofs.Rows.{length-merge, value_at-merge}
 use Rattle.vkg_lists.proofs.Tests.{nat_test}
 use Rattle.vkg_lists.specs.Rows.{merged_if_compatible}
@@ -16,8 +14,9 @@ use Rattle.vkg_terms.specs.declared.term.Term.{Term}
 use Rattle.vkg_terms.specs.Same.{term_eq}
 use Rattle.vkg_algebra.specs.Answer.{solution_eq}
 use Rattle.vkg_algebra.specs.Laws.{AreCompatible}
-use Rattle.vkg_algebra.specs.Solutions.{Solution, compatible, join, lookup, merge, only, unbound}
-use Rattle.vkg_algebra.proofs.MapLemmas.{IsPair, Contains-from_join, Contains-join, in_one, same_map, says_compatible, solution_test}
+use Rattle.vkg_algebra.specs.Solutions.{Solution, compatible, join, lookup, merge}
+use Rattle.vkg_algebra.specs.Visible.{has}
+use Rattle.vkg_algebra.proofs.MapLemmas.{Contains-from_join, Contains-join, in_one, same_map, says_compatible, solution_test}
 
 -- ---- what a merged map binds
 
@@ -84,24 +83,21 @@ pub record Describes (n : ℕ) (vs : List ℕ) (P : Solution → Type 0) (ls : L
   pub binds : (s : Solution) → P s → (v : ℕ) → Contains vs v → IsSome (lookup s v)
   pub moves : (s t : Solution) → P s → ((v : ℕ) → Contains vs v → lookup t v ≡ lookup s v) → P t
 
-abbrev among : List ℕ → ℕ → Bool
-among vs v = list_any (nat_eq v) vs
-
-is_among : (vs : List ℕ) (v : ℕ) → Contains vs v → among vs v ≡ true
+pub is_among : (vs : List ℕ) (v : ℕ) → Contains vs v → has vs v ≡ true
 is_among vs v c = (Decides-list_any nat_test vs v).1 c
 
-from_among : (vs : List ℕ) (v : ℕ) → among vs v ≡ true → Contains vs v
+from_among : (vs : List ℕ) (v : ℕ) → has vs v ≡ true → Contains vs v
 from_among vs v h = (Decides-list_any nat_test vs v).0 h
 
-kept_at : (vs : List ℕ) (s : Solution) (v : ℕ) → Contains vs v → lookup (restricted (among vs) s) v ≡ lookup s v
-kept_at vs s v c = lookup-restricted (among vs) s v ∙ ap (λ b. cond b (lookup s v) None) (is_among vs v c)
+kept_at : (vs : List ℕ) (s : Solution) (v : ℕ) → Contains vs v → lookup (restricted (has vs) s) v ≡ lookup s v
+kept_at vs s v c = lookup-restricted (has vs) s v ∙ ap (λ b. cond b (lookup s v) None) (is_among vs v c)
 
 -- maps that bind the same at the numbers of both are one
 pub same_bound : {n : ℕ} {vs : List ℕ} {P : Solution → Type 0} (s t : Solution) → IsMapOf n vs P s → IsMapOf n vs P t → ((v : ℕ) → Contains vs v → lookup s v ≡ lookup t v) → s ≡ t
 same_bound {n} {vs} s t m k h = same_map s t (m.size ∙ sym k.size) (λ v. ⊎_elim
     (λ e. h v (from_among vs v e))
     (λ e. none_if (lookup s v) (λ b. true≢false (sym (is_among vs v (m.bound v b)) ∙ e)) ∙ sym (none_if (lookup t v) (λ b. true≢false (sym (is_among vs v (k.bound v b)) ∙ e))))
-    (cases_Bool (among vs v)))
+    (cases_Bool (has vs v)))
 
 pub one_distinct : (b : Bool) (x : Solution) → IsDistinct solution_eq (cond b (x ∷ []) [])
 one_distinct true x = IsDistinct-cons solution_eq x [] (λ y c. absurd (Contains-none y c)) (IsDistinct-nil solution_eq)
@@ -129,26 +125,26 @@ module _ {n : ℕ} {vs ws : List ℕ} {P Q : Solution → Type 0} {ls rs : List 
 
   split_map : (s : Solution) → IsMapOf n (vs ++ ws) (λ s. P s × Q s) s → Contains (join ls rs) s
   split_map s m =
-      let l = restricted (among vs) s in
-      let r = restricted (among ws) s in
+      let l = restricted (has vs) s in
+      let r = restricted (has ws) s in
       let in_first : Contains ls l = d.back l (record {
-        size = length-restricted (among vs) s ∙ m.size;
-        bound = λ v h. from_among vs v (some_kept (among vs v) (lookup s v) (subst IsSome (lookup-restricted (among vs) s v) h));
+        size = length-restricted (has vs) s ∙ m.size;
+        bound = λ v h. from_among vs v (some_kept (has vs v) (lookup s v) (subst IsSome (lookup-restricted (has vs) s v) h));
         fact = d.moves s l m.fact.0 (kept_at vs s);
       }) in
       let in_second : Contains rs r = e.back r (record {
-        size = length-restricted (among ws) s ∙ m.size;
-        bound = λ v h. from_among ws v (some_kept (among ws v) (lookup s v) (subst IsSome (lookup-restricted (among ws) s v) h));
+        size = length-restricted (has ws) s ∙ m.size;
+        bound = λ v h. from_among ws v (some_kept (has ws v) (lookup s v) (subst IsSome (lookup-restricted (has ws) s v) h));
         fact = e.moves s r m.fact.1 (kept_at ws s);
       }) in
       let agree : AreCompatible l r = λ v t u f g.
-      let first : lookup s v ≡ Some t = same_kept (among vs v) (lookup s v) t (sym (lookup-restricted (among vs) s v) ∙ f) in
-      let second : lookup s v ≡ Some u = same_kept (among ws v) (lookup s v) u (sym (lookup-restricted (among ws) s v) ∙ g) in
+      let first : lookup s v ≡ Some t = same_kept (has vs v) (lookup s v) t (sym (lookup-restricted (has vs) s v) ∙ f) in
+      let second : lookup s v ≡ Some u = same_kept (has ws v) (lookup s v) u (sym (lookup-restricted (has ws) s v) ∙ g) in
       cc in
-      let whole : merge l r ≡ s = same_map (merge l r) s (omega (arith, length-merge l r, length-restricted (among vs) s, length-restricted (among ws) s)) (λ v.
+      let whole : merge l r ≡ s = same_map (merge l r) s (omega (arith, length-merge l r, length-restricted (has vs) s, length-restricted (has ws) s)) (λ v.
       value_at-merge l r v
-      ∙ (λ i. option_or (lookup-restricted (among vs) s v i) (lookup-restricted (among ws) s v i))
-      ∙ or_kept (among vs v) (among ws v) (lookup s v) (λ h. ⊎_elim (λ c. inl (is_among vs v c)) (λ c. inr (is_among ws v c)) (Contains-append_cases vs ws v (m.bound v h)))) in
+      ∙ (λ i. option_or (lookup-restricted (has vs) s v i) (lookup-restricted (has ws) s v i))
+      ∙ or_kept (has vs v) (has ws v) (lookup s v) (λ h. ⊎_elim (λ c. inl (is_among vs v c)) (λ c. inr (is_among ws v c)) (Contains-append_cases vs ws v (m.bound v h)))) in
       subst (Contains (join ls rs)) whole (Contains-join ls rs l r in_first in_second ((says_compatible l r).1 agree))
 
   pub both_join : Describes n (vs ++ ws) (λ s. P s × Q s) (join ls rs)

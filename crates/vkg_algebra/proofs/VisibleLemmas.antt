@@ -1,7 +1,7 @@
 -- Variables by first appearance.
 use Rattle.std.proofs.Common.{◌≡◌, ◌∙◌, ℕ, Bool, true, false, not, List, [], ◌∷◌, ◌++◌, nat_eq, refl, sym, ap, subst, true≢false, append_assoc, append-nil}
 use Rattle.std.specs.Bool.{Decides}
-use Rattle.std.specs.List.{filter, flat_map, list_any, Contains}
+use Rattle.std.specs.List.{filter, list_any, Contains}
 use Rattle.vkg_lists.specs.Sets.{distinct}
 use Rattle.vkg_lists.proofs.Counts.{Decides-contains_test}
 use Rattle.vkg_lists.proofs.Distinct.{Contains-distinct, Contains-from_distinct, distinct-append, distinct-distinct, distinct_push_new, distinct_push_old}
@@ -38,6 +38,10 @@ each_once_appearing (LeftJoin a b c) = sym (each_once-append (appearing a) (appe
 each_once_appearing (Union a b) = sym (each_once-append (appearing a) (appearing b)) ∙ (λ i. each_once (each_once_appearing a i ++ each_once_appearing b i))
 each_once_appearing (Filter c a) = each_once_appearing a
 each_once_appearing (Graph name a) = sym (each_once-append_right (name_variables name) (appearing a)) ∙ (λ i. each_once (name_variables name ++ each_once_appearing a i))
+
+-- a list of visible variables names each once
+pub visible_once : (a : Algebra) → each_once (visible a) ≡ visible a
+visible_once a = ap each_once (sym (each_once_appearing a)) ∙ distinct-distinct nat_eq (appearing a) ∙ each_once_appearing a
 
 pub adds_none : (s : List ℕ) → AddsEach [] s s
 adds_none s before e = e ∙ ap each_once (sym (append-nil before))

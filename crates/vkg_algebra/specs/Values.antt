@@ -5,6 +5,7 @@ use Rattle.vkg_terms.specs.declared.term.Term.TheVariants.{Lit}
 use Rattle.vkg_terms.specs.declared.term.Annotation.TheVariants.{Typed}
 use Rattle.vkg_terms.specs.Same.{term_eq}
 use Rattle.vkg_terms.specs.Vocabulary.{xsd}
+use Rattle.vkg_schema.specs.Rows.{is_known_true}
 use Rattle.vkg_values.specs.Logic.{not3, and3, or3}
 use Rattle.vkg_values.specs.Operators.{ebv, test_value, take_value, compare_value, on_two}
 use Rattle.vkg_sparql.specs.Query.{Condition, Variable, Constant, Bound, Test, Take, Compare, SameTerm, Not, And, Or}
@@ -32,13 +33,9 @@ expression_value (Not a) s = option_map truth_term (not3 (truth (expression_valu
 expression_value (And a b) s = option_map truth_term (and3 (truth (expression_value a s)) (truth (expression_value b s)))
 expression_value (Or a b) s = option_map truth_term (or3 (truth (expression_value a s)) (truth (expression_value b s)))
 
-abbrev pub is_true : Option Bool → Bool
-is_true (Some b) = b
-is_true None = false
-
 -- SPARQL 1.1, 18.5, Filter: the effective boolean value is true
 abbrev pub holds : Condition → Solution → Bool
-holds c s = is_true (truth (expression_value c s))
+holds c s = is_known_true (truth (expression_value c s))
 
 -- a condition that may be left out, which is then true
 abbrev pub holds_if_any : Option Condition → Solution → Bool

@@ -1,5 +1,6 @@
 -- The variables that an algebra may bind, in the order in which they first appear (SPARQL 1.1, 18.2.1).
-use Rattle.std.specs.Prelude.{◌≡◌, ℕ, List, [], ◌∷◌, ◌++◌, flat_map, nat_eq}
+use Rattle.std.specs.Prelude.{◌≡◌, ℕ, Bool, List, [], ◌∷◌, ◌++◌, flat_map, nat_eq}
+use Rattle.std.specs.List.{list_any}
 use Rattle.vkg_lists.specs.Sets.{distinct}
 use Rattle.vkg_sparql.specs.declared.pattern.Node.{Node}
 use Rattle.vkg_sparql.specs.declared.pattern.Node.TheVariants as node
@@ -18,6 +19,9 @@ pattern_variables p = node_variables p.subject ++ node_variables p.predicate ++ 
 abbrev pub name_variables : GraphName → List ℕ
 name_variables (Each v) = v ∷ []
 name_variables (Named iri) = []
+
+abbrev pub has : List ℕ → ℕ → Bool
+has vs v = list_any (nat_eq v) vs
 
 -- each number once, at its first place
 abbrev pub each_once : List ℕ → List ℕ

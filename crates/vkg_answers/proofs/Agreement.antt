@@ -3,9 +3,10 @@ use Rattle.std.proofs.Common.{◌≡◌, ℕ, zero, suc, ◌+◌, ◌<◌, ◌�
 use Rattle.std.specs.Prelude.{Option, Some, None, ◌&&◌, ◌||◌, nat_eq, filter, fold, unwrap_or}
 use Rattle.std.specs.List.{list_all}
 use Rattle.std.proofs.lemmas.Bool.{eqb-true}
+use Rattle.std.proofs.Math.Bool.{or-true}
 use Rattle.vkg_lists.proofs.Tests.{nat_test}
 use Rattle.vkg_lists.proofs.Counts.{eq_itself}
-use Rattle.vkg_lists.proofs.Bools.{and_parts}
+use Rattle.vkg_lists.proofs.Bools.{and_parts, same_truth}
 use Rattle.vkg_terms.specs.declared.term.Term.{Term}
 use Rattle.vkg_cells.specs.declared.cell.Cell.{Cell}
 use Rattle.vkg_cells.specs.Order.{same}
@@ -16,7 +17,8 @@ use Rattle.vkg_algebra.specs.Solutions.{compatible}
 use Rattle.vkg_expr.specs.Expr.{Expr}
 use Rattle.vkg_expr.specs.Value.{value_of, term_of, term_cell, truth_of, truth_cell, holds}
 use Rattle.vkg_unfold.specs.declared.mode.Mode.{Mode}
-use Rattle.vkg_unfold.specs.Unfolded.{has, left_column, right_column, visible_column, columns_in, or_null}
+use Rattle.vkg_algebra.specs.Visible.{has}
+use Rattle.vkg_unfold.specs.Unfolded.{left_column, right_column, visible_column, columns_in, or_null}
 use Rattle.vkg_unfold.specs.StandsFor.{upto_from, term_in, solution_of}
 use Rattle.vkg_answers.proofs.Joins.{agree}
 use Rattle.vkg_answers.proofs.Reading.{AreTermCells, AreBelow, read, read_left, read_right, read_typed, read_none, has-filter}
@@ -38,11 +40,6 @@ holds-or_null a b row o p e f = (λ i. or_cells (e i) (f i)) ∙ or_terms o p
 pub compatible-map : (f g : ℕ → Option Term) (us : List ℕ) → compatible (map f us) (map g us) ≡ list_all (λ v. agree (f v) (g v)) us
 compatible-map f g [] = refl
 compatible-map f g (u ∷ us) = ap (λ b. agree (f u) (g u) && b) (compatible-map f g us)
-
-pub same_truth : (a b : Bool) → (a ≡ true → b ≡ true) → (b ≡ true → a ≡ true) → a ≡ b
-same_truth true b h k = sym (h refl)
-same_truth false true h k = k refl
-same_truth false false h k = refl
 
 pub list_all-map : {A B : Type 0} (p : B → Bool) (f : A → B) (xs : List A) → list_all p (map f xs) ≡ list_all (λ x. p (f x)) xs
 list_all-map p f [] = refl
@@ -66,20 +63,12 @@ all_elim p (w ∷ vs) h v k = of (all_elim p vs (and_parts (p w) (list_all p vs)
 
 pub all_intro : (p : ℕ → Bool) (vs : List ℕ) → ((v : ℕ) → has vs v ≡ true → p v ≡ true) → list_all p vs ≡ true
 all_intro p [] h = refl
-all_intro p (w ∷ vs) h = (λ i. h w (ap (λ b. b || has vs w) (eq_itself nat_test w)) i && all_intro p vs (λ v k. h v (ap (λ b. nat_eq v w || b) k ∙ or_true (nat_eq v w))) i)
-  where
-    or_true : (b : Bool) → (b || true) ≡ true
-    or_true true = refl
-    or_true false = refl
-
-or_true : (b : Bool) → (b || true) ≡ true
-or_true true = refl
-or_true false = refl
+all_intro p (w ∷ vs) h = (λ i. h w (ap (λ b. b || has vs w) (eq_itself nat_test w)) i && all_intro p vs (λ v k. h v (ap (λ b. nat_eq v w || b) k ∙ or-true (nat_eq v w))) i)
 
 pub has-upto : (n k v w : ℕ) → v < n → w ≡ k + v → has (upto_from k n) w ≡ true
 has-upto zero k v w h e = absurd (omega arith)
 has-upto (suc n) k zero w h e = let f : w ≡ k = omega arith in ap (λ b. b || has (upto_from (suc k) n) w) (ap (nat_eq w) (sym f) ∙ eq_itself nat_test w)
-has-upto (suc n) k (suc v) w h e = ap (λ b. nat_eq w k || b) (has-upto n (suc k) v w (omega arith) (omega arith)) ∙ or_true (nat_eq w k)
+has-upto (suc n) k (suc v) w h e = ap (λ b. nat_eq w k || b) (has-upto n (suc k) v w (omega arith) (omega arith)) ∙ or-true (nat_eq w k)
 
 pub agree_none : (o : Option Term) → agree o None ≡ true
 agree_none None = refl

@@ -7,8 +7,7 @@ use Rattle.std.specs.List.Sorted.{IsPermutation}
 use Rattle.std.proofs.lemmas.List.Elements.{Contains-append_cases}
 use Rattle.vkg_lists.proofs.Bags.{bag_same, bag_trans}
 use Rattle.vkg_lists.proofs.Counts.{eq_itself, eq_same}
-use Rattle.vkg_lists.proofs.Members.{Contains-none, Contains-here, Contains-there, Contains-cons_cases, Contains-from_map, Contains-from_filter, Contains-from_flat_map}
-use Rattle.vkg_lists.proofs.Bools.{and_parts}
+use Rattle.vkg_lists.proofs.Members.{Contains-none, Contains-here, Contains-there, Contains-cons_cases, Contains-from_map, Contains-from_filter, Contains-from_flat_map, each_of_all}
 use Rattle.vkg_terms.specs.declared.term.Term.{Term}
 use Rattle.vkg_terms.specs.Same.{term_eq}
 use Rattle.vkg_terms.proofs.SameLemmas.{terms_apart}
@@ -26,7 +25,7 @@ use Rattle.vkg_unfold.specs.declared.mode.Mode.TheVariants.{Each}
 use Rattle.vkg_unfold.specs.StandsFor.{upto_from, IsIn}
 use Rattle.vkg_unfold.specs.FineRows.{IsNarrow}
 use Rattle.vkg_answers.proofs.Joins.{agree, Each as Every, join_rows, bag_join}
-use Rattle.vkg_answers.proofs.Agreement.{list_all-append}
+use Rattle.vkg_answers.proofs.Agreement.{agree_none, list_all-append}
 use Rattle.vkg_answers.proofs.Splits.{pairs_split}
 use Rattle.vkg_answers.proofs.Steps.{every_from}
 use Rattle.vkg_answers.proofs.Entries.{Entry, entry, first, alike, named_solution, AreTerms}
@@ -92,14 +91,6 @@ graph_fits (Some i) (None, c) = option_map_or (term_eq i) (term_of c) false
 abbrev pub graphs_fit : Option Term → List Entry → Bool
 graphs_fit o zs = list_all (graph_fits o) zs
 
-pub all_entries : (p : Entry → Bool) (zs : List Entry) → list_all p zs ≡ true → (x : Entry) → Contains zs x → p x ≡ true
-all_entries p [] h x c = absurd (Contains-none x c)
-all_entries p (z ∷ zs) h x c = let b = and_parts (p z) (list_all p zs) h in ⊎_elim (λ e. ap p (sym e) ∙ b.0) (λ d. all_entries p zs b.1 x d) (Contains-cons_cases z zs x c)
-
-pub every_entry : (p : Entry → Bool) (zs : List Entry) → ((x : Entry) → Contains zs x → p x ≡ true) → list_all p zs ≡ true
-every_entry p [] h = refl
-every_entry p (z ∷ zs) h = λ i. h z (Contains-here z zs) i && every_entry p zs (λ x c. h x (Contains-there z zs x c)) i
-
 pub fits_term : (o : Option Term) (x : Entry) → x.0 ≡ None → graph_fits o x ≡ true → (i : Term) × (o ≡ Some i) × (term_of x.1 ≡ Some i)
 fits_term o (Some v, c) e h = cc
 fits_term None (None, c) e h = absurd (true≢false (sym h))
@@ -113,19 +104,15 @@ graphs_agree : (o : Option Term) (zs ws : List Entry) → graphs_fit o zs ≡ tr
 graphs_agree o zs ws h k = ⊎_elim
     (λ e. ap (λ c. agree (term_of c) (term_of (first None ws))) e)
     (λ r. ⊎_elim
-    (λ e. ap (λ c. agree (term_of (first None zs)) (term_of c)) e ∙ none (term_of (first None zs)))
+    (λ e. ap (λ c. agree (term_of (first None zs)) (term_of c)) e ∙ agree_none (term_of (first None zs)))
     (λ s.
-    let t = fits_term o r.0 (sym r.2) (all_entries (graph_fits o) zs h r.0 r.1) in
-    let u = fits_term o s.0 (sym s.2) (all_entries (graph_fits o) ws k s.0 s.1) in
+    let t = fits_term o r.0 (sym r.2) (each_of_all (graph_fits o) zs h r.0 r.1) in
+    let u = fits_term o s.0 (sym s.2) (each_of_all (graph_fits o) ws k s.0 s.1) in
     let left : term_of (first None zs) ≡ Some t.0 = ap term_of r.3 ∙ t.2 in
     let right : term_of (first None ws) ≡ Some t.0 = ap term_of s.3 ∙ u.2 ∙ sym u.1 ∙ t.1 in
     (λ i. agree (left i) (right i)) ∙ eq_itself terms_apart t.0)
     (first_cases None ws))
     (first_cases None zs)
-  where
-    none : (o : Option Term) → agree o None ≡ true
-    none None = refl
-    none (Some t) = refl
 
 -- ---- rows of one pattern and of several
 

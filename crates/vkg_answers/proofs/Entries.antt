@@ -5,8 +5,7 @@ use Rattle.std.specs.Bool.{Decides}
 use Rattle.std.specs.List.{list_all}
 use Rattle.std.proofs.lemmas.List.{map-append}
 use Rattle.std.proofs.lemmas.List.Elements.{Contains-append_left, Contains-append_right, Contains-append_cases}
-use Rattle.vkg_lists.specs.Sets.{IsEqualityTest}
-use Rattle.vkg_lists.proofs.Tests.{nat_test}
+use Rattle.std.proofs.Math.Bool.{and-true}
 use Rattle.vkg_lists.proofs.Counts.{eq_same}
 use Rattle.vkg_lists.proofs.Members.{Contains-none, Contains-here, Contains-there, Contains-cons_cases}
 use Rattle.vkg_lists.proofs.Bools.{and_parts}
@@ -20,16 +19,8 @@ use Rattle.vkg_algebra.specs.Solutions.{Solution}
 use Rattle.vkg_expr.specs.Value.{value_of, term_of, truth_of, truth_cell, holds}
 use Rattle.vkg_unfold.specs.Unfolded.{Name, name_eq, Named, same_name, again, repeats}
 use Rattle.vkg_unfold.specs.StandsFor.{upto_from}
+use Rattle.vkg_unfold.proofs.AlgebraColumns.{name_test}
 use Rattle.vkg_answers.proofs.Agreement.{list_all-append}
-
-pub name_test : IsEqualityTest name_eq
-name_test = record { decides = by }
-  where
-    by : (x y : Name) → Decides (name_eq x y) (x ≡ y)
-    by (Some v) (Some w) = (λ h. ap Some ((nat_test.decides v w).0 h), λ h. (nat_test.decides v w).1 cc)
-    by None None = (λ h. refl, λ h. refl)
-    by (Some v) None = (λ h. absurd (true≢false (sym h)), λ h. cc)
-    by None (Some w) = (λ h. absurd (true≢false (sym h)), λ h. cc)
 
 -- a name and its cell
 abbrev pub Entry : Type 0
@@ -78,11 +69,7 @@ find-map row x (y ∷ ys) = of (find-map row x ys) (name_eq x y.0)
 
 again_is : (row : Row) (x : Named) (o : Option Named) → list_all (λ c. holds c row) (again x o) ≡ again_alike (entry row x) (option_map (entry row) o)
 again_is row x None = refl
-again_is row x (Some y) = and_true (is_same (value_of x.1 row) (value_of y.1 row))
-  where
-    and_true : (b : Bool) → (b && true) ≡ b
-    and_true true = refl
-    and_true false = refl
+again_is row x (Some y) = and-true (is_same (value_of x.1 row) (value_of y.1 row))
 
 pub repeats_alike : (row : Row) (before xs : List Named) → list_all (λ c. holds c row) (repeats before xs) ≡ alike (map (entry row) before) (map (entry row) xs)
 repeats_alike row before [] = refl

@@ -12,6 +12,7 @@ use Rattle.vkg_lists.proofs.Members.{Contains-none, Contains-here, Contains-cons
 use Rattle.vkg_lists.specs.Sets.{distinct}
 use Rattle.vkg_lists.proofs.Groups.{flat_map_only}
 use Rattle.vkg_lists.proofs.SameMembers.{members_bag}
+use Rattle.vkg_lists.proofs.Bools.{same_truth}
 use Rattle.vkg_terms.specs.declared.term.Term.{Term}
 use Rattle.vkg_terms.specs.declared.term.Term.TheVariants.{Iri}
 use Rattle.vkg_terms.specs.NQuads.{Quad}
@@ -30,21 +31,21 @@ use Rattle.vkg_plan.specs.Kinds.{Tables}
 use Rattle.vkg_plan.specs.Rows.{rows_of, one_row}
 use Rattle.vkg_row_rules.specs.declared.row_rule.RowRule.{RowRule}
 use Rattle.vkg_row_rules.specs.RowDataset.{rule_rows, term_at, graph_at, quads_of, dataset_of}
-use Rattle.vkg_unfold.specs.Unfolded.{default_graph, graph_test, rule_member, not_null, names_plan, exists_plan, bgp_plan}
+use Rattle.vkg_unfold.specs.Unfolded.{default_graph, graph_test, rule_member, not_null, names_plan, exists_plan, bgp_plan, graph_terms}
 use Rattle.vkg_unfold.specs.declared.mode.Mode.{Mode}
 use Rattle.vkg_unfold.specs.declared.mode.Mode.TheVariants.{Default, InGraph, Each}
 use Rattle.vkg_unfold.specs.FineRows.{IsNarrow, IsFineRow, IsNarrowGraph}
 use Rattle.vkg_unfold.specs.StandsFor.{IsIn, belongs, hidden_is, solution_of, solutions_of}
-use Rattle.vkg_answers.proofs.Agreement.{same_truth}
 use Rattle.vkg_answers.proofs.Graphs.{name_row, Plain, stands_default, stands_named}
-use Rattle.vkg_answers.proofs.Sources.{all_hold, member_rows, rows_or_none, union_rows, not_nulls, exprs_of, in_graph, graph_passes_is}
+use Rattle.vkg_answers.proofs.Sources.{all_hold, member_rows, rows_or_none, union_rows, not_nulls, in_graph, graph_passes_is}
 use Rattle.vkg_answers.proofs.Members.{map_filter_flat, flat_nothing}
 use Rattle.vkg_answers.proofs.Once.{graph_same}
 use Rattle.vkg_answers.proofs.Columns.{unbound_is}
 use Rattle.vkg_answers.proofs.Modes.{IsRowOf}
 use Rattle.vkg_answers.proofs.Reading.{cells-nil, cells-cons}
 use Rattle.vkg_answers.proofs.Steps.{Stands}
-use Rattle.vkg_answers.proofs.GraphNames.{conditions_alone, quad_at, no_row}
+use Rattle.vkg_answers.proofs.GraphNames.{conditions_alone, quad_at}
+use Rattle.vkg_answers.proofs.Splits.{no_row}
 
 -- rows without columns
 abbrev empty_row : Quad → Row
@@ -163,8 +164,8 @@ module _ (schema : Tables) (rules : List RowRule) (db : Database) (fine : (rule 
         piece row = quad_rows (Some (Iri i)) (graph_at rule.graph row) (term_at rule.subject row) (term_at rule.predicate row) (term_at rule.object row)
 
         passes : (row : Row) → Contains rows row → (t : Option (List Expr)) → graph_test (InGraph i) rule.graph ≡ t →
-            option_map_or (λ test. (all_hold (not_nulls (exprs_of rule.graph)) row && all_hold test row) && true) t false ≡ in_graph (Some (Iri i)) rule.graph row
-        passes row k t e = ap (λ o. option_map_or (λ test. (all_hold (not_nulls (exprs_of rule.graph)) row && all_hold test row) && true) o false) (sym e)
+            option_map_or (λ test. (all_hold (not_nulls (graph_terms rule.graph)) row && all_hold test row) && true) t false ≡ in_graph (Some (Iri i)) rule.graph row
+        passes row k t e = ap (λ o. option_map_or (λ test. (all_hold (not_nulls (graph_terms rule.graph)) row && all_hold test row) && true) o false) (sym e)
             ∙ graph_passes_is [] (InGraph i) (Some (Iri i)) rule.graph row refl (fine rule c row k).never
 
         of : (t : Option (List Expr)) → graph_test (InGraph i) rule.graph ≡ t → rows_or_none schema db (rule_member schema rule [] [] t) ≡ flat_map pieces rows
@@ -177,7 +178,7 @@ module _ (schema : Tables) (rules : List RowRule) (db : Database) (fine : (rule 
             ∙ map_filter_flat (λ row. []) (all_hold (not_null rule ++ test ++ [])) rows
             ∙ flat_map_agree_on (λ row. if all_hold (not_null rule ++ test ++ []) row then [] ∷ [] else []) pieces rows (λ row k.
             ap (λ b. if b then [] ∷ [] else no_row) (conditions_alone rule test row
-            ∙ truths (is_some (term_at rule.subject row)) (is_some (term_at rule.predicate row)) (is_some (term_at rule.object row)) (all_hold (not_nulls (exprs_of rule.graph)) row) (all_hold test row)
+            ∙ truths (is_some (term_at rule.subject row)) (is_some (term_at rule.predicate row)) (is_some (term_at rule.object row)) (all_hold (not_nulls (graph_terms rule.graph)) row) (all_hold test row)
             ∙ ap (λ b. is_some (term_at rule.subject row) && (is_some (term_at rule.predicate row) && (is_some (term_at rule.object row) && b))) (passes row k (Some test) e))
             ∙ sym (piece row))
 

@@ -1,5 +1,6 @@
 -- The plan of the graphs' names.
 use Rattle.std.proofs.Common.{◌≡◌, Bool, true, false, List, [], ◌∷◌, ◌++◌, map, refl, sym, ap, subst, ◌∙◌, append-nil}
+use Rattle.std.proofs.Math.Bool.{and-true}
 use Rattle.std.specs.Prelude.{Option, Some, None, not, ◌&&◌, Contains, flat_map, filter_map, is_some, if◌then◌else◌, option_map}
 use Rattle.std.specs.Option.{option_map_or, option_to_list}
 use Rattle.std.specs.List.Sorted.{IsPermutation}
@@ -28,26 +29,22 @@ use Rattle.vkg_plan.specs.Rows.{rows_of, one_row}
 use Rattle.vkg_match.specs.Verdict.{Verdict, Never, All, verdict_of}
 use Rattle.vkg_row_rules.specs.declared.row_rule.RowRule.{RowRule}
 use Rattle.vkg_row_rules.specs.RowDataset.{rule_rows, term_at, graph_at, quads_of, dataset_of}
-use Rattle.vkg_unfold.specs.Unfolded.{default_graph, graph_test, unless_never, rule_member, graph_exprs, not_null, names_plan}
+use Rattle.vkg_unfold.specs.Unfolded.{default_graph, graph_test, unless_never, rule_member, graph_exprs, not_null, names_plan, graph_terms}
 use Rattle.vkg_unfold.specs.declared.mode.Mode.TheVariants.{Each}
 use Rattle.vkg_unfold.specs.FineRows.{NeverDefault, IsFineRow}
 use Rattle.vkg_answers.proofs.Agreement.{list_all-append}
 use Rattle.vkg_answers.proofs.Graphs.{name_row}
-use Rattle.vkg_answers.proofs.Sources.{all_hold, member_rows, rows_or_none, union_rows, not_nulls, exprs_of, term_expr_is, not_null_is, not_same_const_is}
+use Rattle.vkg_answers.proofs.Sources.{all_hold, member_rows, rows_or_none, union_rows, not_nulls, term_expr_is, not_null_is, not_same_const_is, nulls_are}
 use Rattle.vkg_answers.proofs.Members.{map_filter_flat, flat_nothing}
+use Rattle.vkg_answers.proofs.Splits.{no_row}
 
 -- the conditions of a rule with its graph's test alone
 pub conditions_alone : (rule : RowRule) (test : List Expr) (row : Row) → all_hold (not_null rule ++ test ++ []) row
-    ≡ ((is_some (term_at rule.subject row) && (is_some (term_at rule.predicate row) && (is_some (term_at rule.object row) && all_hold (not_nulls (exprs_of rule.graph)) row))) && all_hold test row)
+    ≡ ((is_some (term_at rule.subject row) && (is_some (term_at rule.predicate row) && (is_some (term_at rule.object row) && all_hold (not_nulls (graph_terms rule.graph)) row))) && all_hold test row)
 conditions_alone rule test row =
     ap (λ cs. all_hold cs row) (append-nil (not_null rule ++ test))
     ∙ list_all-append (λ c. holds c row) (not_null rule) test
-    ∙ ap (λ b. b && all_hold test row) (nulls rule.graph)
-  where
-    nulls : (o : Option TermExpr) → all_hold (not_null (record rule { graph = o })) row
-        ≡ (is_some (term_at rule.subject row) && (is_some (term_at rule.predicate row) && (is_some (term_at rule.object row) && all_hold (not_nulls (exprs_of o)) row)))
-    nulls None = λ i. not_null_is rule.subject row i && (not_null_is rule.predicate row i && (not_null_is rule.object row i && true))
-    nulls (Some e) = λ i. not_null_is rule.subject row i && (not_null_is rule.predicate row i && (not_null_is rule.object row i && all_hold (not_nulls (exprs_of (Some e))) row))
+    ∙ ap (λ b. b && all_hold test row) (nulls_are rule row rule.graph)
 
 abbrev pub quad_at : RowRule → Row → Option Quad
 quad_at rule row = quad_from (term_at rule.subject row) (term_at rule.predicate row) (term_at rule.object row) (graph_at rule.graph row)
@@ -69,9 +66,6 @@ quad_names o (Some s) (Some t) None = refl
 quad_names None (Some s) (Some t) (Some u) = refl
 quad_names (Some None) (Some s) (Some t) (Some u) = refl
 quad_names (Some (Some i)) (Some s) (Some t) (Some u) = refl
-
-abbrev pub no_row : List Row
-no_row = []
 
 by_verdict : Verdict → Option Term → Bool
 by_verdict Never x = true
@@ -145,7 +139,7 @@ module _ (schema : Tables) (rules : List RowRule) (db : Database) (fine : (rule 
           ∙ map_filter_flat (λ row. map (λ e. value_of e row) (graph_exprs rule)) (all_hold (not_null rule ++ test ++ [])) rows
           ∙ flat_map_agree_on (λ row. if all_hold (not_null rule ++ test ++ []) row then map (λ e. value_of e row) (graph_exprs rule) ∷ [] else []) pieces rows (λ row k.
           (λ i. if conditions_alone rule test row i then map (λ e. value_of e row) (graph_exprs (record rule { graph = g i })) ∷ [] else [])
-          ∙ (λ i. if ((is_some (term_at rule.subject row) && (is_some (term_at rule.predicate row) && (is_some (term_at rule.object row) && (ap (λ o. all_hold (not_nulls (exprs_of o)) row) g ∙ ap (λ b. b && true) (not_null_is x row)) i)))
+          ∙ (λ i. if ((is_some (term_at rule.subject row) && (is_some (term_at rule.predicate row) && (is_some (term_at rule.object row) && (ap (λ o. all_hold (not_nulls (graph_terms o)) row) g ∙ ap (λ b. b && true) (not_null_is x row)) i)))
           && (ap (λ t. all_hold t row) is_test ∙ test_is x row (verdict_of x (term_form.Fixed default_graph))) i) then (term_expr_is x row i ∷ []) ∷ [] else [])
           ∙ name_shape (is_some (term_at rule.subject row)) (is_some (term_at rule.predicate row)) (is_some (term_at rule.object row)) (term_at x row) (verdict_of x (term_form.Fixed default_graph)) (subst (λ o. NeverDefault o row) g (fine rule c row k).never)
           ∙ sym (ap (map name_row) (at_row (Some x) g row)))
@@ -156,13 +150,9 @@ module _ (schema : Tables) (rules : List RowRule) (db : Database) (fine : (rule 
       (union_rows schema db 1 (λ rule. rule_member schema rule (graph_exprs rule) [] (graph_test Each rule.graph)) rules
       ∙ ap (distinct one_row) (flat_map_agree_on (λ rule. rows_or_none schema db (rule_member schema rule (graph_exprs rule) [] (graph_test Each rule.graph))) (λ rule. map name_row (names_of rule)) rules names_rule
       ∙ sym (map-flat_map name_row names_of rules) ∙ ap (map name_row) (sym all_names))
-      ∙ distinct-map term_eq one_row name_row (λ x y. and_true (term_eq x y)) (filter_map (λ q. q.graph) quads)))
+      ∙ distinct-map term_eq one_row name_row (λ x y. and-true (term_eq x y)) (filter_map (λ q. q.graph) quads)))
       (bag_map name_row (bag_distinct_members terms_apart same_names))
     where
-      and_true : (b : Bool) → (b && true) ≡ b
-      and_true true = refl
-      and_true false = refl
-
       same_names : HasSameMembers (filter_map (λ q. q.graph) quads) (filter_map (λ q. q.graph) (dataset_of schema rules db))
       same_names = subst (λ xs. HasSameMembers xs (filter_map (λ q. q.graph) (dataset_of schema rules db))) (sym (filter_map_is_flat_map (λ q. q.graph) quads))
           (subst (HasSameMembers (flat_map (λ q. option_to_list q.graph) quads)) (sym (filter_map_is_flat_map (λ q. q.graph) (dataset_of schema rules db)))

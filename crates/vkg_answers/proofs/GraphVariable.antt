@@ -12,6 +12,7 @@ use Rattle.vkg_lists.proofs.Groups.{bag_groups}
 use Rattle.vkg_lists.proofs.Bags.{bag_refl, bag_same, bag_sym, bag_trans, bag_map, bag_filter}
 use Rattle.vkg_lists.proofs.Walks.{map-map, filter-flat_map, map-flat_map}
 use Rattle.vkg_lists.proofs.Members.{Contains-here, Contains-there, Contains-from_map, Contains-from_filter, filter_agree_on, bag_flat_map_each_on}
+use Rattle.vkg_lists.proofs.Bools.{or_right, same_truth}
 use Rattle.vkg_terms.specs.declared.term.Term.{Term}
 use Rattle.vkg_terms.specs.Same.{term_eq}
 use Rattle.vkg_terms.proofs.SameLemmas.{terms_apart}
@@ -22,16 +23,16 @@ use Rattle.vkg_schema.specs.Rows.{is_null, Row, cell_at}
 use Rattle.vkg_values.specs.Logic.{or3}
 use Rattle.vkg_algebra.specs.Solutions.{Solution, compatible, merge, join, only}
 use Rattle.vkg_algebra.specs.Evaluation.{Dataset, graph_names}
-use Rattle.vkg_algebra.specs.Visible.{each_once}
+use Rattle.vkg_algebra.specs.Visible.{each_once, has}
 use Rattle.vkg_expr.specs.Expr.{Expr, Col, Same, IsNull}
 use Rattle.vkg_expr.specs.Logic.{or_of}
 use Rattle.vkg_expr.specs.Value.{value_of, term_of, term_cell, truth_of, truth_cell, holds}
-use Rattle.vkg_unfold.specs.Unfolded.{place_of, default_graph, graph_column, has, left_column, visible_column}
+use Rattle.vkg_unfold.specs.Unfolded.{place_of, default_graph, graph_column, left_column, visible_column}
 use Rattle.vkg_unfold.specs.declared.mode.Mode.TheVariants.{Default, Each}
 use Rattle.vkg_unfold.specs.StandsFor.{belongs, term_in, solution_of, solutions_of, upto_from}
 use Rattle.vkg_answers.proofs.Joins.{agree, merge-map, bag_join}
 use Rattle.vkg_answers.proofs.Reading.{IsTermCell, read_there, read_typed, read_none, read_project, has-each_once, none_right}
-use Rattle.vkg_answers.proofs.Agreement.{same_truth, all_elim, all_intro, has-upto, compatible-map, agree_none}
+use Rattle.vkg_answers.proofs.Agreement.{all_elim, all_intro, has-upto, compatible-map, agree_none}
 use Rattle.vkg_answers.proofs.Modes.{IsRowOf, hidden_found}
 use Rattle.vkg_answers.proofs.Steps.{Stands, projected}
 use Rattle.vkg_answers.proofs.Graphs.{Plain}
@@ -150,10 +151,6 @@ module _ (n : ℕ) (d : Dataset) (vs : List ℕ) (v : ℕ) (within : v < n) wher
         columns w false e true f = absurd (true≢false (sym (has-each_once (v ∷ vs) w ∙ ap (λ x. x || has vs w) (ap (λ u. nat_eq w u) (eqb-true v w f) ∙ eq_itself nat_test w)) ∙ e))
         columns w false e false f = of (has vs w) refl
           where
-            or_right : (x y : Bool) → y ≡ true → (x || y) ≡ true
-            or_right true y z = refl
-            or_right false y z = z
-
             of : (c : Bool) → has vs w ≡ c → None ≡ option_or (term w) None
             of true g = absurd (true≢false (sym (has-each_once (v ∷ vs) w ∙ or_right (nat_eq w v) (has vs w) g) ∙ e))
             of false g = sym (none_right (term w) ∙ ap term_of (read_none vs row w g))

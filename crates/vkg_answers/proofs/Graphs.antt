@@ -17,17 +17,19 @@ use Rattle.vkg_terms.specs.Same.{term_eq}
 use Rattle.vkg_terms.proofs.SameLemmas.{terms_apart}
 use Rattle.vkg_cells.specs.declared.cell.Cell.TheVariants as cell
 use Rattle.vkg_schema.specs.Rows.{Row, cell_at}
+use Rattle.vkg_schema.proofs.RowCells.{cell_at-right}
 use Rattle.vkg_algebra.specs.Solutions.{Solution}
 use Rattle.vkg_algebra.specs.Evaluation.{Dataset, graph_names}
 use Rattle.vkg_expr.specs.Expr.{Expr, Col}
 use Rattle.vkg_expr.specs.Logic.{truth_const}
 use Rattle.vkg_expr.specs.Value.{value_of, term_of, holds}
 use Rattle.vkg_plan.specs.Rows.{pairs, product}
-use Rattle.vkg_unfold.specs.Unfolded.{place_of, has, column, visible_column}
+use Rattle.vkg_algebra.specs.Visible.{has}
+use Rattle.vkg_unfold.specs.Unfolded.{place_of, column, visible_column}
 use Rattle.vkg_unfold.specs.declared.mode.Mode.TheVariants.{Default, InGraph, Each}
 use Rattle.vkg_unfold.specs.StandsFor.{IsIn, belongs, hidden_is, term_in, solution_of, solutions_of, upto_from}
 use Rattle.vkg_unfold.specs.FineRows.{IsNarrow}
-use Rattle.vkg_answers.proofs.Reading.{cell_at-right, AreTermCells, IsTermCell, read, read_there, read_none, read_project}
+use Rattle.vkg_answers.proofs.Reading.{AreTermCells, IsTermCell, read, read_there, read_none, read_project}
 use Rattle.vkg_answers.proofs.Modes.{IsRowOf, cell_at-after, hidden_found}
 use Rattle.vkg_answers.proofs.Steps.{Stands, projected, product-two}
 

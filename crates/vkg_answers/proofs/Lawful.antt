@@ -12,8 +12,7 @@ use Rattle.vkg_sparql.specs.Lawful.{IsLawful, IsWithin, pattern_nodes, patterns_
 use Rattle.vkg_sparql.specs.Query.{Condition}
 use Rattle.vkg_algebra.specs.Lawful.{condition_nodes_if_any}
 use Rattle.vkg_algebra.specs.Patterns.{labels_of, node_labels}
-use Rattle.vkg_algebra.specs.Visible.{node_variables, pattern_variables}
-use Rattle.vkg_unfold.specs.Unfolded.{has}
+use Rattle.vkg_algebra.specs.Visible.{has, node_variables, pattern_variables}
 use Rattle.vkg_answers.proofs.Values.{IsNarrowIfAny}
 use Rattle.vkg_answers.proofs.Reading.{AreBelow}
 use Rattle.vkg_answers.proofs.Quads.{NodeBelow}

@@ -6,7 +6,7 @@ use Rattle.std.specs.Option.{option_or}
 use Rattle.std.proofs.lemmas.List.Elements.{Contains-append_left, Contains-append_right, Contains-append_cases}
 use Rattle.vkg_lists.proofs.Counts.{eq_itself, eq_same}
 use Rattle.vkg_lists.proofs.Members.{Contains-none, Contains-here, Contains-there, Contains-cons_cases}
-use Rattle.vkg_lists.proofs.Bools.{and_parts, and_true}
+use Rattle.vkg_lists.proofs.Bools.{and_parts, and_true, same_truth}
 use Rattle.vkg_terms.specs.declared.term.Term.{Term}
 use Rattle.vkg_terms.proofs.SameLemmas.{terms_apart}
 use Rattle.vkg_cells.specs.declared.cell.Cell.TheVariants as cell
@@ -14,9 +14,10 @@ use Rattle.vkg_algebra.specs.Solutions.{compatible, merge}
 use Rattle.vkg_expr.specs.Value.{term_of}
 use Rattle.vkg_unfold.specs.Unfolded.{Name, name_eq}
 use Rattle.vkg_unfold.specs.StandsFor.{upto_from}
+use Rattle.vkg_unfold.proofs.AlgebraColumns.{name_test}
 use Rattle.vkg_answers.proofs.Joins.{agree, merge-map}
-use Rattle.vkg_answers.proofs.Agreement.{same_truth, all_elim, all_intro, has-upto, compatible-map, agree_none}
-use Rattle.vkg_answers.proofs.Entries.{Entry, name_test, first, alike, named_term, named_solution, AreTerms, AreAlike, alike_onto, alike_back}
+use Rattle.vkg_answers.proofs.Agreement.{all_elim, all_intro, has-upto, compatible-map, agree_none}
+use Rattle.vkg_answers.proofs.Entries.{Entry, first, alike, named_term, named_solution, AreTerms, AreAlike, alike_onto, alike_back}
 
 pub first_there : (x : Name) (zs : List Entry) (y : Entry) → Contains zs y → x ≡ y.0 → (z : Entry) × Contains zs z × (x ≡ z.0) × (first x zs ≡ z.1)
 first_there x [] y c e = absurd (Contains-none y c)

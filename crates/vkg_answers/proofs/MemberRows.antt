@@ -1,14 +1,14 @@
 -- The rows of a triple pattern's plan, and the plan as a whole.
 use Rattle.std.proofs.Common.{◌≡◌, ℕ, Bool, true, false, ⊎_elim, List, [], ◌∷◌, ◌++◌, map, length, refl, sym, ap, subst, ◌∙◌, arith, true≢false}
 use Rattle.std.specs.Prelude.{Option, Some, None, ◌&&◌, Contains, filter, flat_map, filter_map, is_some}
-use Rattle.std.specs.Option.{option_map_or, option_to_list}
+use Rattle.std.specs.Option.{option_map_or}
 use Rattle.std.specs.List.Sorted.{IsPermutation}
 use Rattle.std.proofs.lemmas.List.Elements.{Contains-append_cases}
+use Rattle.vkg_lists.proofs.Results.{some_of}
 use Rattle.vkg_lists.proofs.Bags.{bag_same, bag_trans, bag_sym}
 use Rattle.vkg_lists.proofs.Counts.{eq_itself}
-use Rattle.vkg_lists.proofs.Walks.{filter_map_is_flat_map}
 use Rattle.vkg_lists.proofs.Distinct.{Contains-from_distinct, Contains-distinct}
-use Rattle.vkg_lists.proofs.Members.{Contains-none, Contains-here, Contains-there, Contains-cons_cases, Contains-from_map, Contains-from_filter, Contains-from_flat_map, Contains-flat_map}
+use Rattle.vkg_lists.proofs.Members.{Contains-none, Contains-here, Contains-there, Contains-cons_cases, Contains-from_map, Contains-from_filter, Contains-from_flat_map, Contains-flat_map, Contains-filter_map}
 use Rattle.vkg_lists.specs.Sets.{distinct}
 use Rattle.vkg_lists.proofs.Bools.{and_parts}
 use Rattle.vkg_terms.specs.declared.term.Term.{Term}
@@ -27,32 +27,29 @@ use Rattle.vkg_algebra.specs.Evaluation.{Dataset, graph_names, graph_of}
 use Rattle.vkg_algebra.specs.Patterns.{triple_solutions, pattern_solutions}
 use Rattle.vkg_algebra.specs.Solutions.{Solution}
 use Rattle.vkg_algebra.specs.Answer.{solution_eq}
+use Rattle.vkg_algebra.proofs.InstanceLemmas.{triple_once}
 use Rattle.vkg_expr.specs.Expr.{Expr}
 use Rattle.vkg_expr.specs.declared.term_expr.TermExpr.{TermExpr}
 use Rattle.vkg_expr.specs.TermExprs.{term_expr}
 use Rattle.vkg_expr.specs.Value.{value_of, term_of, term_cell}
+use Rattle.vkg_expr.proofs.ReadBack.{term_back}
 use Rattle.vkg_plan.specs.Kinds.{Tables}
 use Rattle.vkg_plan.specs.Rows.{rows_of, one_row}
 use Rattle.vkg_row_rules.specs.declared.row_rule.RowRule.{RowRule}
 use Rattle.vkg_row_rules.specs.RowDataset.{rule_rows, term_at, graph_at, quads_of, dataset_of}
 use Rattle.vkg_unfold.specs.declared.mode.Mode.{Mode}
 use Rattle.vkg_unfold.specs.declared.mode.Mode.TheVariants.{Default, InGraph, Each}
-use Rattle.vkg_unfold.specs.Unfolded.{Named, named, places, constants, repeats, graph_test, rule_member, pattern_member, pattern_places, pattern_names, pattern_plan}
+use Rattle.vkg_unfold.specs.Unfolded.{Named, named, places, constants, repeats, graph_test, rule_member, pattern_member, pattern_places, pattern_names, pattern_plan, graph_terms}
 use Rattle.vkg_unfold.specs.StandsFor.{IsIn}
 use Rattle.vkg_unfold.specs.FineRows.{IsFineRow, IsNarrowGraph, IsNarrow, NeverDefault}
 use Rattle.vkg_answers.proofs.Entries.{Entry, entry, same_entry, first, alike, named_solution, AreTerms, AreAlike}
 use Rattle.vkg_answers.proofs.Links.{are_alike, alike_is, alike_parts, terms-append, NamesBelow, AreBetween}
 use Rattle.vkg_answers.proofs.Columns.{named_cells, hidden_in, graphs_fit, HasGraphEntry, IsPatternRow, PatternStands}
-use Rattle.vkg_answers.proofs.Sources.{all_hold, member_rows, rows_or_none, union_rows, not_nulls, exprs_of, graph_is, graph_passes, graph_passes_is, term_expr_is, not_null_is}
+use Rattle.vkg_answers.proofs.Sources.{all_hold, member_rows, rows_or_none, union_rows, not_nulls, graph_is, graph_passes, graph_passes_is, term_expr_is, not_null_is}
 use Rattle.vkg_answers.proofs.Quads.{NodeBelow, node_entries, node_below, pattern_entries, pattern_ok}
-use Rattle.vkg_answers.proofs.Members.{hidden_of, names_are_places, member_exprs, row_cells, member_entries, member_conditions, conditions_are, rules_answer}
+use Rattle.vkg_answers.proofs.Members.{hidden_of, names_are_places, member_exprs, row_cells, member_entries, member_conditions, conditions_are, rules_answer, row_fits, row_solution}
 use Rattle.vkg_answers.proofs.Once.{filter_distinct_on, distinct_map_on, quads_once, graph_same}
-use Rattle.vkg_answers.proofs.TriplePatterns.{quad_one, quad_apart, one_row_says, solution_says}
-use Rattle.vkg_row_rules.proofs.RowTermValues.{term_back}
-
-some_of : (o : Option Term) → is_some o ≡ true → (t : Term) × (o ≡ Some t)
-some_of None h = absurd (true≢false (sym h))
-some_of (Some t) h = (t, refl)
+use Rattle.vkg_answers.proofs.TriplePatterns.{quad_apart, one_row_says, solution_says, pattern_below}
 
 value_term : (e : TermExpr) (row : Row) → is_some (term_at e row) ≡ true → (t : Term) × (value_of (term_expr e) row ≡ cell.Term t)
 value_term e row h = let s = some_of (term_at e row) h in (s.0, term_expr_is e row ∙ ap term_cell s.1)
@@ -95,17 +92,14 @@ module _ (schema : Tables) (rules : List RowRule) (db : Database) (n : ℕ) (p :
   graph_named : (rule : RowRule) → Contains rules rule → (row : Row) → Contains (rule_rows schema db rule.table rule.join) row → (i s t u : Term) →
       graph_at rule.graph row ≡ Some (Some i) → term_at rule.subject row ≡ Some s → term_at rule.predicate row ≡ Some t → term_at rule.object row ≡ Some u → Contains (graph_names d) i
   graph_named rule c row k i s t u e0 e1 e2 e3 =
-      Contains-distinct terms_apart (filter_map (λ q. q.graph) d) i (in_filter_map (λ q. q.graph) d q i (Contains-distinct quads_apart (flat_map (quads_of schema db) rules) q
-      (Contains-flat_map (quads_of schema db) rules rule q c (in_filter_map quad (rule_rows schema db rule.table rule.join) row q k (λ j. quad_from (e1 j) (e2 j) (e3 j) (e0 j))))) refl)
+      Contains-distinct terms_apart (filter_map (λ q. q.graph) d) i (Contains-filter_map (λ q. q.graph) d q i (Contains-distinct quads_apart (flat_map (quads_of schema db) rules) q
+      (Contains-flat_map (quads_of schema db) rules rule q c (Contains-filter_map quad (rule_rows schema db rule.table rule.join) row q k (λ j. quad_from (e1 j) (e2 j) (e3 j) (e0 j))))) refl)
     where
       q : Quad
       q = record { subject = s; predicate = t; object = u; graph = Some i }
 
       quad : Row → Option Quad
       quad row = quad_from (term_at rule.subject row) (term_at rule.predicate row) (term_at rule.object row) (graph_at rule.graph row)
-
-      in_filter_map : {A B : Type 0} (f : A → Option B) (xs : List A) (x : A) (y : B) → Contains xs x → f x ≡ Some y → Contains (filter_map f xs) y
-      in_filter_map f xs x y m e = subst (λ l. Contains l y) (sym (filter_map_is_flat_map f xs)) (Contains-flat_map (λ z. option_to_list (f z)) xs x y m (subst (λ o. Contains (option_to_list o) y) (sym e) (Contains-here y [])))
 
   module _ (mode : Mode) (rule : RowRule) (listed : Contains rules rule) (test : List Expr) (admits : graph_test mode rule.graph ≡ Some test) (row : Row) (of_rule : Contains (rule_rows schema db rule.table rule.join) row)
       (passes : all_hold (member_conditions p rule test) row ≡ true) (fine : IsFineRow rule row) where
@@ -128,7 +122,7 @@ module _ (schema : Tables) (rules : List RowRule) (db : Database) (n : ℕ) (p :
       subject : is_some (term_at rule.subject row) ≡ true
       predicate : is_some (term_at rule.predicate row) ≡ true
       object : is_some (term_at rule.object row) ≡ true
-      nulls : all_hold (not_nulls (exprs_of rule.graph)) row ≡ true
+      nulls : all_hold (not_nulls (graph_terms rule.graph)) row ≡ true
       tested : all_hold test row ≡ true
       same : alike [] pe ≡ true
 
@@ -139,12 +133,12 @@ module _ (schema : Tables) (rules : List RowRule) (db : Database) (n : ℕ) (p :
       where
         quad_parts : Parts
         quad_parts =
-            let a = and_parts ((is_some (term_at rule.subject row) && (is_some (term_at rule.predicate row) && (is_some (term_at rule.object row) && all_hold (not_nulls (exprs_of rule.graph)) row))) && all_hold test row) (pattern_ok p S P O && alike [] pe)
+            let a = and_parts ((is_some (term_at rule.subject row) && (is_some (term_at rule.predicate row) && (is_some (term_at rule.object row) && all_hold (not_nulls (graph_terms rule.graph)) row))) && all_hold test row) (pattern_ok p S P O && alike [] pe)
             (sym (conditions_are n [] Default None refl p below rule test row) ∙ passes) in
-            let b = and_parts (is_some (term_at rule.subject row) && (is_some (term_at rule.predicate row) && (is_some (term_at rule.object row) && all_hold (not_nulls (exprs_of rule.graph)) row))) (all_hold test row) a.0 in
-            let c = and_parts (is_some (term_at rule.subject row)) (is_some (term_at rule.predicate row) && (is_some (term_at rule.object row) && all_hold (not_nulls (exprs_of rule.graph)) row)) b.0 in
-            let e = and_parts (is_some (term_at rule.predicate row)) (is_some (term_at rule.object row) && all_hold (not_nulls (exprs_of rule.graph)) row) c.1 in
-            let f = and_parts (is_some (term_at rule.object row)) (all_hold (not_nulls (exprs_of rule.graph)) row) e.1 in
+            let b = and_parts (is_some (term_at rule.subject row) && (is_some (term_at rule.predicate row) && (is_some (term_at rule.object row) && all_hold (not_nulls (graph_terms rule.graph)) row))) (all_hold test row) a.0 in
+            let c = and_parts (is_some (term_at rule.subject row)) (is_some (term_at rule.predicate row) && (is_some (term_at rule.object row) && all_hold (not_nulls (graph_terms rule.graph)) row)) b.0 in
+            let e = and_parts (is_some (term_at rule.predicate row)) (is_some (term_at rule.object row) && all_hold (not_nulls (graph_terms rule.graph)) row) c.1 in
+            let f = and_parts (is_some (term_at rule.object row)) (all_hold (not_nulls (graph_terms rule.graph)) row) e.1 in
             record { subject = c.0; predicate = e.0; object = f.0; nulls = f.1; tested = b.1; same = (and_parts (pattern_ok p S P O) (alike [] pe) a.1).1 }
 
     abbrev IsTerm : Cell → Type 0
@@ -169,7 +163,7 @@ module _ (schema : Tables) (rules : List RowRule) (db : Database) (n : ℕ) (p :
       names : (x : Entry) → Contains (map (entry row) (hidden_of m o)) x → x.0 ≡ None
       same : AreAlike (map (entry row) (hidden_of m o))
 
-    hidden_fine : (mode : Mode) (o : Option TermExpr) → all_hold (not_nulls (exprs_of o)) row ≡ true → IsNarrowGraph o row → Hidden mode o
+    hidden_fine : (mode : Mode) (o : Option TermExpr) → all_hold (not_nulls (graph_terms o)) row ≡ true → IsNarrowGraph o row → Hidden mode o
     hidden_fine Default o h k = record { terms = λ x c. absurd (Contains-none x c); narrow = λ x c. absurd (Contains-none x c); names = λ x c. absurd (Contains-none x c); same = λ x y c e f. absurd (Contains-none x c) }
     hidden_fine (InGraph i) o h k = record { terms = λ x c. absurd (Contains-none x c); narrow = λ x c. absurd (Contains-none x c); names = λ x c. absurd (Contains-none x c); same = λ x y c e f. absurd (Contains-none x c) }
     hidden_fine Each None h k = record { terms = λ x c. absurd (Contains-none x c); narrow = λ x c. absurd (Contains-none x c); names = λ x c. absurd (Contains-none x c); same = λ x y c e f. absurd (Contains-none x c) }
@@ -196,7 +190,7 @@ module _ (schema : Tables) (rules : List RowRule) (db : Database) (n : ℕ) (p :
     graph_entry (InGraph i) o e h = λ x c f. ⊎_elim (λ a. pe_named x (once x a) f) (λ b. Contains-none x b) (Contains-append_cases (distinct same_entry pe) [] x c)
     graph_entry Each None e h = cc
     graph_entry Each (Some ge) e h =
-        let nulls = subst (λ o. all_hold (not_nulls (exprs_of o)) row ≡ true) e parts.nulls in
+        let nulls = subst (λ o. all_hold (not_nulls (graph_terms o)) row ≡ true) e parts.nulls in
         let there = sym (not_null_is ge row) ∙ (and_parts _ true nulls).0 in
         let t = some_of (term_at ge row) there in
         let v = value_term ge row there in
@@ -209,14 +203,14 @@ module _ (schema : Tables) (rules : List RowRule) (db : Database) (n : ℕ) (p :
         )
       where
         -- its graph is not the default graph
-        own : (i : Term) → term_at ge row ≡ Some i → all_hold (not_nulls (exprs_of (Some ge))) row ≡ true → graph_at (Some ge) row ≡ Some (Some i)
+        own : (i : Term) → term_at ge row ≡ Some i → all_hold (not_nulls (graph_terms (Some ge))) row ≡ true → graph_at (Some ge) row ≡ Some (Some i)
         own i f nulls = is (graph_at (Some ge) row) (sym (graph_passes_is one Each (Some i) (Some ge) row (i, refl, Contains-here i []) (subst (λ o. NeverDefault o row) e fine.never)) ∙ passed)
           where
             one : Dataset
             one = record { subject = i; predicate = i; object = i; graph = Some i } ∷ []
 
             passed : graph_passes Each (Some i) (Some ge) row ≡ true
-            passed = ap (λ o. option_map_or (λ test. (all_hold (not_nulls (exprs_of (Some ge))) row && all_hold test row) && graph_is Each (Some i) (Some ge) row) o false) h
+            passed = ap (λ o. option_map_or (λ test. (all_hold (not_nulls (graph_terms (Some ge))) row && all_hold test row) && graph_is Each (Some i) (Some ge) row) o false) h
                 ∙ (λ j. (nulls j && parts.tested j) && (ap (λ o. option_map_or (term_eq i) o false) f ∙ eq_itself terms_apart i) j)
 
             is : (o : Option (Option Term)) → option_map_or (λ h. graph_eq h (Some i)) o false ≡ true → o ≡ Some (Some i)
@@ -277,10 +271,10 @@ module _ (schema : Tables) (rules : List RowRule) (db : Database) (n : ℕ) (p :
             (λ x y a b. let s = Contains-from_filter fits all_rows x a in let t = Contains-from_filter fits all_rows y b in
             solution_says n d mode (pattern_names mode p) g h x y (any_row x s.0) (any_row y t.0) s.1 t.1)
             ∙ ap (distinct solution_eq) (rules_answer schema db n d mode g h p below rules (λ rule c row k. (fine rule c row k).never))))
-            (bag_sym (quads_once (triple_solutions n p) g (quad_one n p below) (quad_apart n p below) (flat_map (quads_of schema db) rules)))
+            (bag_sym (quads_once (triple_solutions n p) g (triple_once n p (pattern_below n p below)) (quad_apart n p below) (flat_map (quads_of schema db) rules)))
           where
             solution : Row → Solution
-            solution row = named_solution n (named_cells (pattern_names mode p) row)
+            solution = row_solution schema db n d mode g h p below
 
             fits : Row → Bool
-            fits row = graphs_fit (hidden_in mode g) (named_cells (pattern_names mode p) row)
+            fits = row_fits schema db n d mode g h p below

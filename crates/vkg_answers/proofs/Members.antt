@@ -3,6 +3,8 @@ use Rattle.std.proofs.Common.{◌≡◌, ℕ, Bool, true, false, List, [], ◌�
 use Rattle.std.specs.Prelude.{Option, Some, None, not, ◌&&◌, Contains, filter, flat_map, is_some, if◌then◌else◌}
 use Rattle.std.specs.Option.{option_map_or, option_to_list}
 use Rattle.std.proofs.lemmas.List.{map-append}
+use Rattle.std.proofs.Math.Bool.{and-true}
+use Rattle.vkg_unfold.proofs.PlanColumns.{names_of_places}
 use Rattle.vkg_lists.proofs.Distinct.{distinct-map}
 use Rattle.vkg_lists.proofs.Walks.{filter-map, filter-filter, map-map, filter_map_is_flat_map, filter-flat_map, flat_map-flat_map, map-flat_map}
 use Rattle.vkg_lists.proofs.Members.{flat_map_agree_on, Contains-here, Contains-there}
@@ -25,32 +27,27 @@ use Rattle.vkg_expr.specs.Expr.{Expr}
 use Rattle.vkg_expr.specs.declared.term_expr.TermExpr.{TermExpr}
 use Rattle.vkg_expr.specs.TermExprs.{term_expr}
 use Rattle.vkg_expr.specs.Value.{value_of, term_of, term_cell, holds}
+use Rattle.vkg_expr.proofs.ReadBack.{term_back}
 use Rattle.vkg_plan.specs.Kinds.{Tables}
 use Rattle.vkg_row_rules.specs.declared.row_rule.RowRule.{RowRule}
 use Rattle.vkg_row_rules.specs.RowDataset.{rule_rows, term_at, graph_at, quads_of}
 use Rattle.vkg_unfold.specs.declared.mode.Mode.{Mode}
 use Rattle.vkg_unfold.specs.declared.mode.Mode.TheVariants.{Default, InGraph, Each}
-use Rattle.vkg_unfold.specs.Unfolded.{Name, name_eq, Named, same_name, named, constants, repeats, places, if_each, graph_exprs, not_null, graph_test, rule_member, pattern_member, pattern_places, pattern_names, node_names}
+use Rattle.vkg_unfold.specs.Unfolded.{Name, name_eq, Named, same_name, named, constants, repeats, places, if_each, graph_exprs, not_null, graph_test, rule_member, pattern_member, pattern_places, pattern_names, graph_terms}
 use Rattle.vkg_unfold.specs.StandsFor.{IsIn, upto_from}
 use Rattle.vkg_unfold.specs.FineRows.{NeverDefault}
+use Rattle.vkg_unfold.proofs.AlgebraColumns.{name_test}
 use Rattle.vkg_answers.proofs.Agreement.{list_all-append}
-use Rattle.vkg_answers.proofs.Entries.{Entry, entry, name_test, same_entry, first, alike, named_solution, repeats_alike}
+use Rattle.vkg_answers.proofs.Entries.{Entry, entry, same_entry, first, alike, named_solution, repeats_alike}
 use Rattle.vkg_answers.proofs.Columns.{named_cells, hidden_in, graph_fits, graphs_fit}
-use Rattle.vkg_answers.proofs.Sources.{all_hold, member_rows, rows_or_none, not_nulls, exprs_of, graph_is, in_graph, graph_passes_is, term_expr_is, not_null_is}
+use Rattle.vkg_answers.proofs.Sources.{all_hold, member_rows, rows_or_none, not_nulls, graph_is, in_graph, graph_passes_is, term_expr_is, nulls_are}
 use Rattle.vkg_answers.proofs.Quads.{NodeBelow, node_entries, pattern_cells, pattern_entries, pattern_ok, quad_answers, constants_are, named_are}
-use Rattle.vkg_row_rules.proofs.RowTermValues.{term_back}
 
 -- ---- the entries of a member's row
 
 entries_of : (row : Row) (xs : List Named) → named_cells (map (λ (x : Named). x.0) xs) (map (λ e. value_of e row) (map (λ (x : Named). x.1) xs)) ≡ map (entry row) xs
 entries_of row [] = refl
 entries_of row (x ∷ xs) = ap (λ zs. entry row x ∷ zs) (entries_of row xs)
-
-named_names : (xs : List (Node × Expr)) → map (λ (x : Named). x.0) (flat_map named xs) ≡ flat_map node_names (map (λ (x : Node × Expr). x.0) xs)
-named_names [] = refl
-named_names ((Fixed t, e) ∷ xs) = named_names xs
-named_names ((Variable v, e) ∷ xs) = ap (λ ns. Some v ∷ ns) (named_names xs)
-named_names ((Label v, e) ∷ xs) = ap (λ ns. Some v ∷ ns) (named_names xs)
 
 abbrev pub hidden_places : Mode → RowRule → List Named
 hidden_places mode rule = flat_map (λ g. if_each mode (None, g)) (graph_exprs rule)
@@ -82,7 +79,7 @@ admitted_names Each (Some g) test e = refl
 pub names_are_places : (mode : Mode) (p : TriplePattern) (rule : RowRule) (test : List Expr) → graph_test mode rule.graph ≡ Some test → map (λ (x : Named). x.0) (pattern_places mode p rule) ≡ pattern_names mode p
 names_are_places mode p rule test e =
     map-append (λ (x : Named). x.0) (distinct same_name (flat_map named (places p rule))) (hidden_places mode rule)
-    ∙ (λ i. (sym (distinct-map same_name name_eq (λ (x : Named). x.0) (λ x y. refl) (flat_map named (places p rule))) ∙ ap (distinct name_eq) (named_names (places p rule))) i
+    ∙ (λ i. (sym (distinct-map same_name name_eq (λ (x : Named). x.0) (λ x y. refl) (flat_map named (places p rule))) ∙ ap (distinct name_eq) (names_of_places (places p rule))) i
     ++ (ap (map (λ (x : Named). x.0)) (hidden_is_of mode rule) ∙ admitted_names mode rule.graph test e) i)
 
 -- first, where each name stands once, and before hidden columns
@@ -164,11 +161,7 @@ module _ (mode : Mode) (p : TriplePattern) (rule : RowRule) (test : List Expr) (
       of (InGraph i) o g h k = refl
       of Each None g h k = cc
       of Each (Some e) None h k = let x : None ≡ Some h.0 = h.1 in cc
-      of Each (Some e) (Some i) h k = Prim.rw (term_expr_is e row, term_back (term_at e row)) (both (option_map_or (term_eq i) (term_at e row) false))
-        where
-          both : (b : Bool) → (b && true) ≡ b
-          both true = refl
-          both false = refl
+      of Each (Some e) (Some i) h k = Prim.rw (term_expr_is e row, term_back (term_at e row)) (and-true (option_map_or (term_eq i) (term_at e row) false))
 
 -- ---- one row of a rule
 
@@ -183,19 +176,14 @@ module _ (n : ℕ) (d : Dataset) (mode : Mode) (g : Option Term) (h : IsIn d mod
   solution_at row = named_solution n (pattern_entries p (value_of (term_expr rule.subject) row) (value_of (term_expr rule.predicate) row) (value_of (term_expr rule.object) row))
 
   pub conditions_are : (test : List Expr) (row : Row) → all_hold (member_conditions p rule test) row
-      ≡ (((is_some (term_at rule.subject row) && (is_some (term_at rule.predicate row) && (is_some (term_at rule.object row) && all_hold (not_nulls (exprs_of rule.graph)) row))) && all_hold test row)
+      ≡ (((is_some (term_at rule.subject row) && (is_some (term_at rule.predicate row) && (is_some (term_at rule.object row) && all_hold (not_nulls (graph_terms rule.graph)) row))) && all_hold test row)
       && (pattern_ok p (value_of (term_expr rule.subject) row) (value_of (term_expr rule.predicate) row) (value_of (term_expr rule.object) row)
       && alike [] (pattern_entries p (value_of (term_expr rule.subject) row) (value_of (term_expr rule.predicate) row) (value_of (term_expr rule.object) row))))
   conditions_are test row =
       list_all-append (λ c. holds c row) (not_null rule ++ test) (flat_map constants (places p rule) ++ repeats [] (flat_map named (places p rule)))
-      ∙ (λ i. (list_all-append (λ c. holds c row) (not_null rule) test ∙ ap (λ b. b && all_hold test row) (nulls rule.graph)) i
+      ∙ (λ i. (list_all-append (λ c. holds c row) (not_null rule) test ∙ ap (λ b. b && all_hold test row) (nulls_are rule row rule.graph)) i
       && (list_all-append (λ c. holds c row) (flat_map constants (places p rule)) (repeats [] (flat_map named (places p rule)))
       ∙ (λ j. constants_are row (places p rule) j && (repeats_alike row [] (flat_map named (places p rule)) ∙ ap (alike []) (named_are row (places p rule))) j)) i)
-    where
-      nulls : (o : Option TermExpr) → all_hold (not_null (record rule { graph = o })) row
-          ≡ (is_some (term_at rule.subject row) && (is_some (term_at rule.predicate row) && (is_some (term_at rule.object row) && all_hold (not_nulls (exprs_of o)) row)))
-      nulls None = λ i. not_null_is rule.subject row i && (not_null_is rule.predicate row i && (not_null_is rule.object row i && true))
-      nulls (Some e) = λ i. not_null_is rule.subject row i && (not_null_is rule.predicate row i && (not_null_is rule.object row i && all_hold (not_nulls (exprs_of (Some e))) row))
 
   truths : (a b c m t x k : Bool) → ((((a && (b && (c && m))) && t) && x) && k) ≡ ((a && (b && (c && ((m && t) && k)))) && x)
   truths false b c m t x k = refl
@@ -224,11 +212,11 @@ module _ (n : ℕ) (d : Dataset) (mode : Mode) (g : Option Term) (h : IsIn d mod
       (if all_hold (member_conditions p rule test) row && graph_is mode g rule.graph row then solution_at row ∷ [] else []) ≡ answers_at row
   row_answers test e row k =
       ap (λ b. if b then solution_at row ∷ [] else [])
-      (ap (λ b. b && graph_is mode g rule.graph row) (conditions_are test row) ∙ truths (is_some (term_at rule.subject row)) (is_some (term_at rule.predicate row)) (is_some (term_at rule.object row)) (all_hold (not_nulls (exprs_of rule.graph)) row) (all_hold test row) (pattern_ok p (value_of (term_expr rule.subject) row) (value_of (term_expr rule.predicate) row) (value_of (term_expr rule.object) row) && alike [] (pattern_entries p (value_of (term_expr rule.subject) row) (value_of (term_expr rule.predicate) row) (value_of (term_expr rule.object) row))) (graph_is mode g rule.graph row)
+      (ap (λ b. b && graph_is mode g rule.graph row) (conditions_are test row) ∙ truths (is_some (term_at rule.subject row)) (is_some (term_at rule.predicate row)) (is_some (term_at rule.object row)) (all_hold (not_nulls (graph_terms rule.graph)) row) (all_hold test row) (pattern_ok p (value_of (term_expr rule.subject) row) (value_of (term_expr rule.predicate) row) (value_of (term_expr rule.object) row) && alike [] (pattern_entries p (value_of (term_expr rule.subject) row) (value_of (term_expr rule.predicate) row) (value_of (term_expr rule.object) row))) (graph_is mode g rule.graph row)
       ∙ ap (λ b. (is_some (term_at rule.subject row) && (is_some (term_at rule.predicate row) && (is_some (term_at rule.object row) && b)))
       && (pattern_ok p (value_of (term_expr rule.subject) row) (value_of (term_expr rule.predicate) row) (value_of (term_expr rule.object) row)
       && alike [] (pattern_entries p (value_of (term_expr rule.subject) row) (value_of (term_expr rule.predicate) row) (value_of (term_expr rule.object) row))))
-      (sym (ap (λ o. option_map_or (λ test. (all_hold (not_nulls (exprs_of rule.graph)) row && all_hold test row) && graph_is mode g rule.graph row) o false) e) ∙ graph_passes_is d mode g rule.graph row h k))
+      (sym (ap (λ o. option_map_or (λ test. (all_hold (not_nulls (graph_terms rule.graph)) row && all_hold test row) && graph_is mode g rule.graph row) o false) e) ∙ graph_passes_is d mode g rule.graph row h k))
       ∙ sym (answers_are row)
 
   -- no member: no quad in the graph
@@ -240,7 +228,7 @@ module _ (n : ℕ) (d : Dataset) (mode : Mode) (g : Option Term) (h : IsIn d mod
           && alike [] (pattern_entries p (value_of (term_expr rule.subject) row) (value_of (term_expr rule.predicate) row) (value_of (term_expr rule.object) row))
 
       not_in : in_graph g rule.graph row ≡ false
-      not_in = sym (graph_passes_is d mode g rule.graph row h k) ∙ ap (λ o. option_map_or (λ test. (all_hold (not_nulls (exprs_of rule.graph)) row && all_hold test row) && graph_is mode g rule.graph row) o false) e
+      not_in = sym (graph_passes_is d mode g rule.graph row h k) ∙ ap (λ o. option_map_or (λ test. (all_hold (not_nulls (graph_terms rule.graph)) row && all_hold test row) && graph_is mode g rule.graph row) o false) e
 
       of : (a b c : Bool) → (if (a && (b && (c && false))) && x then solution_at row ∷ [] else []) ≡ []
       of false b c = refl

@@ -1,5 +1,6 @@
 -- What the rows of a mode are, and the condition of a Join or a Left over them.
 use Rattle.std.proofs.Common.{◌≡◌, ℕ, ◌+◌, ◌≤◌, Bool, true, false, List, [], ◌∷◌, ◌++◌, map, length, refl, sym, ap, ◌∙◌, arith}
+use Rattle.std.proofs.Math.Bool.{and-false}
 use Rattle.std.specs.Prelude.{Option, Some, None, ◌&&◌, replicate, unwrap_or}
 use Rattle.std.specs.List.{list_all}
 use Rattle.std.specs.Option.{option_map_or}
@@ -10,6 +11,7 @@ use Rattle.vkg_terms.proofs.SameLemmas.{terms_apart}
 use Rattle.vkg_cells.specs.Order.{same}
 use Rattle.vkg_cells.specs.declared.cell.Cell.TheVariants as cell
 use Rattle.vkg_schema.specs.Rows.{Row, cell_at}
+use Rattle.vkg_schema.proofs.RowCells.{cell_at-left, cell_at-right}
 use Rattle.vkg_algebra.specs.Evaluation.{Dataset}
 use Rattle.vkg_algebra.specs.Visible.{each_once}
 use Rattle.vkg_expr.specs.Expr.{Expr, Col, Same}
@@ -20,7 +22,7 @@ use Rattle.vkg_unfold.specs.declared.mode.Mode.TheVariants.{Default, InGraph, Ea
 use Rattle.vkg_unfold.specs.Unfolded.{merged, merged_columns, agreement, columns_in, if_each}
 use Rattle.vkg_unfold.specs.StandsFor.{IsIn, belongs, hidden_is, HasGraph}
 use Rattle.vkg_answers.proofs.Conjuncts.{holds-and_of}
-use Rattle.vkg_answers.proofs.Reading.{cell_at-left, cell_at-right, AreTermCells}
+use Rattle.vkg_answers.proofs.Reading.{AreTermCells}
 use Rattle.vkg_answers.proofs.Agreement.{agreements, list_all-append}
 
 -- a row of a plan with these variables in a mode
@@ -68,11 +70,7 @@ through_graph a x i t u true e = let f : i ≡ t = eq_same terms_apart i t e in 
     of true false x = refl
     of false true x = refl
     of false false x = refl
-through_graph a x i t u false e = of ((a && (term_eq t u && true)) && x)
-  where
-    of : (b : Bool) → (b && false) ≡ false
-    of true = refl
-    of false = refl
+through_graph a x i t u false e = and-false ((a && (term_eq t u && true)) && x)
 
 near_graph : (a x : Bool) (i t u : Term) → term_eq i t ≡ true → ((a && (term_eq t u && true)) && x) ≡ (term_eq i u && (a && x))
 near_graph a x i t u e = let f : i ≡ t = eq_same terms_apart i t e in Prim.rw f (of a (term_eq t u) x)

@@ -20,7 +20,8 @@ use Rattle.vkg_expr.specs.Value.{value_of, term_of, term_cell, holds}
 use Rattle.vkg_unfold.specs.Conditions.{truth_expr}
 use Rattle.vkg_unfold.specs.declared.mode.Mode.{Mode}
 use Rattle.vkg_unfold.specs.declared.mode.Mode.TheVariants.{Default, InGraph, Each}
-use Rattle.vkg_unfold.specs.Unfolded.{has, if_each, visible_column}
+use Rattle.vkg_algebra.specs.Visible.{has}
+use Rattle.vkg_unfold.specs.Unfolded.{if_each, visible_column}
 use Rattle.vkg_unfold.specs.StandsFor.{belongs, term_in, solution_of, solutions_of, upto_from}
 use Rattle.vkg_unfold.specs.FineRows.{IsNarrow}
 use Rattle.vkg_answers.proofs.Values.{IsNarrowCondition}

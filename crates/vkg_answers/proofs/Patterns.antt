@@ -12,7 +12,8 @@ use Rattle.vkg_lists.proofs.Distinct.{Contains-from_distinct}
 use Rattle.vkg_lists.proofs.Bags.{bag_same, bag_trans, bag_map}
 use Rattle.vkg_lists.proofs.Counts.{eq_itself, eq_comm, Decides-list_any}
 use Rattle.vkg_lists.proofs.Walks.{filter-map, filter-filter, map-map}
-use Rattle.vkg_lists.proofs.Members.{Contains-none, Contains-here, Contains-there, Contains-from_map, Contains-from_filter, Contains-from_flat_map, map_agree_on, filter_agree_on}
+use Rattle.vkg_lists.proofs.Members.{Contains-none, Contains-here, Contains-there, Contains-from_map, Contains-from_filter, Contains-from_flat_map, map_agree_on, filter_agree_on, each_of_all, all_of_each}
+use Rattle.vkg_lists.proofs.Bools.{or_left, or_right, same_truth}
 use Rattle.vkg_lists.specs.Sets.{distinct}
 use Rattle.vkg_terms.specs.declared.term.Term.{Term}
 use Rattle.vkg_terms.specs.Same.{term_eq}
@@ -25,7 +26,7 @@ use Rattle.vkg_sparql.specs.declared.pattern.TriplePattern.{TriplePattern}
 use Rattle.vkg_algebra.specs.Algebra.{Bgp}
 use Rattle.vkg_algebra.specs.Evaluation.{Dataset, graph_of, evaluate}
 use Rattle.vkg_algebra.specs.Patterns.{bgp_solutions, labels_of, node_labels, without}
-use Rattle.vkg_algebra.specs.Visible.{visible, pattern_variables, node_variables}
+use Rattle.vkg_algebra.specs.Visible.{has, node_variables, pattern_variables, visible}
 use Rattle.vkg_expr.specs.Expr.{Expr, Col}
 use Rattle.vkg_expr.specs.Value.{value_of, term_of, holds}
 use Rattle.vkg_expr.specs.Logic.{and_of}
@@ -33,19 +34,19 @@ use Rattle.vkg_plan.specs.Kinds.{Tables}
 use Rattle.vkg_plan.specs.Plan.{Join, Project, plans}
 use Rattle.vkg_plan.specs.Rows.{rows_of, rows_of_each, product}
 use Rattle.vkg_row_rules.specs.declared.row_rule.RowRule.{RowRule}
-use Rattle.vkg_unfold.specs.Unfolded.{place_of, has, if_each, Name, name_eq, node_names, pattern_names, pattern_plan, numbered, repeats, bgp_plan, visible_column}
+use Rattle.vkg_unfold.specs.Unfolded.{place_of, if_each, Name, name_eq, node_names, pattern_names, pattern_plan, numbered, repeats, bgp_plan, visible_column}
 use Rattle.vkg_unfold.specs.declared.mode.Mode.{Mode}
 use Rattle.vkg_unfold.specs.declared.mode.Mode.TheVariants.{Default, InGraph, Each}
 use Rattle.vkg_unfold.specs.StandsFor.{upto_from, IsIn, belongs, hidden_is, solution_of, solutions_of, term_in}
 use Rattle.vkg_unfold.specs.FineRows.{IsNarrow}
+use Rattle.vkg_unfold.proofs.AlgebraColumns.{name_test}
 use Rattle.vkg_answers.proofs.Conjuncts.{holds-and_of}
 use Rattle.vkg_answers.proofs.Reading.{AreBelow, IsTermCell, is_term_cell, read_project, has-append, has-each_once}
-use Rattle.vkg_answers.proofs.Agreement.{same_truth}
 use Rattle.vkg_answers.proofs.Modes.{IsRowOf, cell_at-after, hidden_found}
 use Rattle.vkg_answers.proofs.Steps.{Stands, projected, project_rows, IsGraphCell}
-use Rattle.vkg_answers.proofs.Entries.{Entry, name_test, first, alike, named_term, named_solution, repeats_alike, AreAlike}
+use Rattle.vkg_answers.proofs.Entries.{Entry, first, alike, named_term, named_solution, repeats_alike, AreAlike}
 use Rattle.vkg_answers.proofs.Links.{first_cases, first_alike, are_alike}
-use Rattle.vkg_answers.proofs.Columns.{named_cells, cells-append, place_first, numbered_cells, graph_fits, graphs_fit, fits_term, all_entries, every_entry, HasGraphEntry, IsNamedRow, PatternStands, fits, product_row, product_bag}
+use Rattle.vkg_answers.proofs.Columns.{named_cells, cells-append, place_first, numbered_cells, graph_fits, graphs_fit, fits_term, HasGraphEntry, IsNamedRow, PatternStands, fits, product_row, product_bag}
 
 -- ---- without labels
 
@@ -107,14 +108,6 @@ member-once x ns h = (Decides-list_any name_test ns x).1 (Contains-from_distinct
 or_cases : (a b : Bool) → (a || b) ≡ true → (a ≡ true) ⊎ (b ≡ true)
 or_cases true b h = inl refl
 or_cases false b h = inr h
-
-or_left : (a b : Bool) → a ≡ true → (a || b) ≡ true
-or_left true b h = refl
-or_left false b h = absurd (true≢false (sym h))
-
-or_right : (a b : Bool) → b ≡ true → (a || b) ≡ true
-or_right true b h = refl
-or_right false b h = h
 
 -- what a node names is a variable or a label
 abbrev IsKnown : List ℕ → List ℕ → ℕ → Type 0
@@ -198,7 +191,7 @@ product_graph n d Each R p ps h row c =
 
 -- whether a whole row belongs to a graph
 no_entries_fit : (o : Option Term) (zs : List Entry) → ((x : Entry) → Contains zs x → x.0 ≡ None → ⊥) → graphs_fit o zs ≡ true
-no_entries_fit o zs h = every_entry (graph_fits o) zs (λ x c. of x (h x c))
+no_entries_fit o zs h = all_of_each (graph_fits o) zs (λ x c. of x (h x c))
   where
     of : (x : Entry) → (x.0 ≡ None → ⊥) → graph_fits o x ≡ true
     of (Some v, c) k = refl
@@ -210,12 +203,12 @@ fits_first i t zs h e = same_truth (graphs_fit (Some i) zs) (term_eq i t) onto b
     onto : graphs_fit (Some i) zs ≡ true → term_eq i t ≡ true
     onto k = ⊎_elim
         (λ none. let f : cell.Null ≡ cell.Term t = sym none ∙ e in cc)
-        (λ r. let u = fits_term (Some i) r.0 (sym r.2) (all_entries (graph_fits (Some i)) zs k r.0 r.1) in
+        (λ r. let u = fits_term (Some i) r.0 (sym r.2) (each_of_all (graph_fits (Some i)) zs k r.0 r.1) in
         let g : Some i ≡ Some t = u.1 ∙ sym u.2 ∙ ap term_of (sym r.3 ∙ e) in (terms_apart.decides i t).1 cc)
         (first_cases None zs)
 
     back : term_eq i t ≡ true → graphs_fit (Some i) zs ≡ true
-    back k = every_entry (graph_fits (Some i)) zs (λ x c. of x x.0 refl c)
+    back k = all_of_each (graph_fits (Some i)) zs (λ x c. of x x.0 refl c)
       where
         of : (x : Entry) (m : Name) → x.0 ≡ m → Contains zs x → graph_fits (Some i) x ≡ true
         of (Some v, c) m f k2 = refl

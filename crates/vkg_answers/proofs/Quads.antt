@@ -1,5 +1,6 @@
 -- One row of a rule: it gives a row of a triple pattern exactly where its quad gives a solution.
 use Rattle.std.proofs.Common.{◌≡◌, ℕ, ◌<◌, Bool, true, false, ⊎_elim, List, [], ◌∷◌, ◌++◌, map, refl, sym, ap, ◌∙◌, arith, append-nil}
+use Rattle.std.proofs.Math.Bool.{and-true}
 use Rattle.std.specs.Prelude.{Option, Some, None, ◌&&◌, filter, flat_map, nat_eq, is_some, if◌then◌else◌, ⊤}
 use Rattle.std.specs.Option.{option_map_or, option_to_list}
 use Rattle.std.specs.List.{list_all}
@@ -27,7 +28,6 @@ use Rattle.vkg_answers.proofs.Entries.{Entry, entry, alike, is_same, named_solut
 use Rattle.vkg_answers.proofs.Links.{NamesBelow, names_agree, alike-append, solution-append, terms-append}
 use Rattle.vkg_answers.proofs.Columns.{unbound_is}
 use Rattle.vkg_answers.proofs.Sources.{all_hold}
-use Rattle.vkg_match.proofs.Holes.{and_true_here}
 
 -- what a node's cell is named, and whether it is the node's term
 abbrev pub node_entries : Node → Cell → List Entry
@@ -126,8 +126,8 @@ module _ (n : ℕ) (p : TriplePattern) (below : NodeBelow n p.subject × NodeBel
       ∙ alike-append n es (ep ++ eo) (node_terms p.subject s) (terms-append ep eo (node_terms p.predicate t) (node_terms p.object u)) (node_below n p.subject (cell.Term s) below.0)
       ∙ (λ i. (node_alike p.subject (cell.Term s) i && alike-append n ep eo (node_terms p.predicate t) (node_terms p.object u) (node_below n p.predicate (cell.Term t) below.1) i)
       && (compatible (named_solution n es) (named_solution n (ep ++ eo)) && node_graph p.subject (cell.Term s) (ep ++ eo) i))
-      ∙ (λ i. ((node_alike p.predicate (cell.Term t) i && node_alike p.object (cell.Term u) i) && (compatible (named_solution n ep) (named_solution n eo) && node_graph p.predicate (cell.Term t) eo i)) && and_true_here (compatible (named_solution n es) (named_solution n (ep ++ eo))) i)
-      ∙ ap (λ b. b && compatible (named_solution n es) (named_solution n (ep ++ eo))) (and_true_here (compatible (named_solution n ep) (named_solution n eo)))
+      ∙ (λ i. ((node_alike p.predicate (cell.Term t) i && node_alike p.object (cell.Term u) i) && (compatible (named_solution n ep) (named_solution n eo) && node_graph p.predicate (cell.Term t) eo i)) && and-true (compatible (named_solution n es) (named_solution n (ep ++ eo))) i)
+      ∙ ap (λ b. b && compatible (named_solution n es) (named_solution n (ep ++ eo))) (and-true (compatible (named_solution n ep) (named_solution n eo)))
 
   pub quad_solutions_are : (s t u : Term) (g : Option Term) → triple_solutions n p (record { subject = s; predicate = t; object = u; graph = g })
       ≡ (if pattern_ok p (cell.Term s) (cell.Term t) (cell.Term u) && alike [] (pattern_entries p (cell.Term s) (cell.Term t) (cell.Term u)) then named_solution n (pattern_entries p (cell.Term s) (cell.Term t) (cell.Term u)) ∷ [] else [])

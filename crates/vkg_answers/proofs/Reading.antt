@@ -3,22 +3,25 @@ use Rattle.std.proofs.Common.{◌≡◌, ℕ, zero, suc, ◌+◌, ◌<◌, ◌�
 use Rattle.std.specs.Prelude.{Option, Some, None, not, ◌&&◌, ◌||◌, nat_eq, replicate, filter, if◌then◌else◌}
 use Rattle.std.specs.Option.{option_or}
 use Rattle.std.proofs.lemmas.Bool.{eqb-true, cases_lt}
+use Rattle.std.proofs.Math.Bool.{and-false, and-true}
 use Rattle.vkg_lists.proofs.Tests.{nat_test}
 use Rattle.vkg_lists.proofs.Counts.{eq_itself}
 use Rattle.vkg_terms.specs.declared.term.Term.{Term}
 use Rattle.vkg_cells.specs.declared.cell.Cell.{Cell}
 use Rattle.vkg_cells.specs.declared.cell.Cell.TheVariants as cell
 use Rattle.vkg_schema.specs.Rows.{Row, cell_at}
+use Rattle.vkg_schema.proofs.RowCells.{cell_at-left, cell_at-right}
 use Rattle.vkg_algebra.specs.Solutions.{merge, lookup}
-use Rattle.vkg_algebra.specs.Visible.{each_once}
+use Rattle.vkg_algebra.specs.Visible.{each_once, has}
 use Rattle.vkg_expr.specs.Expr.{Expr, Coalesce, exprs}
 use Rattle.vkg_expr.specs.Value.{value_of, term_of, term_cell, coalesced}
-use Rattle.vkg_unfold.specs.Unfolded.{place_of, has, merged, left_column, right_column, visible_column, null_term, columns_in}
+use Rattle.vkg_expr.proofs.ReadBack.{term_back}
+use Rattle.vkg_unfold.specs.Unfolded.{place_of, merged, left_column, right_column, visible_column, null_term, columns_in}
 use Rattle.vkg_unfold.specs.declared.mode.Mode.{Mode}
 use Rattle.vkg_unfold.specs.StandsFor.{upto_from, term_in, solution_of}
 use Rattle.vkg_unfold.specs.FineRows.{IsNarrow}
+use Rattle.vkg_unfold.proofs.AlgebraColumns.{has_place}
 use Rattle.vkg_answers.proofs.Joins.{merge-map}
-use Rattle.vkg_row_rules.proofs.RowTermValues.{term_back}
 
 -- a cell that is NULL, or a term that is no number of too many digits
 abbrev pub IsTermCell : Cell → Type 0
@@ -30,30 +33,12 @@ is_term_cell c (Some t) e h = Prim.rw e (refl, h)
 
 -- ---- cells of rows
 
-pub cell_at-left : (l r : Row) (k : ℕ) → k < length l → cell_at (l ++ r) k ≡ cell_at l k
-cell_at-left [] r k h = absurd (omega arith)
-cell_at-left (c ∷ l) r zero h = refl
-cell_at-left (c ∷ l) r (suc k) h = cell_at-left l r k (omega arith)
-
-pub cell_at-right : (l r : Row) (m k : ℕ) → m ≡ length l + k → cell_at (l ++ r) m ≡ cell_at r k
-cell_at-right [] r m k e = let f : m ≡ k = omega arith in Prim.rw f refl
-cell_at-right (c ∷ l) r zero k e = absurd (omega arith)
-cell_at-right (c ∷ l) r (suc m) k e = cell_at-right l r m k (omega arith)
-
 pub cell_at-nulls : (n k : ℕ) → cell_at (replicate n cell.Null) k ≡ cell.Null
 cell_at-nulls zero k = refl
 cell_at-nulls (suc n) zero = refl
 cell_at-nulls (suc n) (suc k) = cell_at-nulls n k
 
 -- ---- places of variables
-
-pub place_within : (vs : List ℕ) (v : ℕ) → has vs v ≡ true → place_of (nat_eq v) vs < length vs
-place_within [] v h = absurd (true≢false (sym h))
-place_within (w ∷ vs) v h = of (λ k. place_within vs v k) (nat_eq v w) h
-  where
-    of : (has vs v ≡ true → place_of (nat_eq v) vs < length vs) → (b : Bool) → (b || has vs v) ≡ true → (if b then 0 else suc (place_of (nat_eq v) vs)) < length (w ∷ vs)
-    of rest true k = omega arith
-    of rest false k = omega (arith, rest k)
 
 pub read_place : (g : ℕ → Cell) (vs : List ℕ) (rest : Row) (v : ℕ) → has vs v ≡ true → cell_at (map g vs ++ rest) (place_of (nat_eq v) vs) ≡ g v
 read_place g [] rest v h = absurd (true≢false (sym h))
@@ -77,14 +62,10 @@ pub has-filter : (p : ℕ → Bool) (vs : List ℕ) (v : ℕ) → has (filter p 
 has-filter p [] v = refl
 has-filter p (w ∷ vs) v = of (has-filter p vs v) (p w) refl (nat_eq v w) refl
   where
-    no : (b : Bool) → (b && false) ≡ false
-    no true = refl
-    no false = refl
-
     of : has (filter p vs) v ≡ (has vs v && p v) → (b : Bool) → p w ≡ b → (c : Bool) → nat_eq v w ≡ c → has (if b then w ∷ filter p vs else filter p vs) v ≡ ((c || has vs v) && p v)
     of rest true e true f = let g : v ≡ w = eqb-true v w f in Prim.rw (f, ap p g, e) refl
     of rest true e false f = Prim.rw f rest
-    of rest false e true f = let g : v ≡ w = eqb-true v w f in rest ∙ Prim.rw (ap p g, e) (no (has vs v))
+    of rest false e true f = let g : v ≡ w = eqb-true v w f in rest ∙ Prim.rw (ap p g, e) (and-false (has vs v))
     of rest false e false f = rest
 
 pub has-each_once : (vs : List ℕ) (v : ℕ) → has (each_once vs) v ≡ has vs v
@@ -98,13 +79,9 @@ has-each_once (w ∷ vs) v = of (has-each_once vs v) (nat_eq v w) refl
     apart : nat_eq v w ≡ false → not (nat_eq w v) ≡ true
     apart e = other (nat_eq w v) refl e
 
-    keep : (b : Bool) → (b && true) ≡ b
-    keep true = refl
-    keep false = refl
-
     of : has (each_once vs) v ≡ has vs v → (b : Bool) → nat_eq v w ≡ b → (b || has (filter (λ y. not (nat_eq w y)) (each_once vs)) v) ≡ (b || has vs v)
     of rest true e = refl
-    of rest false e = has-filter (λ y. not (nat_eq w y)) (each_once vs) v ∙ Prim.rw (rest, apart e) (keep (has vs v))
+    of rest false e = has-filter (λ y. not (nat_eq w y)) (each_once vs) v ∙ Prim.rw (rest, apart e) (and-true (has vs v))
 
 pub has_union : (vs ws : List ℕ) (v : ℕ) → has (each_once (vs ++ ws)) v ≡ (has vs v || has ws v)
 has_union vs ws v = has-each_once (vs ++ ws) v ∙ has-append vs ws v
@@ -147,7 +124,7 @@ read_project f es vs row v = of (has vs v) refl
 -- ---- two rows joined
 
 pub read_left : (vs : List ℕ) (l r : Row) (v : ℕ) → length vs ≤ length l → has vs v ≡ true → value_of (left_column vs v) (l ++ r) ≡ read vs l v
-read_left vs l r v m h = cell_at-left l r (place_of (nat_eq v) vs) (omega (arith, place_within vs v h)) ∙ sym (read_there vs l v h)
+read_left vs l r v m h = cell_at-left l r (place_of (nat_eq v) vs) (omega (arith, has_place vs v h)) ∙ sym (read_there vs l v h)
 
 pub read_right : (mode : Mode) (vs ws : List ℕ) (l r : Row) (v : ℕ) → length l ≡ columns_in mode vs → has ws v ≡ true → value_of (right_column mode vs ws v) (l ++ r) ≡ read ws r v
 read_right mode vs ws l r v m h = cell_at-right l r (columns_in mode vs + place_of (nat_eq v) ws) (place_of (nat_eq v) ws) (ap (λ k. k + place_of (nat_eq v) ws) (sym m)) ∙ sym (read_there ws r v h)

@@ -25,13 +25,14 @@ use Rattle.vkg_expr.specs.TermExprs.{term_expr, term_const}
 use Rattle.vkg_expr.specs.Value.{value_of, term_cell, truth_of, truth_cell, holds}
 use Rattle.vkg_expr.specs.Logic.{and_of}
 use Rattle.vkg_expr.specs.declared.term_expr.TermExpr.TheVariants as term_form
+use Rattle.vkg_expr.proofs.ReadBack.{term_back}
 use Rattle.vkg_plan.specs.Kinds.{Tables}
 use Rattle.vkg_plan.specs.Plan.{Plan, Project, plans}
 use Rattle.vkg_plan.specs.Rows.{rows_of, rows_of_each, pairs, one_row}
 use Rattle.vkg_match.specs.Verdict.{Verdict, Never, All, verdict_of}
 use Rattle.vkg_row_rules.specs.declared.row_rule.RowRule.{RowRule}
 use Rattle.vkg_row_rules.specs.RowDataset.{rule_rows, conditions, term_at, graph_at}
-use Rattle.vkg_unfold.specs.Unfolded.{default_graph, graph_test, unless_never, rule_source, union_of}
+use Rattle.vkg_unfold.specs.Unfolded.{default_graph, graph_test, unless_never, rule_source, union_of, graph_terms, not_null}
 use Rattle.vkg_unfold.specs.declared.mode.Mode.{Mode}
 use Rattle.vkg_unfold.specs.declared.mode.Mode.TheVariants.{Default, InGraph, Each}
 use Rattle.vkg_unfold.specs.FineRows.{NeverDefault}
@@ -39,7 +40,7 @@ use Rattle.vkg_unfold.specs.StandsFor.{IsIn}
 use Rattle.vkg_answers.proofs.Conjuncts.{holds-and_of}
 use Rattle.vkg_answers.proofs.Agreement.{list_all-append}
 use Rattle.vkg_answers.proofs.Steps.{product-two, project_rows}
-use Rattle.vkg_row_rules.proofs.RowTermValues.{term_back}
+use Rattle.vkg_answers.proofs.Entries.{is_same}
 
 -- a term map's expression gives its term, or NULL
 pub term_expr_is : (e : TermExpr) (row : Row) → value_of (term_expr e) row ≡ term_cell (term_at e row)
@@ -110,14 +111,16 @@ not_null_is e row = ap null_cells (term_expr_is e row) ∙ of (term_at e row)
     of None = refl
     of (Some t) = refl
 
-same_cells : Cell → Cell → Bool
-same_cells c d = unwrap_or (truth_of (truth_cell (same c d))) false
+-- the terms of a rule's quad are there, with a graph's
+pub nulls_are : (rule : RowRule) (row : Row) (o : Option TermExpr) → all_hold (not_null (record rule { graph = o })) row
+    ≡ (is_some (term_at rule.subject row) && (is_some (term_at rule.predicate row) && (is_some (term_at rule.object row) && all_hold (not_nulls (graph_terms o)) row)))
+nulls_are rule row None = λ i. not_null_is rule.subject row i && (not_null_is rule.predicate row i && (not_null_is rule.object row i && true))
+nulls_are rule row (Some e) = λ i. not_null_is rule.subject row i && (not_null_is rule.predicate row i && (not_null_is rule.object row i && all_hold (not_nulls (graph_terms (Some e))) row))
 
 pub same_const_is : (e : TermExpr) (t : Term) (row : Row) → holds (Same (term_expr e) (term_const t)) row ≡ option_map_or (λ u. term_eq u t) (term_at e row) false
-unfolding same_cells
-same_const_is e t row = ap (λ c. same_cells c (cell.Term t)) (term_expr_is e row) ∙ of (term_at e row)
+same_const_is e t row = ap (λ c. is_same c (cell.Term t)) (term_expr_is e row) ∙ of (term_at e row)
   where
-    of : (o : Option Term) → same_cells (term_cell o) (cell.Term t) ≡ option_map_or (λ u. term_eq u t) o false
+    of : (o : Option Term) → is_same (term_cell o) (cell.Term t) ≡ option_map_or (λ u. term_eq u t) o false
     of None = refl
     of (Some u) = refl
 
@@ -132,10 +135,6 @@ not_same_const_is e t row = ap (λ c. not_same_cells c (cell.Term t)) (term_expr
     of None = refl
     of (Some u) = refl
 
-abbrev pub exprs_of : Option TermExpr → List Expr
-exprs_of None = []
-exprs_of (Some g) = term_expr g ∷ []
-
 -- in mode each the graph's term is the one that is read
 abbrev pub graph_is : Mode → Option Term → Option TermExpr → Row → Bool
 graph_is Each (Some i) (Some e) row = option_map_or (term_eq i) (term_at e row) false
@@ -144,7 +143,7 @@ graph_is mode g e row = true
 
 -- whether a row of a rule passes the graph test and is read in a graph
 abbrev pub graph_passes : Mode → Option Term → Option TermExpr → Row → Bool
-graph_passes mode g o row = option_map_or (λ test. (all_hold (not_nulls (exprs_of o)) row && all_hold test row) && graph_is mode g o row) (graph_test mode o) false
+graph_passes mode g o row = option_map_or (λ test. (all_hold (not_nulls (graph_terms o)) row && all_hold test row) && graph_is mode g o row) (graph_test mode o) false
 
 -- whether its quad is in the graph
 abbrev pub in_graph : Option Term → Option TermExpr → Row → Bool

@@ -9,7 +9,7 @@ use Rattle.vkg_schema.specs.Rows.{Row}
 use Rattle.vkg_plan.specs.Rows.{is_alone, pairs, left_pairs}
 use Rattle.vkg_answers.proofs.Joins.{Each as Every}
 
-abbrev no_row : List Row
+abbrev pub no_row : List Row
 no_row = []
 
 no_rows : (a : Bool) → no_row ≡ (if a then no_row else no_row)

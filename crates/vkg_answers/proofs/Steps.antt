@@ -1,22 +1,24 @@
 -- Each node's rows stand for the solutions of its algebra, if those of its parts do.
 use Rattle.std.proofs.Common.{◌≡◌, ℕ, ◌<◌, Bool, true, false, ⊎_elim, List, [], ◌∷◌, ◌++◌, map, length, refl, sym, ap, subst, ◌∙◌, arith, true≢false, append-nil}
-use Rattle.std.specs.Prelude.{Option, Some, None, not, ◌&&◌, ◌||◌, replicate, filter, Contains, unwrap_or, ⊤}
+use Rattle.std.specs.Prelude.{Option, Some, None, not, ◌&&◌, ◌||◌, replicate, filter, Contains, ⊤}
 use Rattle.std.specs.List.{list_all}
 use Rattle.std.specs.Option.{option_or}
 use Rattle.std.specs.List.Sorted.{IsPermutation}
 use Rattle.std.proofs.lemmas.List.Elements.{Contains-append_cases}
+use Rattle.std.proofs.Math.Bool.{and-true}
 use Rattle.vkg_lists.proofs.Bags.{bag_same, bag_trans, bag_append, bag_filter, bag_filter_agree, IsPermutation-induction}
 use Rattle.vkg_lists.proofs.Walks.{filter-map, filter-filter, map-map}
 use Rattle.vkg_lists.proofs.Members.{Contains-here, Contains-there, Contains-from_map, Contains-from_filter, Contains-from_flat_map}
 use Rattle.vkg_terms.specs.declared.term.Term.{Term}
 use Rattle.vkg_cells.specs.declared.cell.Cell.{Cell}
 use Rattle.vkg_cells.specs.declared.cell.Cell.TheVariants as cell
-use Rattle.vkg_schema.specs.Rows.{Row, Database, cell_at}
+use Rattle.vkg_schema.specs.Rows.{Database, Row, cell_at, is_known_true}
+use Rattle.vkg_schema.proofs.RowCells.{cell_at-left}
 use Rattle.vkg_sparql.specs.Query.{Condition}
 use Rattle.vkg_algebra.specs.Solutions.{Solution, compatible, merge, join, left_join, lookup}
-use Rattle.vkg_algebra.specs.Values.{is_true, truth, expression_value}
+use Rattle.vkg_algebra.specs.Values.{expression_value}
 use Rattle.vkg_algebra.specs.Evaluation.{Dataset, graph_names}
-use Rattle.vkg_algebra.specs.Visible.{each_once}
+use Rattle.vkg_algebra.specs.Visible.{each_once, has}
 use Rattle.vkg_algebra.specs.Values as algebra
 use Rattle.vkg_expr.specs.Expr.{Expr, Col}
 use Rattle.vkg_expr.specs.Value.{value_of, term_cell, holds}
@@ -27,13 +29,13 @@ use Rattle.vkg_plan.specs.Rows.{is_alone, pairs, product, left_pairs, rows_of}
 use Rattle.vkg_unfold.specs.Conditions.{truth_expr, expr_of, gives_truth, condition_of}
 use Rattle.vkg_unfold.specs.declared.mode.Mode.{Mode}
 use Rattle.vkg_unfold.specs.declared.mode.Mode.TheVariants.{Default, InGraph, Each}
-use Rattle.vkg_unfold.specs.Unfolded.{has, merged, agreement, if_each, visible_column}
+use Rattle.vkg_unfold.specs.Unfolded.{merged, agreement, if_each, visible_column}
 use Rattle.vkg_unfold.specs.StandsFor.{IsIn, belongs, term_in, solution_of, solutions_of, upto_from}
 use Rattle.vkg_unfold.specs.FineRows.{IsNarrow}
 use Rattle.vkg_answers.proofs.Joins.{Each as Every, bag_join, join_rows, left_rows, merge-map}
 use Rattle.vkg_answers.proofs.Conjuncts.{values_are}
 use Rattle.vkg_answers.proofs.Values.{IsNarrowCondition, IsNarrowIfAny, means, truth_meant}
-use Rattle.vkg_answers.proofs.Reading.{cell_at-left, AreBelow, AreTermCells, IsTermCell, read_typed, has_union, term_merged, read_merged, solution-merged, merged_typed, nulls_typed, nulls_none, none_right, lookup-solution, cells-map, cells-cons, cells-nil, length-project, narrow_or}
+use Rattle.vkg_answers.proofs.Reading.{AreBelow, AreTermCells, IsTermCell, read_typed, has_union, term_merged, read_merged, solution-merged, merged_typed, nulls_typed, nulls_none, none_right, lookup-solution, cells-map, cells-cons, cells-nil, length-project, narrow_or}
 use Rattle.vkg_answers.proofs.Agreement.{agreements, agreements-compatible}
 use Rattle.vkg_answers.proofs.Splits.{pairs_split, left_split}
 use Rattle.vkg_answers.proofs.Modes.{IsRowOf, size_enough, project_merged, cell_at-after, joined, passing, in_graph, join_split, join_near, join_kept}
@@ -123,12 +125,7 @@ project_rows schema db es p = λ i. map (λ row. values_are es row i) (rows_of s
 pub truth_alike : (at : ℕ → Expr) (row : Row) (s : Solution) (c : Condition) → IsNarrowCondition c → ((v : ℕ) → value_of (at v) row ≡ term_cell (lookup s v)) → ((v : ℕ) → IsNarrow (lookup s v)) →
     holds (truth_expr at c) row ≡ algebra.holds c s
 truth_alike at row s c h binds narrow =
-    ap (λ o. unwrap_or o false) (truth_meant (gives_truth c) (expr_of at c) row (expression_value c s) (means at row s binds narrow c h))
-    ∙ is (truth (expression_value c s))
-  where
-    is : (o : Option Bool) → unwrap_or o false ≡ is_true o
-    is None = refl
-    is (Some b) = refl
+    ap is_known_true (truth_meant (gives_truth c) (expr_of at c) row (expression_value c s) (means at row s binds narrow c h))
 
 pub below_union : (n : ℕ) (vs ws : List ℕ) → AreBelow n vs → AreBelow n ws → AreBelow n (each_once (vs ++ ws))
 below_union n vs ws h k v e = of (has vs v) refl (has ws v) refl (sym (has_union vs ws v) ∙ e)
@@ -190,12 +187,8 @@ module _ (n : ℕ) (d : Dataset) (mode : Mode) (vs ws : List ℕ) (below : AreBe
           ∙ pairs_split (IsRowOf d mode vs) (IsRowOf d mode ws) (belongs mode (length vs) g) (belongs mode (length ws) g) (passing d vs ws [] mode) (joined d vs ws [] mode) (in_graph d vs ws [] mode g)
           (λ l r p q. join_split d vs ws [] mode g h l r p q) ls rs every_left every_right)
           ∙ join_rows (IsRowOf d mode vs) (IsRowOf d mode ws) (solution_of n vs) (solution_of n ws) (λ row. solution_of n (each_once (vs ++ ws)) (project_merged mode vs ws row)) (passing d vs ws [] mode)
-          (λ l r p q. and_true (list_all (λ c. holds c (l ++ r)) (agreements mode vs ws)) ∙ vars_compatible n d mode vs ws below l r p q)
+          (λ l r p q. and-true (list_all (λ c. holds c (l ++ r)) (agreements mode vs ws)) ∙ vars_compatible n d mode vs ws below l r p q)
           (λ l r p q. merged_solution n d mode vs ws l r p q.cells) (here g) (there g) (every_here g) (every_there g)
-        where
-          and_true : (x : Bool) → (x && true) ≡ x
-          and_true true = refl
-          and_true false = refl
 
   -- LEFT
   test_alike : (c : Condition) → IsNarrowCondition c → (l r : Row) → IsRowOf d mode vs l → IsRowOf d mode ws r → holds (truth_expr (merged mode vs ws) c) (l ++ r) ≡ algebra.holds c (merge (solution_of n vs l) (solution_of n ws r))
@@ -217,11 +210,7 @@ module _ (n : ℕ) (d : Dataset) (mode : Mode) (vs ws : List ℕ) (below : AreBe
   rest_alike : (c : Option Condition) → IsNarrowIfAny c → (l r : Row) → IsRowOf d mode vs l → IsRowOf d mode ws r →
       list_all (λ e. holds e (l ++ r)) (condition_of (merged mode vs ws) c) ≡ algebra.holds_if_any c (merge (solution_of n vs l) (solution_of n ws r))
   rest_alike None lawful l r p q = refl
-  rest_alike (Some c) lawful l r p q = and_true (holds (truth_expr (merged mode vs ws) c) (l ++ r)) ∙ test_alike c lawful l r p q
-    where
-      and_true : (x : Bool) → (x && true) ≡ x
-      and_true true = refl
-      and_true false = refl
+  rest_alike (Some c) lawful l r p q = and-true (holds (truth_expr (merged mode vs ws) c) (l ++ r)) ∙ test_alike c lawful l r p q
 
   module _ (c : Option Condition) (lawful : IsNarrowIfAny c) (m : ℕ) where
     pub left_stands : Stands n d mode (each_once (vs ++ ws))

@@ -1,5 +1,6 @@
 -- The unfolded plan stands for its algebra.
 use Rattle.std.proofs.Common.{◌≡◌, ℕ, ◌<◌, Bool, true, false, List, [], ◌∷◌, ◌++◌, map, length, refl, sym, ap, subst, ◌∙◌, arith, true≢false, append-nil}
+use Rattle.std.proofs.Math.Bool.{or-true}
 use Rattle.std.specs.Prelude.{Option, Some, None, ◌||◌, filter, flat_map, filter_map, Contains, nat_eq, if◌then◌else◌}
 use Rattle.std.specs.List.{list_any, cons_option}
 use Rattle.std.specs.List.Sorted.{IsPermutation}
@@ -7,7 +8,8 @@ use Rattle.vkg_lists.proofs.Tests.{nat_test}
 use Rattle.vkg_lists.proofs.Counts.{eq_comm, Decides-list_any}
 use Rattle.vkg_lists.proofs.Members.{Contains-here}
 use Rattle.vkg_lists.proofs.Walks.{filter_all}
-use Rattle.vkg_lists.proofs.Distinct.{distinct-distinct, Contains-distinct, Contains-from_distinct}
+use Rattle.vkg_lists.proofs.Distinct.{Contains-distinct, Contains-from_distinct}
+use Rattle.vkg_lists.proofs.Bools.{same_truth}
 use Rattle.vkg_lists.specs.Sets.{distinct}
 use Rattle.vkg_terms.specs.declared.term.Term.{Term}
 use Rattle.vkg_terms.specs.declared.term.Term.TheVariants.{Iri}
@@ -26,7 +28,8 @@ use Rattle.vkg_algebra.specs.Lawful.{IsLawfulAlgebra, algebra_nodes, condition_n
 use Rattle.vkg_algebra.specs.Solutions.{Solution}
 use Rattle.vkg_algebra.specs.Evaluation.{Dataset, evaluate, graph_names}
 use Rattle.vkg_algebra.specs.Patterns.{bgp_solutions}
-use Rattle.vkg_algebra.specs.Visible.{visible, each_once, pattern_variables}
+use Rattle.vkg_algebra.specs.Visible.{each_once, has, pattern_variables, visible}
+use Rattle.vkg_algebra.proofs.VisibleLemmas.{visible_once}
 use Rattle.vkg_expr.specs.Expr.{Expr, Col}
 use Rattle.vkg_expr.specs.Logic.{and_of, truth_const}
 use Rattle.vkg_expr.specs.Value.{holds, value_of}
@@ -37,12 +40,11 @@ use Rattle.vkg_plan.specs.Rows.{rows_of}
 use Rattle.vkg_row_rules.specs.declared.row_rule.RowRule.{RowRule}
 use Rattle.vkg_unfold.specs.declared.mode.Mode.{Mode}
 use Rattle.vkg_unfold.specs.declared.mode.Mode.TheVariants.{Default, InGraph, Each}
-use Rattle.vkg_unfold.specs.Unfolded.{has, column, graph_column, in_its_graph, visible_column, merged, merged_columns, agreement, if_each, unfolded, bgp_plan, names_plan, exists_plan, in_mode, named_graph, each_graph, after, is_pattern}
+use Rattle.vkg_unfold.specs.Unfolded.{column, graph_column, in_its_graph, visible_column, merged, merged_columns, agreement, if_each, unfolded, bgp_plan, names_plan, exists_plan, in_mode, named_graph, each_graph, after, is_pattern}
 use Rattle.vkg_unfold.specs.Conditions.{condition_of}
 use Rattle.vkg_unfold.specs.FineRows.{IsNarrow}
 use Rattle.vkg_answers.proofs.Lawful.{lawful_left, lawful_right, lawful_tail, narrow_if_any, variables_below}
 use Rattle.vkg_answers.proofs.Reading.{AreBelow, has-each_once, has_union}
-use Rattle.vkg_answers.proofs.Agreement.{same_truth}
 use Rattle.vkg_answers.proofs.Steps.{Stands, join_stands, left_stands, below_union, project_rows}
 use Rattle.vkg_answers.proofs.OneSide.{filter_stands, widened_stands, append_stands}
 use Rattle.vkg_answers.proofs.Graphs.{Plain, plain_named, stands_default, stands_named, after_exists, after_names, name_row}
@@ -75,15 +77,6 @@ visible_below n (Union a b) h = below_union n (visible a) (visible b) (visible_b
 visible_below n (Filter c a) h = visible_below n a (lawful_right n (condition_nodes c) (algebra_nodes a) h)
 visible_below n (Graph (name.Named i) a) h = λ v e. visible_below n a (lawful_tail n (name_node (name.Named i)) (algebra_nodes a) h) v (sym (has-each_once (visible a) v) ∙ e)
 visible_below n (Graph (name.Each w) a) h = below_union n (w ∷ []) (visible a) (one_below n w (named_below n w a h)) (visible_below n a (lawful_tail n (name_node (name.Each w)) (algebra_nodes a) h))
-
-pub visible_once : (a : Algebra) → each_once (visible a) ≡ visible a
-visible_once (Bgp ps) = distinct-distinct nat_eq (flat_map pattern_variables ps)
-visible_once (Join a b) = distinct-distinct nat_eq (visible a ++ visible b)
-visible_once (LeftJoin a b c) = distinct-distinct nat_eq (visible a ++ visible b)
-visible_once (Union a b) = distinct-distinct nat_eq (visible a ++ visible b)
-visible_once (Filter c a) = visible_once a
-visible_once (Graph (name.Named i) a) = distinct-distinct nat_eq (visible a)
-visible_once (Graph (name.Each v) a) = distinct-distinct nat_eq (v ∷ visible a)
 
 -- ---- a pattern has no solutions in a graph without a name
 
@@ -170,16 +163,12 @@ module _ (schema : Tables) (rules : List RowRule) (n : ℕ) (d : Dataset) (db : 
   stands (Union a b) mode h =
       let all = each_once (visible a ++ visible b) in
       let left : (v : ℕ) → has (visible a) v ≡ true → has all v ≡ true = λ v e. has_union (visible a) (visible b) v ∙ ap (λ x. x || has (visible b) v) e in
-      let right : (v : ℕ) → has (visible b) v ≡ true → has all v ≡ true = λ v e. has_union (visible a) (visible b) v ∙ ap (λ x. has (visible a) v || x) e ∙ or_true (has (visible a) v) in
+      let right : (v : ℕ) → has (visible b) v ≡ true → has all v ≡ true = λ v e. has_union (visible a) (visible b) v ∙ ap (λ x. has (visible a) v || x) e ∙ or-true (has (visible a) v) in
       Prim.rw (append-nil) (append_stands n d mode all _ _ (evaluate n d a) (evaluate n d b)
       (over mode all (map (visible_column (visible a)) all ++ if_each mode (Col (length (visible a)))) (unfolded schema rules a mode) (evaluate n d a)
       (widened_stands n d mode all (visible a) left (rows_in a mode) (evaluate n d a) (stands a mode (of_left n a b h))))
       (over mode all (map (visible_column (visible b)) all ++ if_each mode (Col (length (visible b)))) (unfolded schema rules b mode) (evaluate n d b)
       (widened_stands n d mode all (visible b) right (rows_in b mode) (evaluate n d b) (stands b mode (of_right n a b h)))))
-    where
-      or_true : (x : Bool) → (x || true) ≡ true
-      or_true true = refl
-      or_true false = refl
   stands (Filter c a) mode h =
       let k = lawful_right n (condition_nodes c) (algebra_nodes a) h in
       filter_stands n d mode (visible a) (visible_below n a k) (rows_in a mode) (evaluate n d a) (stands a mode k) c (narrow_if_any n (Some c) (lawful_left n (condition_nodes c) (algebra_nodes a) h))

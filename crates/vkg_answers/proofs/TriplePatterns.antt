@@ -2,12 +2,10 @@
 use Rattle.std.proofs.Common.{◌≡◌, ℕ, ◌+◌, ◌<◌, Bool, true, false, ⊎_elim, List, [], ◌∷◌, ◌++◌, map, length, refl, sym, ap, subst, ◌∙◌, arith}
 use Rattle.std.specs.Prelude.{Option, Some, None, ◌&&◌, Contains, if◌then◌else◌}
 use Rattle.std.specs.Bool.{Decides}
-use Rattle.std.specs.List.{IsDistinct}
-use Rattle.std.proofs.lemmas.List.Elements.{Contains-append_left, Contains-append_right}
+use Rattle.std.proofs.lemmas.List.Elements.{Contains-append_cases, Contains-append_left, Contains-append_right}
 use Rattle.vkg_lists.proofs.Counts.{eq_same}
-use Rattle.vkg_lists.proofs.Distinct.{IsDistinct-nil, IsDistinct-cons}
-use Rattle.vkg_lists.proofs.Members.{Contains-none, Contains-here, Contains-there, Contains-cons_cases, map_agree_on}
-use Rattle.vkg_lists.proofs.Bools.{and_parts, and_true}
+use Rattle.vkg_lists.proofs.Members.{Contains-none, Contains-here, Contains-there, Contains-cons_cases, map_agree_on, each_of_all}
+use Rattle.vkg_lists.proofs.Bools.{and_parts, and_true, same_truth}
 use Rattle.vkg_terms.specs.declared.term.Term.{Term}
 use Rattle.vkg_terms.specs.NQuads.{Quad}
 use Rattle.vkg_terms.proofs.SameLemmas.{terms_apart}
@@ -22,16 +20,16 @@ use Rattle.vkg_algebra.specs.Solutions.{Solution, lookup}
 use Rattle.vkg_algebra.specs.Evaluation.{Dataset}
 use Rattle.vkg_algebra.proofs.MapLemmas.{solution_test}
 use Rattle.vkg_algebra.specs.Answer.{solution_eq}
+use Rattle.vkg_algebra.specs.Laws.{node_numbers, pattern_numbers}
 use Rattle.vkg_expr.specs.Value.{term_of, term_cell}
 use Rattle.vkg_plan.specs.Rows.{one_cell, one_row}
 use Rattle.vkg_unfold.specs.declared.mode.Mode.{Mode}
 use Rattle.vkg_unfold.specs.Unfolded.{Name}
 use Rattle.vkg_unfold.specs.StandsFor.{IsIn}
 use Rattle.vkg_answers.proofs.Reading.{lookup-upto}
-use Rattle.vkg_answers.proofs.Agreement.{same_truth}
 use Rattle.vkg_answers.proofs.Entries.{Entry, first, alike, named_term, named_solution, AreTerms, AreAlike}
 use Rattle.vkg_answers.proofs.Links.{first_there, first_alike, are_alike, terms-append}
-use Rattle.vkg_answers.proofs.Columns.{named_cells, hidden_in, graph_fits, graphs_fit, fits_term, all_entries, IsPatternRow}
+use Rattle.vkg_answers.proofs.Columns.{named_cells, hidden_in, graph_fits, graphs_fit, fits_term, IsPatternRow}
 use Rattle.vkg_answers.proofs.Quads.{NodeBelow, node_entries, node_ok, node_terms, pattern_entries, pattern_ok, quad_solutions_are}
 
 -- ---- the solutions of a quad
@@ -39,10 +37,6 @@ use Rattle.vkg_answers.proofs.Quads.{NodeBelow, node_entries, node_ok, node_term
 in_if : {X : Type 0} (b : Bool) (x s : X) → Contains (if b then x ∷ [] else []) s → (b ≡ true) × (x ≡ s)
 in_if true x s c = (refl, ⊎_elim (λ e. e) (λ k. absurd (Contains-none s k)) (Contains-cons_cases x [] s c))
 in_if false x s c = absurd (Contains-none s c)
-
-one_if : (b : Bool) (s : Solution) → IsDistinct solution_eq (if b then s ∷ [] else [])
-one_if true s = IsDistinct-cons solution_eq s [] (λ y c. absurd (Contains-none y c)) (IsDistinct-nil solution_eq)
-one_if false s = IsDistinct-nil solution_eq
 
 named_lookup : (n : ℕ) (zs : List Entry) (v : ℕ) → v < n → lookup (named_solution n zs) v ≡ term_of (first (Some v) zs)
 named_lookup n zs v h = lookup-upto (named_term zs) n 0 v h ∙ ap (named_term zs) (let e : 0 + v ≡ v = omega arith in e)
@@ -66,6 +60,11 @@ entries_terms p s t u =
     (terms-append (node_entries p.predicate (cell.Term t)) (node_entries p.object (cell.Term u) ++ []) (node_terms p.predicate t)
     (terms-append (node_entries p.object (cell.Term u)) [] (node_terms p.object u) (λ x c. absurd (Contains-none x c))))
 
+numbers_below : (n : ℕ) (x : Node) → NodeBelow n x → (v : ℕ) → Contains (node_numbers x) v → v < n
+numbers_below n (Variable w) h v c = ⊎_elim (λ e. subst (λ u. u < n) e h) (λ k. absurd (Contains-none v k)) (Contains-cons_cases w [] v c)
+numbers_below n (Label w) h v c = ⊎_elim (λ e. subst (λ u. u < n) e h) (λ k. absurd (Contains-none v k)) (Contains-cons_cases w [] v c)
+numbers_below n (Fixed t) h v c = absurd (Contains-none v c)
+
 module _ (n : ℕ) (p : TriplePattern) (below : NodeBelow n p.subject × NodeBelow n p.predicate × NodeBelow n p.object) where
   abbrev entries : Quad → List Entry
   entries q = pattern_entries p (cell.Term q.subject) (cell.Term q.predicate) (cell.Term q.object)
@@ -76,8 +75,10 @@ module _ (n : ℕ) (p : TriplePattern) (below : NodeBelow n p.subject × NodeBel
   solutions_are : (q : Quad) → triple_solutions n p q ≡ (if solved q then named_solution n (entries q) ∷ [] else [])
   solutions_are q = quad_solutions_are n p below q.subject q.predicate q.object q.graph
 
-  pub quad_one : (q : Quad) → IsDistinct solution_eq (triple_solutions n p q)
-  quad_one q = subst (IsDistinct solution_eq) (sym (solutions_are q)) (one_if (solved q) (named_solution n (entries q)))
+  pub pattern_below : (v : ℕ) → Contains (pattern_numbers p) v → v < n
+  pattern_below v c = ⊎_elim (numbers_below n p.subject below.0 v)
+      (λ k. ⊎_elim (numbers_below n p.predicate below.1 v) (numbers_below n p.object below.2 v) (Contains-append_cases (node_numbers p.predicate) (node_numbers p.object) v k))
+      (Contains-append_cases (node_numbers p.subject) (node_numbers p.predicate ++ node_numbers p.object) v c)
 
   pub quad_apart : (q r : Quad) (s : Solution) → q.graph ≡ r.graph → Contains (triple_solutions n p q) s → Contains (triple_solutions n p r) s → q ≡ r
   quad_apart q r s g c d =
@@ -180,8 +181,8 @@ module _ (n : ℕ) (d : Dataset) (mode : Mode) (ns : List Name) where
       terms_at e None c =
           let r = has_cell ns x None a.named.size c in
           let s = has_cell ns y None b.named.size c in
-          let t = fits_term (hidden_in mode g) (None, r.0) refl (all_entries (graph_fits (hidden_in mode g)) zs k (None, r.0) r.1) in
-          let u = fits_term (hidden_in mode g) (None, s.0) refl (all_entries (graph_fits (hidden_in mode g)) ws l (None, s.0) s.1) in
+          let t = fits_term (hidden_in mode g) (None, r.0) refl (each_of_all (graph_fits (hidden_in mode g)) zs k (None, r.0) r.1) in
+          let u = fits_term (hidden_in mode g) (None, s.0) refl (each_of_all (graph_fits (hidden_in mode g)) ws l (None, s.0) s.1) in
           ap term_of (first_alike zs (row_alike x a) (None, r.0) r.1) ∙ t.2 ∙ sym t.1 ∙ u.1 ∙ sym u.2 ∙ sym (ap term_of (first_alike ws (row_alike y b) (None, s.0) s.1))
       terms_at e (Some v) c =
           let r = has_cell ns x (Some v) a.named.size c in

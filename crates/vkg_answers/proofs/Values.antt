@@ -1,29 +1,25 @@
 -- A filter's expression over a row has the value that it has under the row's solution.
-use Rattle.std.proofs.Common.{◌≡◌, ℕ, Bool, true, false, [], ◌++◌, refl, sym, true≢false}
-use Rattle.std.specs.Prelude.{Option, Some, None, not, ◌&&◌, ◌||◌, codes, nat_lt, option_map, option_and_then, is_some, Contains, if◌then◌else◌}
-use Rattle.std.specs.Str.{bytes_eq}
+use Rattle.std.proofs.Common.{◌≡◌, ℕ, Bool, true, false, [], ◌++◌, refl}
+use Rattle.std.specs.Prelude.{Option, Some, None, option_map, option_and_then, is_some, Contains}
 use Rattle.std.proofs.lemmas.List.Elements.{Contains-append_left, Contains-append_right}
 use Rattle.vkg_lists.proofs.Members.{Contains-here}
+use Rattle.vkg_lists.proofs.Bools.{not_true}
 use Rattle.vkg_terms.specs.declared.term.Term.{Term}
 use Rattle.vkg_terms.specs.declared.term.Term.TheVariants.{Iri, Blank, Lit}
-use Rattle.vkg_terms.specs.declared.term.Annotation.TheVariants.{Plain, Lang, Typed}
-use Rattle.vkg_terms.specs.Vocabulary.{xsd}
 use Rattle.vkg_terms.specs.Same.{term_eq}
 use Rattle.vkg_cells.specs.declared.cell.Cell.{Cell}
 use Rattle.vkg_cells.specs.Order.{same}
-use Rattle.vkg_cells.specs.Number.{canonical, is_decimal, is_integer, width}
 use Rattle.vkg_cells.specs.declared.cell.Cell.TheVariants as cell
 use Rattle.vkg_cells.specs.declared.cell.SqlType.TheVariants as kind
+use Rattle.vkg_cells.specs.WellTyped.{is_wide_number}
 use Rattle.vkg_schema.specs.Rows.{is_null, Row}
 use Rattle.vkg_values.specs.declared.operator.Test.{Test as TestOp}
 use Rattle.vkg_values.specs.declared.operator.Take.{Take as TakeOp}
-use Rattle.vkg_values.specs.declared.operator.Compare.{Compare as CompareOp}
-use Rattle.vkg_values.specs.Known.{known, when, widest}
+use Rattle.vkg_values.specs.Known.{widest}
 use Rattle.vkg_values.specs.Logic.{not3, and3, or3}
 use Rattle.vkg_values.specs.Operators.{ebv, test_value, take_value, compare_value, on_two}
 use Rattle.vkg_values.specs.declared.operator.Take.TheVariants as take
-use Rattle.vkg_values.specs.declared.operator.Compare.TheVariants as cmp
-use Rattle.vkg_values.specs.declared.operator.Test.TheVariants as test
+use Rattle.vkg_values.proofs.Narrow.{compare_narrow, narrow_known, test_narrow}
 use Rattle.vkg_sparql.specs.declared.pattern.Node.TheVariants.{Fixed}
 use Rattle.vkg_sparql.specs.Lawful.{condition_nodes}
 use Rattle.vkg_sparql.specs.Query.{Condition, Variable, Constant, Bound, Test, Take, Compare, SameTerm, Not, And, Or}
@@ -32,30 +28,12 @@ use Rattle.vkg_algebra.specs.Solutions.{Solution, lookup}
 use Rattle.vkg_algebra.specs.Lawful.{condition_nodes_if_any}
 use Rattle.vkg_expr.specs.Expr.{Expr, Const}
 use Rattle.vkg_expr.specs.Value.{truth_of, term_of, truth_cell, term_cell, value_of}
-use Rattle.vkg_expr.specs.Value as value
+use Rattle.vkg_expr.proofs.ReadBack.{truth_back}
 use Rattle.vkg_unfold.specs.FineRows.{IsNarrow}
 use Rattle.vkg_unfold.specs.Conditions.{gives_truth, to_term, to_truth, expr_of}
 
--- a number of few digits has its value in a plan, too: by the datatype, by the form, and by the digits
-narrow_typed : (integer decimal is_integer is_decimal other wide : Bool) (int dec : Cell) (rest : Option Cell) →
-    not ((if integer then is_integer else if decimal then is_decimal else other) && ((integer || (decimal || false)) && wide)) ≡ true →
-    (if integer then when (is_integer && not wide) int else if decimal then when (is_decimal && not wide) dec else rest)
-    ≡ (if integer then when (is_integer && true) int else if decimal then when (is_decimal && true) dec else rest)
-narrow_typed true decimal true is_decimal other true int dec rest h = absurd (true≢false (sym h))
-narrow_typed true decimal true is_decimal other false int dec rest h = refl
-narrow_typed true decimal false is_decimal other wide int dec rest h = refl
-narrow_typed false true is_integer true other true int dec rest h = absurd (true≢false (sym h))
-narrow_typed false true is_integer true other false int dec rest h = refl
-narrow_typed false true is_integer false other wide int dec rest h = refl
-narrow_typed false false is_integer is_decimal other wide int dec rest h = refl
-
-narrow_known : (t : Term) → IsNarrow (Some t) → known widest t ≡ known None t
-narrow_known (Iri iri) h = refl
-narrow_known (Blank label) h = refl
-narrow_known (Lit text Plain) h = refl
-narrow_known (Lit text (Lang tag)) h = refl
-narrow_known (Lit text (Typed datatype)) h =
-    narrow_typed (bytes_eq datatype (xsd (codes "integer"))) (bytes_eq datatype (xsd (codes "decimal"))) (is_integer text) (is_decimal text) _ (nat_lt 38 (width text)) (cell.Int (canonical text)) (cell.Dec (canonical text)) _ h
+not_wide : (t : Term) → IsNarrow (Some t) → is_wide_number t ≡ false
+not_wide t h = not_true (is_wide_number t) h
 
 -- the value in a row is the value under a solution: a term, or a truth
 abbrev pub Means : Bool → Cell → Option Term → Type 0
@@ -64,7 +42,7 @@ Means true c o = (b : Option Bool) × (c ≡ truth_cell b) × (o ≡ option_map 
 
 ebv_narrow : (o : Option Term) → IsNarrow o → option_and_then (ebv widest) (term_of (term_cell o)) ≡ truth o
 ebv_narrow None h = refl
-ebv_narrow (Some t) h = Prim.rw (narrow_known t h) refl
+ebv_narrow (Some t) h = Prim.rw (narrow_known t (not_wide t h)) refl
 
 term_meant : (t : Bool) (e : Expr) (row : Row) (o : Option Term) → Means t (value_of e row) o → Means false (value_of (to_term t e) row) o
 term_meant false e row o m = m
@@ -76,31 +54,13 @@ term_meant true e row o m = Prim.rw (m.1, m.2) (of m.0)
     of (Some false) = (refl, refl)
 
 pub truth_meant : (t : Bool) (e : Expr) (row : Row) (o : Option Term) → Means t (value_of e row) o → truth_of (value_of (to_truth t e) row) ≡ truth o
-truth_meant false e row o m = Prim.rw (m.0, ebv_narrow o m.1) (of (truth o))
-  where
-    of : (b : Option Bool) → truth_of (truth_cell b) ≡ b
-    of None = refl
-    of (Some b) = refl
+truth_meant false e row o m = Prim.rw (m.0, ebv_narrow o m.1) (truth_back (truth o))
 truth_meant true e row o m = Prim.rw (m.1, m.2) (of m.0)
   where
     of : (b : Option Bool) → truth_of (truth_cell b) ≡ truth (option_map truth_term b)
     of None = refl
     of (Some true) = refl
     of (Some false) = refl
-
-compare_narrow : (f : CompareOp) (a b : Term) → IsNarrow (Some a) → IsNarrow (Some b) → compare_value widest f a b ≡ compare_value None f a b
-compare_narrow cmp.Equal a b h k = Prim.rw (narrow_known a h, narrow_known b k) refl
-compare_narrow cmp.NotEqual a b h k = Prim.rw (narrow_known a h, narrow_known b k) refl
-compare_narrow cmp.Less a b h k = Prim.rw (narrow_known a h, narrow_known b k) refl
-compare_narrow cmp.Greater a b h k = Prim.rw (narrow_known a h, narrow_known b k) refl
-compare_narrow cmp.LessOrEqual a b h k = Prim.rw (narrow_known a h, narrow_known b k) refl
-compare_narrow cmp.GreaterOrEqual a b h k = Prim.rw (narrow_known a h, narrow_known b k) refl
-
-test_narrow : (f : TestOp) (a : Term) → IsNarrow (Some a) → test_value widest f a ≡ test_value None f a
-test_narrow test.IsIri a h = refl
-test_narrow test.IsBlank a h = refl
-test_narrow test.IsLiteral a h = refl
-test_narrow test.IsNumeric a h = Prim.rw (narrow_known a h) refl
 
 take_narrow : (f : TakeOp) (a : Term) → IsNarrow (take_value f a)
 take_narrow take.Str (Iri s) = refl
@@ -128,7 +88,7 @@ in_second a b h t c = h t (Contains-append_right (condition_nodes a) (condition_
 
 test_means : (f : TestOp) (c : Cell) (o : Option Term) → Means false c o → Means true (truth_cell (option_map (test_value widest f) (term_of c))) (option_map (λ t. truth_term (test_value None f t)) o)
 test_means f c None m = (None, Prim.rw m.0 refl, refl)
-test_means f c (Some t) m = (Some (test_value None f t), Prim.rw (m.0, test_narrow f t m.1) refl, refl)
+test_means f c (Some t) m = (Some (test_value None f t), Prim.rw (m.0, test_narrow f t (not_wide t m.1)) refl, refl)
 
 take_means : (f : TakeOp) (c : Cell) (o : Option Term) → Means false c o → Means false (term_cell (option_and_then (take_value f) (term_of c))) (option_and_then (take_value f) o)
 take_means f c None m = (Prim.rw m.0 refl, tt)
@@ -159,7 +119,7 @@ module _ (at : ℕ → Expr) (row : Row) (s : Solution) (binds : (v : ℕ) → v
   means (Take f a) h = take_means f (value_of (to_term (gives_truth a) (expr_of at a)) row) (expression_value a s) (term_meant (gives_truth a) (expr_of at a) row (expression_value a s) (means a h))
   means (Compare f a b) h =
       both_means (compare_value widest f) (compare_value None f) (value_of (to_term (gives_truth a) (expr_of at a)) row) (value_of (to_term (gives_truth b) (expr_of at b)) row) (expression_value a s) (expression_value b s)
-      (compare_narrow f) (term_meant (gives_truth a) (expr_of at a) row (expression_value a s) (means a (in_first a b h))) (term_meant (gives_truth b) (expr_of at b) row (expression_value b s) (means b (in_second a b h)))
+      (λ t u x y. compare_narrow f t u (not_wide t x) (not_wide u y)) (term_meant (gives_truth a) (expr_of at a) row (expression_value a s) (means a (in_first a b h))) (term_meant (gives_truth b) (expr_of at b) row (expression_value b s) (means b (in_second a b h)))
   means (SameTerm a b) h =
       same_means (value_of (to_term (gives_truth a) (expr_of at a)) row) (value_of (to_term (gives_truth b) (expr_of at b)) row) (expression_value a s) (expression_value b s)
       (term_meant (gives_truth a) (expr_of at a) row (expression_value a s) (means a (in_first a b h))) (term_meant (gives_truth b) (expr_of at b) row (expression_value b s) (means b (in_second a b h)))

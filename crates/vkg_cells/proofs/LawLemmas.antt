@@ -8,12 +8,12 @@ use Rattle.hex.proofs.HexLemmas.{decode_of-encode_upper, decode_of-ok}
 use Rattle.hex.specs.declared.error.FromHexError.{FromHexError}
 use Rattle.vkg_lists.specs.Texts.{bytes_cmp}
 use Rattle.vkg_cells.specs.declared.cell.FieldFault.{FieldFault}
-use Rattle.vkg_cells.specs.declared.cell.FieldFault.TheVariants.{BadValue, TooWide}
+use Rattle.vkg_cells.specs.declared.cell.FieldFault.TheVariants.{BadValue}
 use Rattle.vkg_cells.specs.declared.cell.SqlType.{SqlType}
 use Rattle.vkg_cells.specs.declared.cell.SqlType.TheVariants as kind
 use Rattle.vkg_cells.specs.declared.cell.Cell.{Cell}
 use Rattle.vkg_cells.specs.declared.cell.Cell.TheVariants as cell
-use Rattle.vkg_cells.specs.Field.{cell_of_field, is_true_word, where_field, where_number, where_octets, where_stamp}
+use Rattle.vkg_cells.specs.Field.{cell_of_field, is_true_word, where_number, where_octets, where_stamp}
 use Rattle.vkg_cells.specs.Form.{IsOfKind, bool_form, lexical_form}
 use Rattle.vkg_cells.specs.Laws.{HasOwnForm, HasValueOf, IsByForm, IsEqualWhereSame, IsReadBack}
 use Rattle.vkg_cells.specs.Moment.{is_date, stamp_form}
@@ -24,16 +24,17 @@ use Rattle.vkg_cells.proofs.StampLemmas.{stamp-again}
 use Rattle.vkg_cells.proofs.SameLemmas.{one-form, one-value}
 use Rattle.vkg_cells.proofs.OrderLemmas.{number-total}
 use Rattle.vkg_cells.proofs.ValueLemmas.{then-equal}
+use Rattle.vkg_cells.proofs.FieldLemmas.{field_ok, number_ok, ok_is}
 use Rattle.vkg_cells.specs.Number.{number_cmp}
 use Rattle.std.specs.Ordering.{bool_cmp, is_eq}
 use Rattle.std.specs.Prelude.{◌&&◌}
 use Rattle.vkg_cells.specs.Order.{order}
-use Rattle.std.specs.Cmp.{tied_then}
-use Rattle.std.specs.declared.cmp.Ordering.{Ordering}
-use Rattle.std.specs.declared.cmp.Ordering.TheVariants.{Less, Equal, Greater}
+use Rattle.std.specs.Cmp.{Equal-is, tied_then}
+use Rattle.std.specs.declared.cmp.Ordering.TheVariants.{Equal}
 use Rattle.std.proofs.lemmas.Cmp.{nat_list_cmp_total, tied_itself}
 use Rattle.std.proofs.lemmas.Map.Lookups.{exact_bytes}
 use Rattle.std.proofs.lemmas.Map.Text.{is_eq-slice_cmp}
+use Rattle.std.proofs.lemmas.Option.{none-some}
 use Rattle.vkg_terms.specs.declared.term.Annotation.{Annotation}
 use Rattle.vkg_terms.specs.declared.term.Annotation.TheVariants.{Plain, Lang, Typed}
 use Rattle.vkg_terms.specs.declared.term.Term.{Term}
@@ -62,24 +63,8 @@ by-form (cell.Stamp a) (cell.Stamp b) e h = by-bytes a b
 by-form (cell.Bin a) (cell.Bin b) e h = by-bytes a b
 by-form c d e h = absurd (omega (arith, e))
 
-same-ok : (c0 c : Cell) → ◌≡◌ {A = Result Cell FieldFault} (Ok c0) (Ok c) → c0 ≡ c
-same-ok c0 c e = cc e
-
 no-fault : (f : FieldFault) (c : Cell) → ◌≡◌ {A = Result Cell FieldFault} (Err f) (Ok c) → ⊥
 no-fault f c e = cc
-
--- what is read where a test holds
-read-field : (b : Bool) (c0 c : Cell) → where_field b c0 ≡ Ok c → (b ≡ true) × (c0 ≡ c)
-read-field true c0 c e = (refl, cc e)
-read-field false c0 c e = absurd (no-fault BadValue c e)
-
-read-number : (b : Bool) (text : List ℕ) (c0 c : Cell) → where_number b text c0 ≡ Ok c → (b ≡ true) × (nat_lt 38 (width text) ≡ false) × (c0 ≡ c)
-read-number false text c0 c e = absurd (no-fault BadValue c e)
-read-number true text c0 c e = by (nat_lt 38 (width text)) refl
-  where
-    by : (w : Bool) → nat_lt 38 (width text) ≡ w → (true ≡ true) × (nat_lt 38 (width text) ≡ false) × (c0 ≡ c)
-    by true f = absurd (no-fault TooWide c (rw f at e))
-    by false f = let g : ◌≡◌ {A = Result Cell FieldFault} (Ok c0) (Ok c) = rw f at e in (refl, f, cc g)
 
 number-kept : (b : Bool) (text : List ℕ) (c : Cell) → b ≡ true → nat_lt 38 (width text) ≡ false → where_number b text c ≡ Ok c
 number-kept b text c e f = rw (e, f) refl
@@ -102,20 +87,20 @@ read-bool false = refl
 
 read-stamp : (text : List ℕ) (o : Option (List ℕ)) (c : Cell) → stamp_form text ≡ o → where_stamp o ≡ Ok c → IsReadBack kind.Stamp c
 read-stamp text None c h e = absurd (no-fault BadValue c e)
-read-stamp text (Some form) c h e = subst (IsReadBack kind.Stamp) (same-ok (cell.Stamp form) c e) (ap where_stamp (stamp-again text form h))
+read-stamp text (Some form) c h e = subst (IsReadBack kind.Stamp) (ok_is (cell.Stamp form) c e) (ap where_stamp (stamp-again text form h))
 
 read-octets : (text : List ℕ) (o : Result (List ℕ) FromHexError) (c : Cell) → decode_of text ≡ o → where_octets o ≡ Ok c → IsReadBack kind.Bin c
 read-octets text (Err f) c h e = absurd (no-fault BadValue c e)
 read-octets text (Ok octets) c h e =
-    subst (IsReadBack kind.Bin) (same-ok (cell.Bin (encode_upper octets)) c e)
+    subst (IsReadBack kind.Bin) (ok_is (cell.Bin (encode_upper octets)) c e)
     (ap where_octets (decode_of-encode_upper octets (decode_of-ok text octets h).3))
 
 pub read-back : (k : SqlType) (text : List ℕ) (c : Cell) → cell_of_field k text ≡ Ok c → IsReadBack k c
-read-back kind.Text text c e = subst (IsReadBack kind.Text) (same-ok (cell.Text text) c e) refl
-read-back kind.Int text c e = let h = read-number (is_integer text) text (cell.Int (canonical text)) c e in subst (IsReadBack kind.Int) h.2 (read-int text h.0 h.1)
-read-back kind.Dec text c e = let h = read-number (is_decimal text) text (cell.Dec (canonical text)) c e in subst (IsReadBack kind.Dec) h.2 (read-dec text h.0 h.1)
-read-back kind.Bool text c e = let h = read-field _ _ c e in subst (IsReadBack kind.Bool) h.1 (read-bool (is_true_word text))
-read-back kind.Date text c e = let h = read-field (is_date text) (cell.Date text) c e in subst (IsReadBack kind.Date) h.1 (rw h.0 refl)
+read-back kind.Text text c e = subst (IsReadBack kind.Text) (ok_is (cell.Text text) c e) refl
+read-back kind.Int text c e = let h = number_ok (is_integer text) text (cell.Int (canonical text)) c e in subst (IsReadBack kind.Int) h.2 (read-int text h.0 h.1)
+read-back kind.Dec text c e = let h = number_ok (is_decimal text) text (cell.Dec (canonical text)) c e in subst (IsReadBack kind.Dec) h.2 (read-dec text h.0 h.1)
+read-back kind.Bool text c e = let h = field_ok _ _ c e in subst (IsReadBack kind.Bool) h.1 (read-bool (is_true_word text))
+read-back kind.Date text c e = let h = field_ok (is_date text) (cell.Date text) c e in subst (IsReadBack kind.Date) h.1 (rw h.0 refl)
 read-back kind.Stamp text c e = read-stamp text (stamp_form text) c refl e
 read-back kind.Bin text c e = read-octets text (decode_of text) c refl e
 read-back kind.Term text c e = absurd (no-fault BadValue c e)
@@ -127,16 +112,13 @@ some-form (Some form) h = (form, refl)
 
 -- a cell of a kind, whose form there is, is read from that form
 from-form : (k : SqlType) (c : Cell) (form : List ℕ) → IsOfKind k c → lexical_form c ≡ Some form → cell_of_field k form ≡ Ok c
-from-form kind.Term c form of e = absurd (no-form-of-term form (sym (ap lexical_form of.1) ∙ e))
-  where
-    no-form-of-term : (form : List ℕ) → ◌≡◌ {A = Option (List ℕ)} None (Some form) → ⊥
-    no-form-of-term form h = cc
+from-form kind.Term c form of e = absurd (none-some form (sym (ap lexical_form of.1) ∙ e))
 from-form k c form of e = rw e at (read-back k of.0 c of.2)
 
 pub own-form : (c : Cell) → HasOwnForm c
 own-form c k d of of' h e =
     let f = some-form (lexical_form c) h in
-    same-ok c d (sym (from-form k c f.0 of f.1) ∙ from-form k d f.0 of' (sym e ∙ f.1))
+    ok_is c d (sym (from-form k c f.0 of f.1) ∙ from-form k d f.0 of' (sym e ∙ f.1))
 
 -- what is known of a cell of a kind: it is not NULL, and a number is its own canonical form
 abbrev pub IsProper : Cell → Type 0
@@ -146,28 +128,28 @@ IsProper (cell.Dec text) = (is_decimal text ≡ true) × (canonical text ≡ tex
 IsProper c = Unit {0}
 
 proper : (k : SqlType) (text : List ℕ) (c : Cell) → cell_of_field k text ≡ Ok c → IsProper c × HasValueOf text c
-proper kind.Text text c e = subst (λ d. IsProper d × HasValueOf text d) (same-ok (cell.Text text) c e) (tt, tt)
+proper kind.Text text c e = subst (λ d. IsProper d × HasValueOf text d) (ok_is (cell.Text text) c e) (tt, tt)
 proper kind.Int text c e =
-    let h = read-number (is_integer text) text (cell.Int (canonical text)) c e in
+    let h = number_ok (is_integer text) text (cell.Int (canonical text)) c e in
     let d = integer-decimal text h.0 in
     let r = is-read text d in
     subst (λ d. IsProper d × HasValueOf text d) h.2 ((r.decimal, r.again), one-value text d)
 proper kind.Dec text c e =
-    let h = read-number (is_decimal text) text (cell.Dec (canonical text)) c e in
+    let h = number_ok (is_decimal text) text (cell.Dec (canonical text)) c e in
     let r = is-read text h.0 in
     subst (λ d. IsProper d × HasValueOf text d) h.2 ((r.decimal, r.again), one-value text h.0)
-proper kind.Bool text c e = let h = read-field _ _ c e in subst (λ d. IsProper d × HasValueOf text d) h.1 (tt, tt)
-proper kind.Date text c e = let h = read-field (is_date text) (cell.Date text) c e in subst (λ d. IsProper d × HasValueOf text d) h.1 (tt, tt)
+proper kind.Bool text c e = let h = field_ok _ _ c e in subst (λ d. IsProper d × HasValueOf text d) h.1 (tt, tt)
+proper kind.Date text c e = let h = field_ok (is_date text) (cell.Date text) c e in subst (λ d. IsProper d × HasValueOf text d) h.1 (tt, tt)
 proper kind.Stamp text c e = by (stamp_form text) e
   where
     by : (o : Option (List ℕ)) → where_stamp o ≡ Ok c → IsProper c × HasValueOf text c
     by None f = absurd (no-fault BadValue c f)
-    by (Some form) f = subst (λ d. IsProper d × HasValueOf text d) (same-ok (cell.Stamp form) c f) (tt, tt)
+    by (Some form) f = subst (λ d. IsProper d × HasValueOf text d) (ok_is (cell.Stamp form) c f) (tt, tt)
 proper kind.Bin text c e = by (decode_of text) e
   where
     by : (o : Result (List ℕ) FromHexError) → where_octets o ≡ Ok c → IsProper c × HasValueOf text c
     by (Err f) g = absurd (no-fault BadValue c g)
-    by (Ok octets) g = subst (λ d. IsProper d × HasValueOf text d) (same-ok (cell.Bin (encode_upper octets)) c g) (tt, tt)
+    by (Ok octets) g = subst (λ d. IsProper d × HasValueOf text d) (ok_is (cell.Bin (encode_upper octets)) c g) (tt, tt)
 proper kind.Term text c e = absurd (no-fault BadValue c e)
 
 proper-of-kind : (k : SqlType) (c : Cell) → IsOfKind k c → IsProper c
@@ -223,12 +205,7 @@ term-tied (Lit a x) (Lit b y) = sym (tied_then (bytes_cmp a b) (annotation_cmp x
 term-tied s t = refl
 
 term-same : (s t : Term) → (term_cmp s t ≡ Equal) ↔ (◌≡◌ {A = Option Bool} (Some (term_eq s t)) (Some true))
-term-same s t = (λ e. ap Some (sym (term-tied s t) ∙ ap is_eq e), λ e. let f : term_eq s t ≡ true = cc e in from (term_cmp s t) (term-tied s t ∙ f))
-  where
-    from : (o : Ordering) → is_eq o ≡ true → o ≡ Equal
-    from Equal e = refl
-    from Less e = cc
-    from Greater e = cc
+term-same s t = (λ e. ap Some (sym (term-tied s t) ∙ ap is_eq e), λ e. let f : term_eq s t ≡ true = cc e in (Equal-is (term_cmp s t)).0 (term-tied s t ∙ f))
 
 bool-same : (a b : Bool) → (bool_cmp a b ≡ Equal) ↔ (◌≡◌ {A = Option Bool} (Some (bytes_eq (bool_form a) (bool_form b))) (Some true))
 bool-same true true = (λ e. refl, λ e. refl)

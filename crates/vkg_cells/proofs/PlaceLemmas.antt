@@ -1,6 +1,7 @@
 -- What stands before and after the first of a byte.
 use Rattle.std.proofs.Common.{◌≡◌, ◌≢◌, ◌∙◌, ◌+◌, ◌<◌, ◌++◌, ◌==◌, ℕ, zero, suc, Bool, true, false, List, [], ◌∷◌, Some, None, refl, sym, ap, subst, arith, length, take, drop, eqb-true, append-nil, length-append}
 use Rattle.std.proofs.lemmas.Bool.{eqb-false}
+use Rattle.std.proofs.lemmas.Option.{none-some}
 use Rattle.std.specs.List.{after_first, before_first, position_or_len}
 use Rattle.std.proofs.Math.Seq.{drop-append-add, take-append_seam}
 use Rattle.std.proofs.Math.Nat.{zero-add}
@@ -100,10 +101,7 @@ pub lacks-front : (c : ℕ) (text : List ℕ) (p : List ℕ × List ℕ) → cut
 lacks-front c text p e = by (place c text == length text) refl
   where
     by : (b : Bool) → (place c text == length text) ≡ b → Lacks c p.0
-    by true f = absurd (none_is_some (rw f at e))
-      where
-        none_is_some : None ≡ Some p → ⊥
-        none_is_some h = cc
+    by true f = absurd (none-some p (rw f at e))
     by false f = subst (λ q. Lacks c q.0) (same (rw f at e)) (lacks-before c text)
       where
         same : Some (before_first (λ b. b == c) text, after_first (λ b. b == c) text) ≡ Some p → (before_first (λ b. b == c) text, after_first (λ b. b == c) text) ≡ p
@@ -114,10 +112,7 @@ pub lacks-front-of : (c d : ℕ) (text : List ℕ) (p : List ℕ × List ℕ) �
 lacks-front-of c d text p e h = by (place d text == length text) refl
   where
     by : (b : Bool) → (place d text == length text) ≡ b → Lacks c p.0
-    by true f = absurd (none_is_some (rw f at e))
-      where
-        none_is_some : None ≡ Some p → ⊥
-        none_is_some h = cc
+    by true f = absurd (none-some p (rw f at e))
     by false f = subst (λ q. Lacks c q.0) (same (rw f at e)) (lacks-take c (place d text) text h)
       where
         same : Some (before_first (λ b. b == d) text, after_first (λ b. b == d) text) ≡ Some p → (before_first (λ b. b == d) text, after_first (λ b. b == d) text) ≡ p

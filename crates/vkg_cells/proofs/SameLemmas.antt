@@ -6,21 +6,11 @@ use Rattle.std.specs.declared.cmp.Ordering.{Ordering}
 use Rattle.std.specs.declared.cmp.Ordering.TheVariants.{Less, Equal, Greater}
 use Rattle.std.proofs.lemmas.Map.Lookups.{exact_bytes}
 use Rattle.std.proofs.lemmas.Cmp.{nat_list_cmp_total, tied_itself}
+use Rattle.vkg_lists.proofs.Orders.{then_equal}
 use Rattle.vkg_cells.specs.Number.{canonical, fraction, is_below_zero, is_decimal, number_cmp, whole, without_leading_zeros, without_trailing_zeros}
 use Rattle.vkg_cells.proofs.CanonicalLemmas.{is-read, spelled}
 use Rattle.vkg_cells.proofs.SignLemmas.{cmp-above, cmp-above-below, cmp-below, cmp-below-above, cmp-size, size_cmp}
 use Rattle.vkg_cells.proofs.ValueLemmas.{cmp-equal}
-
-then-both : (o p : Ordering) → ordering_then o p ≡ Equal → (o ≡ Equal) × (p ≡ Equal)
-then-both Equal p e = (refl, e)
-then-both Less p e = absurd (no e)
-  where
-    no : Less ≡ Equal → ⊥
-    no h = cc
-then-both Greater p e = absurd (no e)
-  where
-    no : Greater ≡ Equal → ⊥
-    no h = cc
 
 -- the digits that count
 abbrev pub digits : List ℕ → List ℕ × List ℕ
@@ -28,8 +18,8 @@ digits text = (without_leading_zeros (whole text), without_trailing_zeros (fract
 
 size-digits : (a b : List ℕ) → is_decimal a ≡ true → is_decimal b ≡ true → size_cmp a b ≡ Equal → digits a ≡ digits b
 size-digits a b da db e =
-    let all = then-both _ _ (cmp-size a b da db ∙ e) in
-    let wholes = exact_bytes (without_leading_zeros (whole a)) (without_leading_zeros (whole b)) (then-both _ _ all.0).1 in
+    let all = then_equal _ _ (cmp-size a b da db ∙ e) in
+    let wholes = exact_bytes (without_leading_zeros (whole a)) (without_leading_zeros (whole b)) (then_equal _ _ all.0).1 in
     let fractions = exact_bytes (without_trailing_zeros (fraction a)) (without_trailing_zeros (fraction b)) all.1 in
     λ i. (wholes i, fractions i)
 

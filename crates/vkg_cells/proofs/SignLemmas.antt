@@ -1,5 +1,5 @@
 -- The order of numbers with a sign.
-use Rattle.std.proofs.Common.{◌≡◌, ◌∙◌, ◌+◌, ◌*◌, ◌^◌, ◌<◌, ◌++◌, ◌&&◌, inl, inr, ℕ, zero, suc, Bool, true, false, List, [], ◌∷◌, pos, negsuc, refl, sym, ap, arith, length, nat_lt, lit<}
+use Rattle.std.proofs.Common.{◌≡◌, ◌∙◌, ◌+◌, ◌*◌, ◌^◌, ◌<◌, ◌++◌, inl, inr, ℕ, zero, suc, Bool, true, false, List, [], ◌∷◌, pos, negsuc, refl, sym, ap, arith, length, nat_lt, lit<}
 use Rattle.std.specs.Prelude.{neg_ℤ, ◌*ℤ◌, ◌<ℤ◌}
 use Rattle.std.specs.List.{list_all}
 use Rattle.std.specs.Char.{is_ascii_digit}
@@ -15,13 +15,6 @@ use Rattle.std.proofs.lemmas.Bool.{cases_order, leb-true, ltb-true, ltb-false}
 use Rattle.vkg_lists.proofs.Bools.{and_parts}
 use Rattle.vkg_cells.specs.Number.{digits_value, fraction, is_below_zero, is_decimal, is_digits, is_negative, number_cmp, numerator, scale, size, whole, width, without_leading_zeros, without_trailing_zeros}
 use Rattle.vkg_cells.proofs.ValueLemmas.{AreDigits, cmp-less, cmp-equal, cmp-greater, cmp-scaled}
-
-pub both : (a b : Bool) → (a && b) ≡ true → (a ≡ true) × (b ≡ true)
-both true b e = (refl, e)
-both false b e = absurd (no e)
-  where
-    no : false ≡ true → ⊥
-    no f = cc
 
 digits-all : (ds : List ℕ) → list_all is_ascii_digit ds ≡ true → AreDigits ds
 digits-all [] e = tt

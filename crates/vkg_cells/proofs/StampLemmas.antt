@@ -1,6 +1,7 @@
 -- The lexical form of a moment reads as itself.
 use Rattle.std.proofs.Common.{◌≡◌, ◌∙◌, ◌≤◌, ◌++◌, ◌∷◌, ◌&&◌, ℕ, Bool, true, false, List, [], Option, Some, None, refl, ap, subst, arith, length, nat_le, codes, append-nil, append_assoc, leb-true}
 use Rattle.std.proofs.lemmas.Bool.{le-leb}
+use Rattle.std.proofs.lemmas.Option.{none-some}
 use Rattle.vkg_lists.proofs.Bools.{and_parts}
 use Rattle.vkg_cells.specs.Moment.{cut, form_at, form_if, form_of_parts, is_clock, is_date, or_cut, stamp_form}
 use Rattle.vkg_cells.specs.Number.{after_point, is_digits, without_trailing_zeros}
@@ -41,10 +42,7 @@ written-some date clock b bs d c h k =
 form-if : (b : Bool) (date clock f form : List ℕ) → form_if b date clock f ≡ Some form
     → (b ≡ true) × (written date clock (without_trailing_zeros f) ≡ form)
 form-if true date clock f form e = (refl, cc e)
-form-if false date clock f form e = absurd (no e)
-  where
-    no : ◌≡◌ {A = Option (List ℕ)} None (Some form) → ⊥
-    no h = cc
+form-if false date clock f form e = absurd (none-some form e)
 
 four : (a b c d : Bool) → a && b && c && d ≡ true → (a ≡ true) × (b ≡ true) × (c ≡ true) × (d ≡ true)
 four a b c d e =
@@ -82,10 +80,7 @@ again-at date rest form (Some p) d c e =
 
 again-parts : (o : Option (List ℕ × List ℕ)) (form : List ℕ) → ((p : List ℕ × List ℕ) → o ≡ Some p → Lacks 84 p.0)
     → form_of_parts o ≡ Some form → stamp_form form ≡ Some form
-again-parts None form d e = absurd (no e)
-  where
-    no : ◌≡◌ {A = Option (List ℕ)} None (Some form) → ⊥
-    no h = cc
+again-parts None form d e = absurd (none-some form e)
 again-parts (Some p) form d e = again-at p.0 p.1 form (cut 46 p.1) (d p refl) refl e
 
 front : (text : List ℕ) (q o : Option (List ℕ × List ℕ)) → cut 84 text ≡ q → cut 32 text ≡ o → (p : List ℕ × List ℕ) → or_cut q o ≡ Some p → Lacks 84 p.0

@@ -1,5 +1,5 @@
 ghost use Rattle.std.specs.Prelude.{◌≡◌};
-ghost use Rattle.vkg_terms.specs.Same.{annotation_name, annotation_rank, term_annotation, term_cmp, term_name, term_rank};
+ghost use Rattle.vkg_terms.specs.Same.{annotation_name, annotation_rank, term_annotation, term_cmp, term_rank};
 
 use std::cmp::Ordering;
 use vkg_terms::{Annotation, Term};
@@ -13,7 +13,7 @@ pub fn order_terms(a: &Term, b: &Term) -> Ordering
         .then(annotation_text(a).cmp(&annotation_text(b)));
     kind(a)
         .cmp(&kind(b))
-        .then(text(a).cmp(&text(b)).then(by_annotation))
+        .then(a.name().cmp(&b.name()).then(by_annotation))
 }
 
 fn kind(term: &Term) -> u8
@@ -23,16 +23,6 @@ fn kind(term: &Term) -> u8
         Term::Iri(_) => 0,
         Term::Blank(_) => 1,
         Term::Lit(_, _) => 2,
-    }
-}
-
-fn text(term: &Term) -> &str
-    ensures { result.now ≡ term_name term.now }
-{
-    match term {
-        Term::Iri(iri) => iri.as_str(),
-        Term::Blank(label) => label.as_str(),
-        Term::Lit(text, _) => text.as_str(),
     }
 }
 

@@ -1,17 +1,18 @@
 -- Words in which the definition finds no fault give a command with all of its options, but for `gen` with a word that is no number.
-use Rattle.std.proofs.Common.{◌≡◌, ◌≢◌, ◌&&◌, ◌⊎◌, inl, inr, ℕ, Bool, true, false, not, List, [], ◌∷◌, Option, Some, None, cond, refl, sym, ap, ◌∙◌, codes}
+use Rattle.std.proofs.Common.{◌≡◌, ◌&&◌, ◌⊎◌, inl, inr, ℕ, Bool, true, false, not, List, [], ◌∷◌, Option, Some, None, cond, refl, sym, ap, ◌∙◌, codes}
 use Rattle.std.specs.Prelude.{IfNone, IfSome, option_and_then, option_map}
 use Rattle.std.specs.Option.{is_some, option_map_or}
 use Rattle.clap.specs.Words.{App, Kinds, Row, Shape, Text, built, fault_of, first_of, subcommand_of}
 use Rattle.clap.specs.Walk.{finished, nothing_held, rows_after, stop_after, walk}
 use Rattle.clap.specs.Faults.{entered_fault, level_fault}
 use Rattle.clap.specs.Simple.{argument_words, built_leaf, entered, filled, inherited, marked_built, names_of, rows_at, with_index, with_leaf_noted}
+use Rattle.vkg_lists.proofs.Bools.{neither, not_false}
 use Rattle.vkg_company.specs.Count.{count_in}
 use Rattle.vkg_cli.specs.Words.{AreNotTaken, Asked, HasNoCount, command_unless, gen, named_words, request_seen, taken_command}
 use Rattle.vkg_cli.specs.declared.words.Request.{Request}
 use Rattle.vkg_cli.specs.CommandLine.{dump_app, gen_app, option_rule, optional_rule, query_app, sql_app, vkg_app, word_rule}
 use Rattle.vkg_cli.proofs.AskedLemmas.{asked-taken}
-use Rattle.vkg_cli.proofs.FilledLemmas.{IsOption, argument-check, given-first, level-filled, level-parts, or-false, subcommand-check}
+use Rattle.vkg_cli.proofs.FilledLemmas.{IsOption, argument-check, given-first, level-filled, level-parts, subcommand-check}
 
 -- a subcommand as the parse sees it
 abbrev leaf : App → Shape
@@ -26,10 +27,6 @@ fits-optional name = record { action = refl; range = refl; short = refl; short_a
 fits-word : (name : Text) → IsOption (with_index 1 (filled (word_rule name)))
 fits-word name = record { action = refl; range = refl; short = refl; short_aliases = refl; defaults = refl }
 
-not-false : (b : Bool) → not b ≡ false → b ≡ true
-not-false true e = refl
-not-false false e = cc e
-
 not-and-true : (b : Bool) → (not b && true) ≡ false → b ≡ true
 not-and-true true e = refl
 not-and-true false e = cc e
@@ -41,38 +38,38 @@ dump-gives : (words : List Text) → level_fault (leaf dump_app) [] nothing_held
 dump-gives words e =
     let rows = rows_after (leaf dump_app).rules [] words in
     let level = level-filled (leaf dump_app) (fits (codes "schema"), (fits (codes "data"), (fits (codes "base"), (fits-optional (codes "mapping"), tt)))) words e in
-    let schema = or-false _ _ (argument-check (leaf dump_app) rows false level.1) in
-    let folder = or-false _ _ schema.1 in
-    let base = or-false _ _ folder.1 in
-    let has_schema = given-first (codes "schema") rows level.0 (not-false _ schema.0) in
-    let has_folder = given-first (codes "data") rows level.0 (not-false _ folder.0) in
-    let has_base = given-first (codes "base") rows level.0 (not-false _ base.0) in
+    let schema = neither _ _ (argument-check (leaf dump_app) rows false level.1) in
+    let folder = neither _ _ schema.1 in
+    let base = neither _ _ folder.1 in
+    let has_schema = given-first (codes "schema") rows level.0 (not_false _ schema.0) in
+    let has_folder = given-first (codes "data") rows level.0 (not_false _ folder.0) in
+    let has_base = given-first (codes "base") rows level.0 (not_false _ base.0) in
     rw (has_schema.1, has_folder.1, has_base.1) refl
 
 query-gives : (words : List Text) → level_fault (leaf query_app) [] nothing_held words false [] ≡ [] → Gives (Some (rows_at (leaf query_app) words))
 query-gives words e =
     let rows = rows_after (leaf query_app).rules [] words in
     let level = level-filled (leaf query_app) (fits (codes "schema"), (fits (codes "data"), (fits (codes "base"), (fits (codes "query"), (fits-optional (codes "mapping"), tt))))) words e in
-    let schema = or-false _ _ (argument-check (leaf query_app) rows false level.1) in
-    let folder = or-false _ _ schema.1 in
-    let base = or-false _ _ folder.1 in
-    let file = or-false _ _ base.1 in
-    let has_schema = given-first (codes "schema") rows level.0 (not-false _ schema.0) in
-    let has_folder = given-first (codes "data") rows level.0 (not-false _ folder.0) in
-    let has_base = given-first (codes "base") rows level.0 (not-false _ base.0) in
-    let has_file = given-first (codes "query") rows level.0 (not-false _ file.0) in
+    let schema = neither _ _ (argument-check (leaf query_app) rows false level.1) in
+    let folder = neither _ _ schema.1 in
+    let base = neither _ _ folder.1 in
+    let file = neither _ _ base.1 in
+    let has_schema = given-first (codes "schema") rows level.0 (not_false _ schema.0) in
+    let has_folder = given-first (codes "data") rows level.0 (not_false _ folder.0) in
+    let has_base = given-first (codes "base") rows level.0 (not_false _ base.0) in
+    let has_file = given-first (codes "query") rows level.0 (not_false _ file.0) in
     rw (has_schema.1, has_folder.1, has_base.1, has_file.1) refl
 
 sql-gives : (words : List Text) → level_fault (leaf sql_app) [] nothing_held words false [] ≡ [] → Gives (Some (rows_at (leaf sql_app) words))
 sql-gives words e =
     let rows = rows_after (leaf sql_app).rules [] words in
     let level = level-filled (leaf sql_app) (fits (codes "schema"), (fits (codes "base"), (fits (codes "query"), (fits-optional (codes "mapping"), tt)))) words e in
-    let schema = or-false _ _ (argument-check (leaf sql_app) rows false level.1) in
-    let base = or-false _ _ schema.1 in
-    let file = or-false _ _ base.1 in
-    let has_schema = given-first (codes "schema") rows level.0 (not-false _ schema.0) in
-    let has_base = given-first (codes "base") rows level.0 (not-false _ base.0) in
-    let has_file = given-first (codes "query") rows level.0 (not-false _ file.0) in
+    let schema = neither _ _ (argument-check (leaf sql_app) rows false level.1) in
+    let base = neither _ _ schema.1 in
+    let file = neither _ _ base.1 in
+    let has_schema = given-first (codes "schema") rows level.0 (not_false _ schema.0) in
+    let has_base = given-first (codes "base") rows level.0 (not_false _ base.0) in
+    let has_file = given-first (codes "query") rows level.0 (not_false _ file.0) in
     rw (has_schema.1, has_base.1, has_file.1) refl
 
 abbrev GivesOr : Option (Text × List Row) → Type 0
@@ -86,8 +83,8 @@ gen-gives : (words : List Text) → level_fault (leaf gen_app) [] nothing_held w
 gen-gives words e =
     let rows = rows_after (leaf gen_app).rules [] words in
     let level = level-filled (leaf gen_app) (fits-word (codes "N"), tt) words e in
-    let word = or-false _ _ (argument-check (leaf gen_app) rows false level.1) in
-    let has_word = given-first (codes "N") rows level.0 (not-false _ word.0) in
+    let word = neither _ _ (argument-check (leaf gen_app) rows false level.1) in
+    let has_word = given-first (codes "N") rows level.0 (not_false _ word.0) in
     counts rows has_word.0 has_word.1 (count_in has_word.0) refl
 
 -- the command that is named

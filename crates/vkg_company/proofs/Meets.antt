@@ -39,20 +39,17 @@ either_fits : (column : Column) (b : Bool) (c : Cell) → FitsColumn column cell
 either_fits column true c h k = h
 either_fits column false c h k = k
 
-letter_ascii : (b : ℕ) → b < 128 → IsAscii (b ∷ [])
-letter_ascii b h = IsAscii-push [] b IsAscii-nil h
-
 pub department_fits : (k : ℕ) → k < 2 ^ 64 → AllZip FitsColumn dept.columns (department k)
 department_fits k h = (
   number_fits _ _ k h,
-  (either_fits _ (divides 5 k) _ (null_fits _ _) (tagged_fits _ (codes "D") k h (letter_ascii 68 (lit< tt))), tt),
+  (either_fits _ (divides 5 k) _ (null_fits _ _) (tagged_fits _ (codes "D") k h (IsAscii-push [] 68 IsAscii-nil (lit< tt))), tt),
 )
 
 pub employee_fits : (d i : ℕ) → i % 7 < 2 ^ 64 → i % d + 1 < 2 ^ 64 → i < 2 ^ 64 → AllZip FitsColumn emp.columns (employee d i)
 employee_fits d i seven within h = (
   number_fits _ _ i h,
   (
-    tagged_fits _ (codes "N") (i % 7) seven (letter_ascii 78 (lit< tt)),
+    tagged_fits _ (codes "N") (i % 7) seven (IsAscii-push [] 78 IsAscii-nil (lit< tt)),
     (either_fits _ (divides 4 i) _ (null_fits _ _) (number_fits _ _ (i % d + 1) within), tt),
   ),
 )

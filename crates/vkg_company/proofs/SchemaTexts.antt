@@ -1,8 +1,9 @@
 -- A text with a derivation and without a failing check has no fault, and is one schema.
-use Rattle.std.proofs.Common.{◌≡◌, ◌∙◌, ◌+◌, ℕ, List, [], ◌∷◌, None, Ok, Err, Result, inl, inr, sym, ap, subst, take, drop}
+use Rattle.std.proofs.Common.{◌≡◌, ◌∙◌, ◌+◌, ℕ, List, [], ◌∷◌, None, Ok, inl, inr, sym, ap, subst, take, drop}
 use Rattle.std.specs.Prelude.{IsUtf8}
 use Rattle.std.proofs.lemmas.List.{take-append-drop}
 use Rattle.std.proofs.lemmas.Option.{none-some}
+use Rattle.vkg_lists.proofs.Results.{ok_err, ok_same}
 use Rattle.vkg_grammar.specs.declared.note.Note.{Note}
 use Rattle.vkg_grammar.specs.declared.rule.Rule.{Rule}
 use Rattle.vkg_grammar.specs.Grammar.{Derives, IsAlive}
@@ -19,12 +20,6 @@ use Rattle.vkg_schema.specs.declared.reading.SchemaFault.{SchemaFault}
 use Rattle.vkg_schema.specs.declared.table.Table.{Table}
 use Rattle.vkg_schema.specs.Reading.{IsFaultOf, IsSchemaText, no_utf8, no_token, no_text, no_schema}
 use Rattle.vkg_schema.specs.Resolve.{schema_of}
-
-pub ok_same : {A E : Type 0} (x y : A) → ◌≡◌ {A = Result A E} (Ok x) (Ok y) → x ≡ y
-ok_same x y e = cc e
-
-pub ok_no_err : {A E : Type 0} (x : A) (f : E) → ◌≡◌ {A = Result A E} (Ok x) (Err f) → ⊥
-ok_no_err x f e = cc e
 
 -- each front of a text that is derived is alive
 pub front_alive : (g : List Rule) (ts : List ℕ) (ws : List Note) → Derives g (0 ∷ []) ts ws → (n : ℕ) → IsAlive g (take n ts)
@@ -52,7 +47,7 @@ module _ (text : List ℕ) (utf8 : IsUtf8 text) (tokens : List Token) (cut : tok
 
   pub no_fault : first_fault (written_of ws (names_of text tokens) []) ≡ None → (f : SchemaFault) → IsFaultOf text f → ⊥
   no_fault fine f (no_utf8 h e) = h utf8
-  no_fault fine f (no_token u e) = ok_no_err tokens _ (sym cut ∙ e)
+  no_fault fine f (no_token u e) = ok_err tokens _ (sym cut ∙ e)
   no_fault fine f (no_text u n) = no_place _ n
   no_fault fine f (no_schema w u s e) = none-some _ (sym fine ∙ ap first_fault (sym (said w s)) ∙ e)
 

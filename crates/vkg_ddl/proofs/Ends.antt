@@ -7,6 +7,7 @@ use Rattle.std.proofs.lemmas.Bool.{cases_lt}
 use Rattle.std.proofs.lemmas.Bool.Decides.{nat_tests}
 use Rattle.std.proofs.lemmas.List.{length_push}
 use Rattle.std.proofs.lemmas.List.Sums.{fold_more}
+use Rattle.std.proofs.lemmas.Option.{same_Some}
 use Rattle.vkg_tokens.specs.declared.cutting.Piece.{Piece}
 use Rattle.vkg_tokens.specs.declared.cutting.Piece.TheVariants.{Gap, Word as Found, Nothing}
 use Rattle.vkg_tokens.specs.declared.cutting.Token.{Token}
@@ -16,7 +17,7 @@ use Rattle.vkg_tokens.specs.declared.lang.Lang.TheVariants as lang
 use Rattle.vkg_tokens.specs.declared.lang.State.TheVariants.{OfDdl}
 use Rattle.vkg_tokens.specs.Cut.{piece, word_or_nothing, before, cut_piece, cut, tokens_of}
 use Rattle.vkg_tokens.specs.Ddl.{is_word_part, if_token, ddl_begin, ddl_step, ddl_class}
-use Rattle.vkg_tokens.specs.Lang.{kind_of, is_blank, begins_comment, line_length, stepped, classed, state_after, token_class, or_shorter, longest_to, longest}
+use Rattle.vkg_tokens.specs.Lang.{kind_of, is_blank, begins_comment, line_length, stepped, classed, token_class, or_shorter, longest_to, longest}
 use Rattle.vkg_ddl.specs.Names.{HasAsciiEnds}
 
 other_byte : (b n : ℕ) → n < 128 → 128 ≤ b → (b == n) ≡ false
@@ -135,12 +136,9 @@ ends_of (b ∷ bs) (suc n) class s l e = record {
       below (get_or (b ∷ bs) (suc n - 1) 0) (λ h. differ (no_last (b ∷ bs) n (omega (arith, l)) (subst (λ k. 128 ≤ get_or (b ∷ bs) k 0) at h)) (ap (λ k. token_class lang.Ddl (take k (b ∷ bs))) (sym here) ∙ e));
 }
 
-same_some : (s t : ℕ × ℕ) → Some s ≡ Some t → s ≡ t
-same_some s t e = cc
-
 found_by : (rest : List ℕ) (m n class : ℕ) (o : Option ℕ) → suc m ≤ length rest → (longest_to lang.Ddl rest m ≡ Some (class, n) → AreAsciiEnds rest n) → token_class lang.Ddl (take (suc m) rest) ≡ o → or_shorter o (suc m) (longest_to lang.Ddl rest m) ≡ Some (class, n) → AreAsciiEnds rest n
 found_by rest m n class None l shorter f g = shorter g
-found_by rest m n class (Some c) l shorter f g = let same : suc m ≡ n = ap (λ (t : ℕ × ℕ). t.1) (same_some (c, suc m) (class, n) g) in subst (AreAsciiEnds rest) same (ends_of rest (suc m) c (omega arith) l f)
+found_by rest m n class (Some c) l shorter f g = let same : suc m ≡ n = ap (λ (t : ℕ × ℕ). t.1) (same_Some (c, suc m) (class, n) g) in subst (AreAsciiEnds rest) same (ends_of rest (suc m) c (omega arith) l f)
 
 found_to : (rest : List ℕ) (m n class : ℕ) → m ≤ length rest → longest_to lang.Ddl rest m ≡ Some (class, n) → AreAsciiEnds rest n
 found_to rest zero n class l e = absurd (cc)

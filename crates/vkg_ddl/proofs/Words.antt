@@ -1,5 +1,5 @@
 -- What a token says is UTF-8.
-use Rattle.std.proofs.Common.{◌≡◌, ℕ, ◌+◌, ◌-◌, ◌<◌, ◌≤◌, Bool, true, false, cond, not, ◌&&◌, ◌==◌, List, [], ◌∷◌, ◌++◌, length, get_or, take, drop, refl, sym, ap, ◌∙◌, subst, arith, append-nil, length-drop, add-zero}
+use Rattle.std.proofs.Common.{◌≡◌, ℕ, ◌+◌, ◌-◌, ◌<◌, ◌≤◌, Bool, true, false, cond, not, ◌&&◌, ◌==◌, List, [], ◌∷◌, ◌++◌, length, get_or, drop, refl, sym, ap, ◌∙◌, subst, arith, append-nil, length-drop, add-zero}
 use Rattle.std.specs.Prelude.{IsUtf8, chars, nat_le, if◌then◌else◌}
 use Rattle.std.specs.List.{list_all}
 use Rattle.std.specs.Str.{IsCharBoundary}
@@ -7,10 +7,11 @@ use Rattle.std.proofs.lemmas.Bool.Decides.{nat_tests}
 use Rattle.std.proofs.lemmas.List.{get_or-take, get_or-drop, length-take-le}
 use Rattle.std.proofs.lemmas.Str.{IsUtf8-nil, IsUtf8-append, IsUtf8-between, IsCharBoundary-before_ascii, IsCharBoundary-after_ascii, encodes-chars, scalars-chars}
 use Rattle.std.proofs.Math.Utf8.{encode, encodes, scalar, scalars}
+use Rattle.std.proofs.Math.Bool.{and-false, and-true}
 use Rattle.vkg_lists.proofs.Bools.{and_parts, not_true}
 use Rattle.vkg_terms.proofs.Octets.{encode_all, scalar_below}
 use Rattle.vkg_tokens.specs.declared.cutting.Token.{Token}
-use Rattle.vkg_ddl.specs.Names.{HasAsciiEnds, is_second, undoubled_from, undoubled, slice, within, name_bytes}
+use Rattle.vkg_ddl.specs.Names.{HasAsciiEnds, undoubled_from, undoubled, slice, within, name_bytes}
 use Rattle.vkg_ddl.proofs.Naming.{first_byte}
 
 -- where no quote stands, nothing is left out
@@ -20,18 +21,10 @@ plain (x ∷ xs) ys after e =
     let h = and_parts (not (x == 34)) (list_all (λ b. not (b == 34)) xs) e in
     let other : (x == 34) ≡ false = not_true (x == 34) h.0 in
     let more = plain xs ys (x == 34) h.1 in
-    (more.0, first_byte after x (xs ++ ys) false (ap (λ b. after && b) other ∙ and_no after) ∙ ap (λ zs. x ∷ zs) more.1)
-  where
-    and_no : (b : Bool) → (b && false) ≡ false
-    and_no true = refl
-    and_no false = refl
+    (more.0, first_byte after x (xs ++ ys) false (ap (λ b. after && b) other ∙ and-false after) ∙ ap (λ zs. x ∷ zs) more.1)
 
 one_char : (c : ℕ) → scalar c ≡ true → IsUtf8 (encode c)
 one_char c e = (c ∷ [], (ap (λ b. b && true) e, append-nil (encode c)))
-
-and_yes : (b : Bool) → (b && true) ≡ b
-and_yes true = refl
-and_yes false = refl
 
 module _ (c : ℕ) (cs : List ℕ) (after : Bool) (char : scalar c ≡ true) (more : (later : Bool) → IsUtf8 (undoubled_from later (encodes cs))) where
   at_quote : (b : Bool) → IsUtf8 (cond b (undoubled_from false (encodes cs)) (34 ∷ undoubled_from true (encodes cs)))
@@ -43,7 +36,7 @@ module _ (c : ℕ) (cs : List ℕ) (after : Bool) (char : scalar c ≡ true) (mo
   unfolding encode
   by_quote true f =
       let is : 34 ≡ c = grind (arith, nat_tests) in
-      subst (λ d. IsUtf8 (undoubled_from after (encode d ++ encodes cs))) is (subst IsUtf8 (sym (first_byte after 34 (encodes cs) after (and_yes after))) (at_quote after))
+      subst (λ d. IsUtf8 (undoubled_from after (encode d ++ encodes cs))) is (subst IsUtf8 (sym (first_byte after 34 (encodes cs) after (and-true after))) (at_quote after))
   by_quote false f =
       let p = plain (encode c) (encodes cs) after (encode_all (λ b. not (b == 34)) c (scalar_below c char) (λ b l k. grind (arith, nat_tests)) (λ l. ap not f)) in
       subst IsUtf8 (sym p.1) (IsUtf8-append (encode c) (undoubled_from p.0 (encodes cs)) (one_char c char) (more p.0))

@@ -1,5 +1,5 @@
 -- Each term map of the direct mapping makes its term over a database that meets the schema.
-use Rattle.std.proofs.Common.{◌≡◌, ◌⊎◌, inl, inr, ℕ, zero, suc, ◌+◌, refl, sym, ◌∙◌, ap, subst, List, [], ◌∷◌, length, true, false, cond, ◌||◌, arith, Option, Some, None, Ok}
+use Rattle.std.proofs.Common.{◌≡◌, ◌⊎◌, inl, inr, ℕ, zero, suc, refl, sym, ◌∙◌, ap, subst, List, [], ◌∷◌, length, true, false, cond, ◌||◌, Option, Some, None, Ok}
 use Rattle.std.specs.Prelude.{Contains, chars, option_map, slice_get, unwrap_or, IfSome, IsTrue, IsUtf8}
 use Rattle.std.specs.List.{AllByRecursion, AllZip, enumerate_from, find, list_any}
 use Rattle.std.proofs.lemmas.Str.{scalars-chars}
@@ -18,14 +18,14 @@ use Rattle.vkg_schema.specs.Meets.{IsWellFormed, IsTable, IsColumn, IsKey, IsRef
 use Rattle.vkg_maps.specs.declared.term_map.TermMap.TheVariants as from
 use Rattle.vkg_maps.specs.declared.term_map.TermType.TheVariants as sort
 use Rattle.vkg_maps.specs.Terms.{term_of, where_value, against}
-use Rattle.vkg_lists.specs.Sets.{HasSameMembers}
-use Rattle.vkg_maps.specs.Dataset.{dataset}
-use Rattle.vkg_direct.specs.DirectGraph.{primary_key, row_node, direct_graph}
-use Rattle.vkg_direct.specs.DirectMapping.{direct_map, has_primary_key, direct}
-use Rattle.vkg_lists.proofs.Members.{each_from_recursion, Contains-none, Contains-cons_cases, Contains-there, Contains-here}
-use Rattle.vkg_direct.proofs.Whole.{some_at, parent_at, AllMade, same_quads}
+use Rattle.vkg_maps.proofs.Members.{in_list}
+use Rattle.vkg_direct.specs.DirectGraph.{primary_key, row_node}
+use Rattle.vkg_direct.specs.DirectMapping.{direct_map, has_primary_key}
+use Rattle.vkg_lists.proofs.Members.{each_from_recursion, Contains-there, Contains-here}
+use Rattle.vkg_direct.proofs.Whole.{some_at, parent_at, AllMade}
 use Rattle.vkg_direct.proofs.Cells.{Formed, formed}
 use Rattle.vkg_direct.proofs.Nodes.{Known, Named, node_made}
+use Rattle.vkg_direct.proofs.Within.{place_of}
 
 all_at : {X : Type 0} (P : X → Type 0) (xs : List X) (j : ℕ) (x : X) → AllByRecursion P xs → slice_get xs j ≡ Some x → P x
 all_at P [] j x a e = cc
@@ -37,16 +37,6 @@ zip_at R [] ys j x z e = cc
 zip_at R (a ∷ xs) [] j x z e = absurd z
 zip_at R (a ∷ xs) (b ∷ ys) zero x z e = (b, refl, subst (λ w. R w b) (same_Some a x e) z.0)
 zip_at R (a ∷ xs) (b ∷ ys) (suc j) x z e = zip_at R xs ys j x z.1 e
-
-place_of : {X : Type 0} (n : ℕ) (xs : List X) (p : ℕ × X) → Contains (enumerate_from n xs) p → (j : ℕ) × (p.0 ≡ n + j) × (slice_get xs j ≡ Some p.1)
-place_of n [] p h = absurd (Contains-none p h)
-place_of n (x ∷ xs) p h = elim (Contains-cons_cases (n, x) (enumerate_from (n + 1) xs) p h) [
-  | inl e ↦ let z : n ≡ n + 0 = omega arith in (0, sym (ap (λ q. q.0) e) ∙ z, ap (λ q. Some q.1) e)
-  | inr c ↦ let r = place_of (n + 1) xs p c in let z : (n + 1) + r.0 ≡ n + suc r.0 = omega arith in (suc r.0, r.1 ∙ z, r.2)
-]
-
-place_from : {X : Type 0} (xs : List X) (p : ℕ × X) → Contains (enumerate_from 0 xs) p → slice_get xs p.0 ≡ Some p.1
-place_from xs p h = let r = place_of 0 xs p h in let z : 0 + r.0 ≡ r.0 = omega arith in ap (λ k. slice_get xs k) (r.1 ∙ z) ∙ r.2
 
 found : (keys : List Key) → list_any (λ k. k.primary) keys ≡ true → (key : Key) × (find (λ k. k.primary) keys ≡ Some key) × Contains keys key × (key.primary ≡ true)
 found [] e = cc
@@ -78,7 +68,7 @@ module _ (table : Table) (row : Row) (cells : AllZip FitsColumn table.columns ro
 
   made_literal : (c : ℕ × Column) → Contains (enumerate_from 0 table.columns) c → (base : List ℕ) → term_of base (from.Column c.0 (sort.Literal (natural c.1.kind))) row ≡ Ok (option_map (λ form. Lit form (natural c.1.kind)) (lexical_form (cell_at row c.0)))
   made_literal c h base =
-      let e = place_from table.columns c h in
+      let e = place_of table.columns c h in
       let z = zip_at FitsColumn table.columns row c.0 c.1 cells e in
       let at : cell_at row c.0 ≡ z.0 = ap (λ o. unwrap_or o cell.Null) z.1 in
       let P : Option (List ℕ) → Type 0 = λ o. where_value (sort.Literal (natural c.1.kind)) (option_map (against base (sort.Literal (natural c.1.kind))) o) ≡ Ok (option_map (λ form. Lit form (natural c.1.kind)) o) in
@@ -95,11 +85,6 @@ named tables table t = record { name = scalars-chars table.name t.name; columns 
     of_column (Some column) h = scalars-chars column.name (h column refl)
 
 module _ (base : List ℕ) (tables : List Table) (db : Database) (absolute : is_absolute base ≡ true) (well : IsWellFormed tables) (meets : MeetsSchema tables db) (keyed : (t : Table) → Contains tables t → has_primary_key t ≡ true) where
-  contained : {X : Type 0} (xs : List X) (j : ℕ) (x : X) → slice_get xs j ≡ Some x → Contains xs x
-  contained [] j x e = cc
-  contained (y ∷ ys) zero x e = (0, omega arith, same_Some y x e)
-  contained (y ∷ ys) (suc j) x e = Contains-there y ys x (contained ys j x e)
-
   row_fits : (k : ℕ) (table : Table) → slice_get tables k ≡ Some table → (row : Row) → Contains (rows_of db k) row → AllZip FitsColumn table.columns row
   row_fits k table e row h =
       let z = zip_at (TableMeets db) tables db k table meets e in
@@ -108,7 +93,7 @@ module _ (base : List ℕ) (tables : List Table) (db : Database) (absolute : is_
   node : (k : ℕ) (table : Table) → slice_get tables k ≡ Some table → (row : Row) → Contains (rows_of db k) row → term_of base (direct_map base (k, table)).subject row ≡ Ok (Some (row_node base table row))
   node k table e row h =
       let t = all_at (IsTable tables) tables k table well e in
-      let f = found table.keys (keyed table (contained tables k table e)) in
+      let f = found table.keys (keyed table (in_list tables k table e)) in
       let is = each_from_recursion (IsKey table) table.keys t.keys f.0 f.2 in
       let key : primary_key table ≡ f.0.columns = ap (λ o. unwrap_or (option_map (λ k. k.columns) o) []) f.1 in
       let known = all_known table row (row_fits k table e row h) t.columns f.0.columns is.columns (is.primary f.3) in
@@ -116,7 +101,7 @@ module _ (base : List ℕ) (tables : List Table) (db : Database) (absolute : is_
 
   pub all_made : AllMade base tables db
   all_made kt h row r =
-      let e = place_from tables kt h in
+      let e = place_of tables kt h in
       let t = all_at (IsTable tables) tables kt.0 kt.1 well e in
       record {
         node = node kt.0 kt.1 e row r;
@@ -128,7 +113,3 @@ module _ (base : List ℕ) (tables : List Table) (db : Database) (absolute : is_
             ∙ (node ref.table target.0 target.1 other o_is
             ∙ ap (λ o. Ok (Some (row_node base (unwrap_or o kt.1) other))) (sym target.1));
       }
-
-  -- the dataset of the direct mapping is the direct graph
-  pub direct_is_graph : HasSameMembers (dataset (direct tables base) db) (direct_graph tables base db)
-  direct_is_graph = same_quads base tables db well all_made

@@ -22,8 +22,8 @@ use Rattle.vkg_maps.specs.declared.term_map.TermType.TheVariants as sort
 use Rattle.vkg_direct.specs.DirectGraph.{direct_graph, column_iri, reference_iri}
 use Rattle.vkg_direct.specs.DirectMapping.{direct, direct_map, has_primary_key, column_property, reference_property, maps_of}
 use Rattle.vkg_lists.proofs.Members.{Contains-here, Contains-there, Contains-none, Contains-cons_cases, Contains-from_map, Contains-from_flat_map}
-use Rattle.vkg_direct.proofs.Whole.{AllMade, enumerated}
-use Rattle.vkg_direct.proofs.AllMade.{all_made, direct_is_graph}
+use Rattle.vkg_direct.proofs.Whole.{AllMade, enumerated, same_quads}
+use Rattle.vkg_direct.proofs.AllMade.{all_made}
 
 keyed : (tables : List Table) → position (λ t. not (has_primary_key t)) tables ≡ None → (t : Table) → Contains tables t → has_primary_key t ≡ true
 keyed tables e t (k, l, i) =
@@ -72,8 +72,9 @@ module _ (base : List ℕ) (tables : List Table) (db : Database) (made : AllMade
       ap (λ x. map_faults base db (m.0, x)) (sym b.2) ∙ map_sound b.0 b.1 m.0)
 
 module _ (base : List ℕ) (tables : List Table) (absolute : is_absolute base ≡ true) (well : IsWellFormed tables) (keys : position (λ t. not (has_primary_key t)) tables ≡ None) (db : Database) (meets : MeetsSchema tables db) where
+  -- the dataset of the direct mapping is the direct graph
   pub direct_graph_is : HasSameMembers (dataset (direct tables base) db) (direct_graph tables base db)
-  direct_graph_is = direct_is_graph base tables db absolute well meets (keyed tables keys)
+  direct_graph_is = same_quads base tables db well (all_made base tables db absolute well meets (keyed tables keys))
 
   pub direct_faultless : data_faults (direct tables base) db ≡ []
   direct_faultless = faultless base tables db (all_made base tables db absolute well meets (keyed tables keys))

@@ -1,4 +1,3 @@
-pub mod Members
 pub mod Tables
 pub mod Whole
 pub mod Joined

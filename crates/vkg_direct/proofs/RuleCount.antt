@@ -9,10 +9,10 @@ use Rattle.vkg_schema.specs.declared.table.Column.{Column}
 use Rattle.vkg_schema.specs.declared.table.Reference.{Reference}
 use Rattle.vkg_maps.specs.declared.mapping.Mapping.{Mapping}
 use Rattle.vkg_maps.specs.declared.mapping.TriplesMap.{TriplesMap}
-use Rattle.vkg_maps.specs.QuadRules.{quad_rules, map_rules, predicate_object_rules}
+use Rattle.vkg_maps.specs.QuadRules.{map_rules, predicate_object_rules, quad_rules, rule_limit}
 use Rattle.vkg_direct.specs.declared.direct_error.DirectError.{DirectError}
 use Rattle.vkg_direct.specs.declared.direct_error.DirectError.TheVariants.{TooManyRules}
-use Rattle.vkg_direct.specs.DirectMapping.{column_property, reference_property, direct_map, maps_of, direct, rule_limit, rules_of_table, within_limit}
+use Rattle.vkg_direct.specs.DirectMapping.{column_property, reference_property, direct_map, maps_of, direct, rules_of_table, within_limit}
 
 module _ (base : List ℕ) (maps : List TriplesMap) where
   column_rules : (k : ℕ) (table : Table) (n : ℕ) (cs : List Column) → length (flat_map (predicate_object_rules maps (direct_map base (k, table))) (map (column_property base table) (enumerate_from n cs))) ≡ length cs

@@ -23,8 +23,7 @@ use Rattle.vkg_maps.specs.QuadRules.{class_map, parent_of, object_rule, predicat
 use Rattle.vkg_maps.specs.Dataset.{quad_from, quad_of, quads_of_rule}
 use Rattle.vkg_direct.specs.DirectGraph.{table_iri, column_iri, reference_iri, row_node, triple, literal_triple, reference_triples, row_graph}
 use Rattle.vkg_direct.specs.DirectMapping.{column_property, reference_property, direct_map}
-use Rattle.vkg_lists.proofs.Members.{Contains-here, Contains-there, Contains-cons_cases, Contains-from_flat_map, Contains-flat_map, Contains-from_map, Contains-map}
-use Rattle.vkg_direct.proofs.Members.{first, only, from_filter_map, in_filter_map, from_filter}
+use Rattle.vkg_lists.proofs.Members.{Contains-here, Contains-there, Contains-cons_cases, Contains-from_flat_map, Contains-flat_map, Contains-from_map, Contains-map, Contains-filter_map, Contains-first, Contains-only, Contains-from_filter_map, Contains-from_filter}
 
 -- each term map of the table makes what the direct graph has, of this row
 pub record Makes (base : List ℕ) (tables : List Table) (maps : List TriplesMap) (db : Database) (k : ℕ) (table : Table) (row : Row) : Type 0 where
@@ -95,7 +94,7 @@ module _ (base : List ℕ) (tables : List Table) (maps : List TriplesMap) (db : 
   references_of row = flat_map (reference_triples base tables db table row) table.references
 
   in_head : (row : Row) (q : Quad) → head row ≡ q → Contains (row_graph base tables db table row) q
-  in_head row q e = Contains-append_left (head row ∷ literals_of row) (references_of row) q (first (head row) q (literals_of row) e)
+  in_head row q e = Contains-append_left (head row ∷ literals_of row) (references_of row) q (Contains-first (head row) q (literals_of row) e)
 
   in_literals : (row : Row) (q : Quad) → Contains (literals_of row) q → Contains (row_graph base tables db table row) q
   in_literals row q h = Contains-append_left (head row ∷ literals_of row) (references_of row) q (Contains-there (head row) (literals_of row) q h)
@@ -110,24 +109,24 @@ module _ (base : List ℕ) (tables : List Table) (maps : List TriplesMap) (db : 
     class_in : (q : Quad) → Contains (quads_of_rule base db class_rule) q → Contains graph q
     class_in q h =
         let a = Contains-from_flat_map (λ row. filter_map (quad_of base class_rule row) (row ∷ [])) (rows_of db k) q h in
-        let b = from_filter_map (quad_of base class_rule a.0) (a.0 ∷ []) q a.2 in
-        let e : quad_of base class_rule a.0 a.0 ≡ Some q = ap (λ o. quad_of base class_rule a.0 o) (only a.0 b.0 b.1) ∙ b.2 in
+        let b = Contains-from_filter_map (quad_of base class_rule a.0) (a.0 ∷ []) q a.2 in
+        let e : quad_of base class_rule a.0 a.0 ≡ Some q = ap (λ o. quad_of base class_rule a.0 o) (Contains-only a.0 b.0 b.1) ∙ b.2 in
         Contains-flat_map (row_graph base tables db table) (rows_of db k) a.0 q a.1
         (in_head a.0 q (same_Some (head a.0) q (sym (class_quad a.0 (made a.0 a.1)) ∙ e)))
 
     column_in : (c : ℕ × Column) → Contains (enumerate_from 0 table.columns) c → (q : Quad) → Contains (quads_of_rule base db (column_rule c)) q → Contains graph q
     column_in c is q h =
         let a = Contains-from_flat_map (λ row. filter_map (quad_of base (column_rule c) row) (row ∷ [])) (rows_of db k) q h in
-        let b = from_filter_map (quad_of base (column_rule c) a.0) (a.0 ∷ []) q a.2 in
-        let e : quad_of base (column_rule c) a.0 a.0 ≡ Some q = ap (λ o. quad_of base (column_rule c) a.0 o) (only a.0 b.0 b.1) ∙ b.2 in
+        let b = Contains-from_filter_map (quad_of base (column_rule c) a.0) (a.0 ∷ []) q a.2 in
+        let e : quad_of base (column_rule c) a.0 a.0 ≡ Some q = ap (λ o. quad_of base (column_rule c) a.0 o) (Contains-only a.0 b.0 b.1) ∙ b.2 in
         Contains-flat_map (row_graph base tables db table) (rows_of db k) a.0 q a.1
-        (in_literals a.0 q (in_filter_map (literal_triple base table a.0) (enumerate_from 0 table.columns) c q is (sym (column_quad a.0 (made a.0 a.1) c is) ∙ e)))
+        (in_literals a.0 q (Contains-filter_map (literal_triple base table a.0) (enumerate_from 0 table.columns) c q is (sym (column_quad a.0 (made a.0 a.1) c is) ∙ e)))
 
     reference_in : (r : Reference) → Contains table.references r → (q : Quad) → Contains (quads_of_rule base db (reference_rule r)) q → Contains graph q
     reference_in r is q h =
         let a = Contains-from_flat_map (λ row. filter_map (quad_of base (reference_rule r) row) (filter (agree r.pairs row) (rows_of db r.table))) (rows_of db k) q (subst (λ qs. Contains qs q) (reference_rows r (refers r is)) h) in
-        let b = from_filter_map (quad_of base (reference_rule r) a.0) (filter (agree r.pairs a.0) (rows_of db r.table)) q a.2 in
-        let e = same_Some _ q (sym (reference_quad a.0 (made a.0 a.1) r is b.0 (from_filter _ _ b.0 b.1)) ∙ b.2) in
+        let b = Contains-from_filter_map (quad_of base (reference_rule r) a.0) (filter (agree r.pairs a.0) (rows_of db r.table)) q a.2 in
+        let e = same_Some _ q (sym (reference_quad a.0 (made a.0 a.1) r is b.0 (Contains-from_filter _ _ b.0 b.1).0) ∙ b.2) in
         Contains-flat_map (row_graph base tables db table) (rows_of db k) a.0 q a.1
         (in_references a.0 q (Contains-flat_map (reference_triples base tables db table a.0) table.references r q is
         (subst (λ x. Contains (reference_triples base tables db table a.0 r) x) e
@@ -135,7 +134,7 @@ module _ (base : List ℕ) (tables : List Table) (maps : List TriplesMap) (db : 
 
     rule_in : (rule : QuadRule) → Contains (map_rules maps m) rule → (q : Quad) → Contains (quads_of_rule base db rule) q → Contains graph q
     rule_in rule h q c = elim (Contains-append_cases (predicate_object_rules maps m (class_map m)) (flat_map (predicate_object_rules maps m) m.predicate_objects) rule h) [
-      | inl d ↦ class_in q (subst (λ x. Contains (quads_of_rule base db x) q) (sym (only class_rule rule d)) c)
+      | inl d ↦ class_in q (subst (λ x. Contains (quads_of_rule base db x) q) (sym (Contains-only class_rule rule d)) c)
       | inr d ↦ by_property d
     ]
       where
@@ -146,11 +145,11 @@ module _ (base : List ℕ) (tables : List Table) (maps : List TriplesMap) (db : 
               | inl e ↦
                   let b = Contains-from_map (column_property base table) (enumerate_from 0 table.columns) a.0 e in
                   let is : Contains (predicate_object_rules maps m (column_property base table b.0)) rule = subst (λ po. Contains (predicate_object_rules maps m po) rule) (sym b.2) a.2 in
-                  column_in b.0 b.1 q (subst (λ x. Contains (quads_of_rule base db x) q) (sym (only (column_rule b.0) rule is)) c)
+                  column_in b.0 b.1 q (subst (λ x. Contains (quads_of_rule base db x) q) (sym (Contains-only (column_rule b.0) rule is)) c)
               | inr e ↦
                   let b = Contains-from_map (reference_property base table) table.references a.0 e in
                   let is : Contains (predicate_object_rules maps m (reference_property base table b.0)) rule = subst (λ po. Contains (predicate_object_rules maps m po) rule) (sym b.2) a.2 in
-                  reference_in b.0 b.1 q (subst (λ x. Contains (quads_of_rule base db x) q) (sym (only (reference_rule b.0) rule is)) c)
+                  reference_in b.0 b.1 q (subst (λ x. Contains (quads_of_rule base db x) q) (sym (Contains-only (reference_rule b.0) rule is)) c)
             ]
 
     -- each quad of the mapping is in the graph
@@ -159,19 +158,19 @@ module _ (base : List ℕ) (tables : List Table) (maps : List TriplesMap) (db : 
 
     into_class : (row : Row) → Contains (rows_of db k) row → (q : Quad) → head row ≡ q → Contains (quads_of_rule base db class_rule) q
     into_class row is q e = Contains-flat_map (λ row. filter_map (quad_of base class_rule row) (row ∷ [])) (rows_of db k) row q is
-        (in_filter_map (quad_of base class_rule row) (row ∷ []) row q (Contains-here row []) (class_quad row (made row is) ∙ ap Some e))
+        (Contains-filter_map (quad_of base class_rule row) (row ∷ []) row q (Contains-here row []) (class_quad row (made row is) ∙ ap Some e))
 
     into_column : (row : Row) → Contains (rows_of db k) row → (c : ℕ × Column) → Contains (enumerate_from 0 table.columns) c → (q : Quad) → literal_triple base table row c ≡ Some q → Contains (quads_of_rule base db (column_rule c)) q
     into_column row is c c_is q e = Contains-flat_map (λ row. filter_map (quad_of base (column_rule c) row) (row ∷ [])) (rows_of db k) row q is
-        (in_filter_map (quad_of base (column_rule c) row) (row ∷ []) row q (Contains-here row []) (column_quad row (made row is) c c_is ∙ e))
+        (Contains-filter_map (quad_of base (column_rule c) row) (row ∷ []) row q (Contains-here row []) (column_quad row (made row is) c c_is ∙ e))
 
     into_reference : (row : Row) → Contains (rows_of db k) row → (r : Reference) → Contains table.references r → (q : Quad) → Contains (reference_triples base tables db table row r) q → Contains (quads_of_rule base db (reference_rule r)) q
     into_reference row is r r_is q h =
         let b = Contains-from_map (λ other. triple (row_node base table row) (reference_iri base table r) (row_node base (target_of r) other)) (filter (agree r.pairs row) (rows_of db r.table)) q h in
         subst (λ qs. Contains qs q) (sym (reference_rows r (refers r r_is)))
         (Contains-flat_map (λ row. filter_map (quad_of base (reference_rule r) row) (filter (agree r.pairs row) (rows_of db r.table))) (rows_of db k) row q is
-        (in_filter_map (quad_of base (reference_rule r) row) (filter (agree r.pairs row) (rows_of db r.table)) b.0 q b.1
-        (reference_quad row (made row is) r r_is b.0 (from_filter (agree r.pairs row) (rows_of db r.table) b.0 b.1) ∙ ap Some b.2)))
+        (Contains-filter_map (quad_of base (reference_rule r) row) (filter (agree r.pairs row) (rows_of db r.table)) b.0 q b.1
+        (reference_quad row (made row is) r r_is b.0 (Contains-from_filter (agree r.pairs row) (rows_of db r.table) b.0 b.1).0 ∙ ap Some b.2)))
 
     -- the rules by their places in the map
     by_class : (q : Quad) → Contains (quads_of_rule base db class_rule) q → Contains (flat_map (quads_of_rule base db) (map_rules maps m)) q
@@ -193,7 +192,7 @@ module _ (base : List ℕ) (tables : List Table) (maps : List TriplesMap) (db : 
       | inl c ↦ elim (Contains-cons_cases (head row) (literals_of row) q c) [
         | inl e ↦ by_class q (into_class row is q e)
         | inr d ↦
-            let b = from_filter_map (literal_triple base table row) (enumerate_from 0 table.columns) q d in
+            let b = Contains-from_filter_map (literal_triple base table row) (enumerate_from 0 table.columns) q d in
             by_po (column_property base table b.0) (Contains-append_left column_pos reference_pos (column_property base table b.0) (Contains-map (column_property base table) (enumerate_from 0 table.columns) b.0 b.1))
             (column_rule b.0) (Contains-here (column_rule b.0) []) q (into_column row is b.0 b.1 q b.2)
       ]

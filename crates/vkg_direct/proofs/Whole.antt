@@ -15,8 +15,7 @@ use Rattle.vkg_maps.specs.Dataset.{quads, quads_of_rule, quad_eq, dataset}
 use Rattle.vkg_maps.proofs.Quads.{quads_apart}
 use Rattle.vkg_direct.specs.DirectGraph.{row_graph, direct_graph}
 use Rattle.vkg_direct.specs.DirectMapping.{direct_map, direct}
-use Rattle.vkg_lists.proofs.Members.{each_from_recursion, Contains-there, Contains-cons_cases, Contains-none, Contains-from_flat_map, Contains-flat_map, Contains-from_map, Contains-map}
-use Rattle.vkg_direct.proofs.Members.{first}
+use Rattle.vkg_lists.proofs.Members.{each_from_recursion, Contains-there, Contains-cons_cases, Contains-none, Contains-from_flat_map, Contains-flat_map, Contains-from_map, Contains-map, Contains-first}
 use Rattle.vkg_direct.proofs.Tables.{Makes, from_mapping, into_mapping}
 
 -- the map of a table stands at the table's place
@@ -38,7 +37,7 @@ parent_at base ts m j t e =
 pub enumerated : {X : Type 0} (n : ℕ) (xs : List X) (p : ℕ × X) → Contains (enumerate_from n xs) p → Contains xs p.1
 enumerated n [] p h = absurd (Contains-none p h)
 enumerated n (x ∷ xs) p h = elim (Contains-cons_cases (n, x) (enumerate_from (n + 1) xs) p h) [
-  | inl e ↦ first x p.1 xs (ap (λ q. q.1) e)
+  | inl e ↦ Contains-first x p.1 xs (ap (λ q. q.1) e)
   | inr c ↦ Contains-there x xs p.1 (enumerated (n + 1) xs p c)
 ]
 

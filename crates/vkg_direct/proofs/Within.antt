@@ -17,11 +17,11 @@ use Rattle.vkg_maps.specs.declared.mapping.ObjectMap.TheVariants.{Parent}
 use Rattle.vkg_maps.specs.declared.mapping.PredicateObjectMap.{PredicateObjectMap}
 use Rattle.vkg_maps.specs.declared.mapping.TriplesMap.{TriplesMap}
 use Rattle.vkg_maps.specs.declared.mapping.Mapping.{Mapping}
-use Rattle.vkg_maps.specs.QuadRules.{parent_of, quad_rules}
+use Rattle.vkg_maps.specs.QuadRules.{parent_of, quad_rules, rule_limit}
 use Rattle.vkg_direct.specs.declared.direct_error.DirectError.{DirectError}
 use Rattle.vkg_direct.specs.declared.direct_error.DirectError.TheVariants.{TooManyRules}
 use Rattle.vkg_direct.specs.DirectGraph.{primary_key}
-use Rattle.vkg_direct.specs.DirectMapping.{column_property, direct, direct_map, has_primary_key, key_pieces, maps_of, node_pieces, properties_of, reference_property, rule_limit, unless_keyless, within_limit}
+use Rattle.vkg_direct.specs.DirectMapping.{column_property, direct, direct_map, has_primary_key, key_pieces, maps_of, node_pieces, properties_of, reference_property, unless_keyless, within_limit}
 use Rattle.vkg_maps.specs.Within.{kinds_at, AreConditions, IsCondition, IsMapWithin, IsObjectWithin, IsPairWithin, IsWithin, piece_columns}
 use Rattle.vkg_direct.specs.Within.{DirectIsWithin}
 use Rattle.vkg_maps.proofs.Members.{in_list}
@@ -35,7 +35,7 @@ numbered_at n (x ∷ xs) p h = elim (Contains-cons_cases (n, x) (enumerate_from 
   | inr c ↦ let r = numbered_at (n + 1) xs p c in let i : p.0 ≡ (n + 1) + r.0 = r.1 in (suc r.0, omega (arith, i), r.2)
 ]
 
-place_of : {A : Type 0} (xs : List A) (p : ℕ × A) → Contains (enumerate_from 0 xs) p → slice_get xs p.0 ≡ Some p.1
+pub place_of : {A : Type 0} (xs : List A) (p : ℕ × A) → Contains (enumerate_from 0 xs) p → slice_get xs p.0 ≡ Some p.1
 place_of xs p h = let r = numbered_at 0 xs p h in let i : p.0 ≡ r.0 = let j : p.0 ≡ 0 + r.0 = r.1 in omega (arith, j) in ap (slice_get xs) i ∙ r.2
 
 element_of : {A : Type 0} (n : ℕ) (xs : List A) (k : ℕ) (x : A) → slice_get xs k ≡ Some x → slice_get (enumerate_from n xs) k ≡ Some (n + k, x)

@@ -16,7 +16,7 @@ use Rattle.vkg_maps.specs.declared.term_map.TermMap.TheVariants as from
 use Rattle.vkg_maps.specs.declared.term_map.Piece.{Piece}
 use Rattle.vkg_maps.specs.declared.term_map.Piece.TheVariants.{Fixed, Column as Hole}
 use Rattle.vkg_maps.specs.declared.term_map.TermType.TheVariants as sort
-use Rattle.vkg_maps.specs.QuadRules.{quad_rules}
+use Rattle.vkg_maps.specs.QuadRules.{quad_rules, rule_limit}
 use Rattle.vkg_direct.specs.declared.direct_error.DirectError.{DirectError}
 use Rattle.vkg_direct.specs.declared.direct_error.DirectError.TheVariants.{NoPrimaryKey, TooManyRules}
 use Rattle.vkg_direct.specs.DirectGraph.{primary_key, column_name, table_iri, column_iri, reference_iri}
@@ -59,10 +59,6 @@ direct tables base = record { base = base; maps = maps_of base tables }
 
 abbrev pub has_primary_key : Table → Bool
 has_primary_key table = list_any (λ key. key.primary) table.keys
-
--- own: a mapping has at most so many quad rules
-abbrev pub rule_limit : ℕ
-rule_limit = 4096
 
 -- one for its class, one for each column and one for each foreign key
 abbrev pub rules_of_table : Table → ℕ

@@ -1,7 +1,8 @@
 // Whether the direct mapping has more quad rules than a mapping may have.
 ghost use Rattle.std.specs.Prelude.{◌≡◌, ◌≤◌, ◌-◌, nat_lt, sum_by};
 ghost use Rattle.std.specs.Option.{SomeIff};
-ghost use Rattle.vkg_direct.specs.DirectMapping.{rule_limit, rules_of_table};
+ghost use Rattle.vkg_maps.specs.QuadRules.{rule_limit};
+ghost use Rattle.vkg_direct.specs.DirectMapping.{rules_of_table};
 
 use vkg_schema::Table;
 

@@ -1,5 +1,6 @@
 -- Kinds of lists of expressions, from their first.
-use Rattle.std.proofs.Common.{◌≡◌, Bool, true, false, ◌&&◌, List, [], ◌∷◌, ◌++◌, refl, ap, append_assoc, map, length, suc}
+use Rattle.std.proofs.Common.{◌≡◌, true, ◌&&◌, List, [], ◌∷◌, ◌++◌, refl, ap, append_assoc, map, length, suc}
+use Rattle.std.proofs.Math.Bool.{and-false}
 use Rattle.std.specs.Prelude.{Option, Some, None}
 use Rattle.vkg_cells.specs.declared.cell.SqlType.{SqlType}
 use Rattle.vkg_cells.specs.declared.cell.SqlType.TheVariants as kind
@@ -8,13 +9,9 @@ use Rattle.vkg_expr.specs.Seen.{expr_seen}
 use Rattle.vkg_expr.specs.Expr.{each, exprs}
 use Rattle.vkg_expr.specs.Typing.{are_all, common, giving, is_one, same_kind, with_kind}
 
-pub and_false : (b : Bool) → (b && false) ≡ false
-and_false true = refl
-and_false false = refl
-
 pub are_all-more : (k : SqlType) (a : Option SqlType) (o : Option (List SqlType)) → are_all k (with_kind a o) ≡ (is_one k a && are_all k o)
 are_all-more k None o = refl
-are_all-more k (Some l) None = rw and_false
+are_all-more k (Some l) None = rw and-false
 are_all-more k (Some l) (Some ls) = refl
 
 pub itself : (k : SqlType) → same_kind k k ≡ true

@@ -1,5 +1,5 @@
 -- The parts of an expression that is typed on a row are typed on it, and their values are what its step asks for.
-use Rattle.std.proofs.Common.{arith, ◌≡◌, ℕ, zero, suc, ◌<◌, ◌≤◌, true, ◌∙◌, List, [], ◌∷◌, get_or, length, map, refl, sym, ap, subst}
+use Rattle.std.proofs.Common.{arith, ◌≡◌, ℕ, zero, suc, ◌<◌, ◌≤◌, true, ◌∙◌, List, [], ◌∷◌, ◌++◌, get_or, length, map, refl, sym, ap, subst}
 use Rattle.std.specs.Prelude.{All, Option, Some, None, Result, Ok, Err, IfOk, option_map, slice_get, ◌==◌}
 use Rattle.std.specs.List.{AllByRecursion, list_all}
 use Rattle.std.proofs.lemmas.Bool.{eqb-true}
@@ -26,22 +26,25 @@ use Rattle.vkg_expr.proofs.ValueFits.{along, common_given, given-is, kind_same, 
 use Rattle.vkg_expr.proofs.Weights.{item-weighs, weight, weight_of, weight_of_each}
 use Rattle.vkg_lists.proofs.Bools.{and_parts}
 
-abbrev Kinds : Type 0
-Kinds = List SqlType
-
 abbrev Got : {E : Type 0} → Result Cell E → Expr → Row → Type 0
 Got r e row = IfOk r (λ c. c ≡ value_of e row)
 
 abbrev GotEach : {E : Type 0} → Result (List Cell) E → Exprs → Row → Type 0
 GotEach r es row = IfOk r (λ cs. cs ≡ values_of es row)
 
-pub fits_row : (ks : Kinds) (row : Row) → HasKinds ks row → FitsRow ks row
+pub fits_row : (ks : List SqlType) (row : Row) → HasKinds ks row → FitsRow ks row
 fits_row [] row h at k e = cc
 fits_row (l ∷ ks) [] h at k e = absurd h
 fits_row (l ∷ ks) (c ∷ cs) h zero k e = subst (λ m. Fits m c) (same_Some l k e) h.0
 fits_row (l ∷ ks) (c ∷ cs) h (suc at) k e = fits_row ks cs h.1 at k e
 
-within : (ks : Kinds) (row : Row) (at : ℕ) (k : SqlType) → HasKinds ks row → slice_get ks at ≡ Some k → at < length row
+pub kinds-append : (ks ls : List SqlType) (cs ds : Row) → HasKinds ks cs → HasKinds ls ds → HasKinds (ks ++ ls) (cs ++ ds)
+kinds-append [] ls [] ds h k = k
+kinds-append [] ls (c ∷ cs) ds h k = absurd h
+kinds-append (x ∷ ks) ls [] ds h k = absurd h
+kinds-append (x ∷ ks) ls (c ∷ cs) ds h k = (h.0, kinds-append ks ls cs ds h.1 k)
+
+within : (ks : List SqlType) (row : Row) (at : ℕ) (k : SqlType) → HasKinds ks row → slice_get ks at ≡ Some k → at < length row
 within [] row at k h e = cc
 within (l ∷ ks) [] at k h e = absurd h
 within (l ∷ ks) (c ∷ cs) zero k h e = omega arith
@@ -72,7 +75,7 @@ equality_given (Some k) (Some m) l e = ((k, refl), (m, refl))
 equality_given (Some k) None l e = cc
 equality_given None b l e = cc
 
-pub typed_by : (ks : Kinds) (k : SqlType) (e : Expr) (row : Row) → HasKinds ks row → kind_of e ks ≡ Some k → IsTyped e row
+pub typed_by : (ks : List SqlType) (k : SqlType) (e : Expr) (row : Row) → HasKinds ks row → kind_of e ks ≡ Some k → IsTyped e row
 typed_by ks k e row h t = record { kinds = ks; own = k; of_row = h; of_expr = t }
 
 typed-MakeIri : (e : Expr) (row : Row) → IsTyped (MakeIri e) row → IsTyped e row
@@ -112,7 +115,7 @@ if_got : {E : Type 0} (P : Cell → Type 0) (r : Result Cell E) (e : Expr) (row 
 if_got P (Ok c) e row p h = subst P (sym h) p
 if_got P (Err x) e row p h = tt
 
-if_fits : {E : Type 0} (m k l : SqlType) (r : Result Cell E) (e : Expr) (ks : Kinds) (row : Row) → HasKinds ks row → giving k (is_one m (kind_of e ks)) ≡ Some l → Got r e row → IfOk r (Fits m)
+if_fits : {E : Type 0} (m k l : SqlType) (r : Result Cell E) (e : Expr) (ks : List SqlType) (row : Row) → HasKinds ks row → giving k (is_one m (kind_of e ks)) ≡ Some l → Got r e row → IfOk r (Fits m)
 if_fits m k l r e ks row h t g = if_got (Fits m) r e row (value-fits e ks m row (fits_row ks row h) (one_given m k l (kind_of e ks) t)) g
 
 takes-MakeIri : {E : Type 0} (r : Result Cell E) (e : Expr) (row : Row) → IsTyped (MakeIri e) row → Got r e row → IfOk r (TakesOne (MakeIri e))
@@ -146,7 +149,7 @@ takes-Ebv r e row t g = if_fits kind.Term kind.Bool t.own r e t.kinds row t.of_r
 
 -- of a list of parts
 
-all_is : (k : SqlType) (o : Option Kinds) → are_all k o ≡ true → (ls : Kinds) × (o ≡ Some ls) × (list_all (same_kind k) ls ≡ true)
+all_is : (k : SqlType) (o : Option (List SqlType)) → are_all k o ≡ true → (ls : List SqlType) × (o ≡ Some ls) × (list_all (same_kind k) ls ≡ true)
 all_is k None e = cc
 all_is k (Some ls) e = (ls, refl, e)
 
@@ -154,19 +157,19 @@ all_is k (Some ls) e = (ls, refl, e)
 abbrev pub AreTyped : List ExprValue → Row → Type 0
 AreTyped xs row = All (λ x. IsTyped (expr_seen x) row) xs
 
-each_typed : (xs : List ExprValue) (ks ls : Kinds) (row : Row) → HasKinds ks row → kinds_of (exprs (map expr_seen xs)) ks ≡ Some ls → AllByRecursion (λ x. IsTyped (expr_seen x) row) xs
+each_typed : (xs : List ExprValue) (ks ls : List SqlType) (row : Row) → HasKinds ks row → kinds_of (exprs (map expr_seen xs)) ks ≡ Some ls → AllByRecursion (λ x. IsTyped (expr_seen x) row) xs
 each_typed [] ks ls row h t = tt
 each_typed (x ∷ xs) ks ls row h t =
     let m = more_given (kind_of (expr_seen x) ks) (kinds_of (exprs (map expr_seen xs)) ks) ls t in
     (typed_by ks m.0 (expr_seen x) row h m.1, each_typed xs ks m.2.0 row h m.2.1)
 
-pub are_typed : (xs : List ExprValue) (ks ls : Kinds) (row : Row) → HasKinds ks row → kinds_of (exprs (map expr_seen xs)) ks ≡ Some ls → AreTyped xs row
+pub are_typed : (xs : List ExprValue) (ks ls : List SqlType) (row : Row) → HasKinds ks row → kinds_of (exprs (map expr_seen xs)) ks ≡ Some ls → AreTyped xs row
 are_typed xs ks ls row h t = All-from_recursion (λ x. IsTyped (expr_seen x) row) xs (each_typed xs ks ls row h t)
 
-all_typed : (m : SqlType) (xs : List ExprValue) (ks : Kinds) (row : Row) → HasKinds ks row → are_all m (kinds_of (exprs (map expr_seen xs)) ks) ≡ true → AreTyped xs row
+all_typed : (m : SqlType) (xs : List ExprValue) (ks : List SqlType) (row : Row) → HasKinds ks row → are_all m (kinds_of (exprs (map expr_seen xs)) ks) ≡ true → AreTyped xs row
 all_typed m xs ks row h t = let a = all_is m (kinds_of (exprs (map expr_seen xs)) ks) t in are_typed xs ks a.0 row h a.1
 
-each_fit : (m : SqlType) (ls : Kinds) (cs : List Cell) → list_all (same_kind m) ls ≡ true → HasKinds ls cs → AllByRecursion (Fits m) cs
+each_fit : (m : SqlType) (ls : List SqlType) (cs : List Cell) → list_all (same_kind m) ls ≡ true → HasKinds ls cs → AllByRecursion (Fits m) cs
 each_fit m [] [] a h = tt
 each_fit m [] (c ∷ cs) a h = absurd h
 each_fit m (l ∷ ls) [] a h = absurd h
@@ -174,7 +177,7 @@ each_fit m (l ∷ ls) (c ∷ cs) a h =
     let b = and_parts (same_kind m l) (list_all (same_kind m) ls) a in
     (along l m c (sym (kind_same m l b.0)) h.0, each_fit m ls cs b.1 h.1)
 
-all_fit : (m : SqlType) (es : Exprs) (ks : Kinds) (row : Row) → HasKinds ks row → are_all m (kinds_of es ks) ≡ true → AllFit m (values_of es row)
+all_fit : (m : SqlType) (es : Exprs) (ks : List SqlType) (row : Row) → HasKinds ks row → are_all m (kinds_of es ks) ≡ true → AllFit m (values_of es row)
 all_fit m es ks row h t =
     let a = all_is m (kinds_of es ks) t in
     All-from_recursion (Fits m) (values_of es row) (each_fit m a.0 (values_of es row) a.2 (values-fit es ks a.0 row (fits_row ks row h) a.1))
@@ -188,10 +191,10 @@ length-values Nil row = refl
 length-values (More e es) row = ap suc (length-values es row)
 
 -- what is asked of the kinds
-concat_asks : (es : Exprs) (ks : Kinds) (l : SqlType) → kind_of (Concat es) ks ≡ Some l → are_all kind.Text (kinds_of es ks) ≡ true
+concat_asks : (es : Exprs) (ks : List SqlType) (l : SqlType) → kind_of (Concat es) ks ≡ Some l → are_all kind.Text (kinds_of es ks) ≡ true
 concat_asks es ks l t = (and_parts (no_column es) (are_all kind.Text (kinds_of es ks)) (given-is kind.Text l _ t).0).1
 
-sparql_asks : (op : Operator) (es : Exprs) (ks : Kinds) (l : SqlType) → kind_of (Sparql op es) ks ≡ Some l → ((length (each es) == arity op) ≡ true) × (are_all kind.Term (kinds_of es ks) ≡ true)
+sparql_asks : (op : Operator) (es : Exprs) (ks : List SqlType) (l : SqlType) → kind_of (Sparql op es) ks ≡ Some l → ((length (each es) == arity op) ≡ true) × (are_all kind.Term (kinds_of es ks) ≡ true)
 sparql_asks op es ks l t = and_parts (length (each es) == arity op) (are_all kind.Term (kinds_of es ks)) (given-is (result_kind op) l _ t).0
 
 typed-Concat : (xs : List ExprValue) (row : Row) → IsTyped (Concat (exprs (map expr_seen xs))) row → AreTyped xs row

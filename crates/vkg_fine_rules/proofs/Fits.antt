@@ -1,42 +1,27 @@
 -- The cells of a rule's rows are of the kinds of its holes.
-use Rattle.std.proofs.Common.{◌≡◌, ℕ, zero, suc, ◌<◌, inl, inr, List, [], ◌∷◌, ◌++◌, map, length, refl, sym, subst, arith}
-use Rattle.std.specs.Prelude.{◌≢◌, Contains, flat_map}
+use Rattle.std.proofs.Common.{◌≡◌, ℕ, zero, suc, ◌<◌, List, [], ◌∷◌, ◌++◌, map, length, sym, subst, arith}
+use Rattle.std.specs.Prelude.{Contains, flat_map}
 use Rattle.std.specs.List.{AllByRecursion, AllZip}
 use Rattle.vkg_lists.proofs.Members.{Contains-none, each_from_recursion}
-use Rattle.vkg_cells.specs.declared.cell.Cell.{Cell}
 use Rattle.vkg_cells.specs.declared.cell.SqlType.{SqlType}
-use Rattle.vkg_cells.specs.declared.cell.SqlType.TheVariants as kind
-use Rattle.vkg_cells.specs.Form.{IsOfKind}
 use Rattle.vkg_schema.specs.declared.table.Column.{Column}
 use Rattle.vkg_schema.specs.Meets.{Below, FitsColumn, IsColumn, IsTable, MeetsSchema, TableMeets}
 use Rattle.vkg_schema.specs.Rows.{Database, Row, cell_at, rows_of}
+use Rattle.vkg_schema.proofs.RowCells.{cell_at-left}
 use Rattle.vkg_maps.specs.declared.term_map.Piece.{Piece as TemplatePiece}
 use Rattle.vkg_maps.specs.declared.term_map.Piece.TheVariants as piece
 use Rattle.vkg_maps.specs.declared.term_map.TermMap.{TermMap}
 use Rattle.vkg_maps.specs.declared.term_map.TermMap.TheVariants as from
 use Rattle.vkg_maps.specs.declared.term_map.TermType.TheVariants as sort
 use Rattle.vkg_match.specs.Laws.{FitsHole, FitsHoles, FitsPiece}
+use Rattle.vkg_match.proofs.Fits.{fits_column}
 use Rattle.vkg_plan.specs.Kinds.{Tables}
 use Rattle.vkg_row_rules.specs.RowTerms.{kind_at, piece_of, row_term}
 use Rattle.vkg_maps.specs.Within.{IsOver, piece_columns, kinds_at}
-use Rattle.vkg_row_rules.proofs.PairedRows.{cell_before}
 
 -- each cell is of its column's kind
 abbrev pub FitsKinds : List SqlType → Row → Type 0
 FitsKinds ks row = (at : ℕ) → at < length ks → FitsHole (kind_at ks at) (cell_at row at)
-
-fits_kind : (k : SqlType) (c : Cell) → k ≢ kind.Term → IsOfKind k c → FitsHole k c
-fits_kind kind.Text c n h = inr h
-fits_kind kind.Int c n h = inr h
-fits_kind kind.Dec c n h = inr h
-fits_kind kind.Bool c n h = inr h
-fits_kind kind.Date c n h = inr h
-fits_kind kind.Stamp c n h = inr h
-fits_kind kind.Bin c n h = inr h
-fits_kind kind.Term c n h = absurd (n refl)
-
-fits_column : (column : Column) (c : Cell) → IsColumn column → FitsColumn column c → FitsHole column.kind c
-fits_column column c i h = elim h.kind [ inl e ↦ inl e | inr o ↦ fits_kind column.kind c i.kind o ]
 
 fits_columns : (columns : List Column) (row : Row) → AllByRecursion IsColumn columns → AllZip FitsColumn columns row → FitsKinds (map (λ (c : Column). c.kind) columns) row
 fits_columns [] row i h at l = absurd (let n : at < 0 = l in omega (arith, n))
@@ -58,7 +43,7 @@ fits_rows schema db w h table row c = fits_table schema schema db db w h table r
 
 module _ (ks : List SqlType) (r s : Row) (width : length ks ≡ length r) (fits : FitsKinds ks r) where
   fits_before : (c : ℕ) → c < length ks → FitsHole (kind_at ks c) (cell_at (r ++ s) c)
-  fits_before c l = subst (FitsHole (kind_at ks c)) (sym (cell_before r s c (subst (λ n. c < n) width l))) (fits c l)
+  fits_before c l = subst (FitsHole (kind_at ks c)) (sym (cell_at-left r s c (subst (λ n. c < n) width l))) (fits c l)
 
   fits_pieces : (ps : List TemplatePiece) → Below (length ks) (flat_map piece_columns ps) → AllByRecursion (FitsPiece (r ++ s)) (map (piece_of ks) ps)
   fits_pieces [] h = tt

@@ -1,10 +1,11 @@
 -- A text with a derivation, few brackets and without a failing check has no fault, and is one query.
-use Rattle.std.proofs.Common.{◌≡◌, ◌∙◌, ◌+◌, ◌<◌, ◌≤◌, ℕ, zero, suc, Bool, true, false, List, [], ◌∷◌, None, Ok, inl, inr, sym, ap, subst, take, length, arith, append-nil}
+use Rattle.std.proofs.Common.{◌≡◌, ◌∙◌, ◌+◌, ◌<◌, ◌≤◌, ℕ, zero, suc, Bool, true, List, [], ◌∷◌, None, Ok, inl, inr, sym, ap, subst, take, length, arith, append-nil, true≢false}
 use Rattle.std.specs.Prelude.{IsUtf8}
 use Rattle.std.specs.List.{list_all, range_with_len}
 use Rattle.std.proofs.lemmas.Bool.{cases_order}
 use Rattle.std.proofs.lemmas.Option.{none-some}
 use Rattle.vkg_lists.proofs.Bools.{and_parts}
+use Rattle.vkg_lists.proofs.Results.{ok_err, ok_same}
 use Rattle.vkg_grammar.specs.declared.note.Note.{Note}
 use Rattle.vkg_grammar.specs.declared.rule.Rule.{Rule}
 use Rattle.vkg_grammar.specs.Decoding.{acts_of, decoded, steps_of}
@@ -21,7 +22,7 @@ use Rattle.vkg_sparql.specs.declared.grammar_table.TheConstants.{SPARQL}
 use Rattle.vkg_sparql.specs.declared.fault.QueryFault.{QueryFault}
 use Rattle.vkg_sparql.specs.declared.query.Query.{Query}
 use Rattle.vkg_sparql.specs.Reading.{IsFaultOf, IsQueryText, Read, Says, checked, cut_off, dead, fault_of, no_token, no_utf8, query_of, read, sparql, sparql_tokens, too_deep}
-use Rattle.vkg_company.proofs.SchemaTexts.{front_alive, ok_no_err, ok_same}
+use Rattle.vkg_company.proofs.SchemaTexts.{front_alive}
 
 one_item : {A : Type 0} (x y : A) → x ∷ [] ≡ y ∷ [] → x ≡ y
 one_item x y e = cc e
@@ -47,9 +48,6 @@ at_each p a (suc m) k e low high =
 pub shallow : (g : Form) (ks : List ℕ) → list_all (λ n. allows g.limit (depth g (take (n + 1) ks))) (range_with_len 0 (length ks)) ≡ true → IsShallow g ks
 shallow g ks e n h = at_each (λ m. allows g.limit (depth g (take (m + 1) ks))) 0 (length ks) n e (omega arith) (omega (arith, h))
 
-not_both : (b : Bool) → b ≡ true → b ≡ false → ⊥
-not_both b e f = cc (sym e ∙ f)
-
 module _ (text base : List ℕ) (utf8 : IsUtf8 text) (tokens : List Token) (cut : sparql_tokens text ≡ Ok tokens) (few : IsShallow sparql (kinds_of tokens))
     (ws : List Note) (derived : Derives SPARQL (0 ∷ []) (kinds_of tokens) ws) (tree : Tree) (is : IsTreeOf SPARQL (kinds_of tokens) tree) where
   same_tokens : (ts : List Token) → sparql_tokens text ≡ Ok ts → ts ≡ tokens
@@ -63,10 +61,10 @@ module _ (text base : List ℕ) (utf8 : IsUtf8 text) (tokens : List Token) (cut 
 
   pub no_query_fault : fault_of (read text tokens base tree) ≡ None → (f : QueryFault) → IsFaultOf text base f → ⊥
   no_query_fault fine f (no_utf8 h e) = h utf8
-  no_query_fault fine f (no_token u e) = ok_no_err tokens _ (sym cut ∙ e)
+  no_query_fault fine f (no_token u e) = ok_err tokens _ (sym cut ∙ e)
   no_query_fault fine f (too_deep u d) =
       let here = subst (λ ts. IsShallow sparql (kinds_of ts)) (sym (same_tokens d.tokens d.cut)) few in
-      not_both _ (here d.bracket d.deep.inside) d.deep.deep
+      true≢false (sym (here d.bracket d.deep.inside) ∙ d.deep.deep)
   no_query_fault fine f (dead u d) =
       let here = subst (λ ts. Derives SPARQL (0 ∷ []) (kinds_of ts) ws) (sym (same_tokens d.tokens d.cut)) derived in
       d.dead.dead (front_alive SPARQL (kinds_of d.tokens) ws here (d.token + 1))

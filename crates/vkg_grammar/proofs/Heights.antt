@@ -1,5 +1,6 @@
 -- What the table says, and why the parser ends.
 use Rattle.std.proofs.Common.{◌≡◌, ℕ, zero, suc, ◌+◌, ◌*◌, ◌<◌, ◌≤◌, ◌⊎◌, inl, inr, List, [], ◌∷◌, ◌++◌, length, get_or, Option, Some, None, refl, ap, sym, subst, append-nil, arith}
+use Rattle.std.proofs.Math.Nat.{eq-zero-or-pos}
 use Rattle.vkg_grammar.specs.declared.note.Note.{Note}
 use Rattle.vkg_grammar.specs.declared.note.Act.TheVariants.{Leaf}
 use Rattle.vkg_grammar.specs.declared.rule.Rule.{Rule}
@@ -57,10 +58,6 @@ pub short_way : {g : List Rule} {n : ℕ} {xs : List ℕ} → IsWay g n xs → S
 short_way {g = g} {n = n} (the_parts e) = short_of_parts (subst ShortShape e (short_rule n (get_or g n (Token 0))))
 short_way {g = g} {n = n} (the_first e) = short_of_first (subst ShortShape e (short_rule n (get_or g n (Token 0))))
 short_way {g = g} {n = n} (the_second e) = short_of_second (subst ShortShape e (short_rule n (get_or g n (Token 0))))
-
-zero_or_pos : (r : ℕ) → (r ≡ 0) ⊎ (0 < r)
-zero_or_pos zero = inl refl
-zero_or_pos (suc r) = inr (omega arith)
 
 module _ (g : List Rule) (rank : ℕ → Option ℕ → ℕ) where
   -- what the table finds is so
@@ -184,7 +181,7 @@ module _ (g : List Rule) (rank : ℕ → Option ℕ → ℕ) where
   quiet_of k [] f never = tt
   quiet_of k (x ∷ xs) f never =
       let p : (0 < rank x None) × (rank x None < _) × Falls rank _ None xs = later_of f in (
-        elim (zero_or_pos (rank x (Some k))) [ inl z ↦ z | inr h ↦ absurd (never (inl (k, refl, h))) ],
+        elim (eq-zero-or-pos (rank x (Some k))) [ inl z ↦ z | inr h ↦ absurd (never (inl (k, refl, h))) ],
         quiet_of k xs p.2 (λ b. never (inr (p.0, b))),
       )
 
@@ -202,7 +199,7 @@ module _ (g : List Rule) (rank : ℕ → Option ℕ → ℕ) where
   no_clash {n = n} {k = k} xs w ll t h way x y e p q =
       let way' : IsWay g n (x ∷ y ∷ []) = subst (λ z. IsWay g n z) e way in
       let b : AllBelow (length g) (x ∷ y ∷ []) = w.closed n (x ∷ y ∷ []) h way' in
-      elim (zero_or_pos (rank x (Some k))) [ inl z ↦ z | inr pos ↦ absurd (one_or_follows w ll b.0 (ahead_empty (sound w ll.productive t b.0 p)) (within n [] (y ∷ []) way' (ahead_begin (sound w ll.productive t b.1.0 q))) (ahead_begin (sound w ll.productive t b.0 pos))) ]
+      elim (eq-zero-or-pos (rank x (Some k))) [ inl z ↦ z | inr pos ↦ absurd (one_or_follows w ll b.0 (ahead_empty (sound w ll.productive t b.0 p)) (within n [] (y ∷ []) way' (ahead_begin (sound w ll.productive t b.1.0 q))) (ahead_begin (sound w ll.productive t b.0 pos))) ]
 
   nearer_drop : {n : ℕ} {xs : List ℕ} {c : Option ℕ} (s : List ℕ) → IsGrammar g → IsLL1 g → IsTable g rank → n < length g → IsWay g n xs → Nearer n xs c → height rank c (xs ++ s) < height rank c (n ∷ s)
   nearer_drop {n = n} {xs = xs} {c = c} s w ll t h way (by_kind f pos) = by_column c f pos
@@ -218,7 +215,7 @@ module _ (g : List Rule) (rank : ℕ → Option ℕ → ℕ) where
 
   -- what the test before a step says: by the table, n begins with c or may be empty
   parts_nearer : {n : ℕ} {xs : List ℕ} (c : Option ℕ) → IsTable g rank → n < length g → shape_of g n ≡ Parts xs → (0 < rank n c) ⊎ (0 < rank n None) → Nearer n xs c
-  parts_nearer {n = n} {xs = xs} c t h e d = by_test c (zero_or_pos (rank n c)) d
+  parts_nearer {n = n} {xs = xs} c t h e d = by_test c (eq-zero-or-pos (rank n c)) d
     where
       at : (c : Option ℕ) → 0 < rank n c → Falls rank (rank n c) c xs
       at c pos = let f : ShapeFalls rank (rank n c) c (Parts xs) = subst (λ y. ShapeFalls rank (rank n c) c y) e (t.falls n c h pos) in f
@@ -238,7 +235,7 @@ module _ (g : List Rule) (rank : ℕ → Option ℕ → ℕ) where
   not_both {c = Some k} a p q = a.begins k (inl (ahead_begin p)) (inl (ahead_begin q))
 
   choice_nearer : {n : ℕ} {xs ys : List ℕ} {c : Option ℕ} → IsGrammar g → IsLL1 g → IsTable g rank → Apart g n xs ys → AllBelow (length g) xs → AllBelow (length g) ys → Picked g xs ys c → ((c : Option ℕ) → 0 < rank n c → Falls rank (rank n c) c xs ⊎ Falls rank (rank n c) c ys) → ((c : Option ℕ) → Begins rank c xs → 0 < rank n c) → (0 < rank n c) ⊎ (0 < rank n None) → Nearer n xs c
-  choice_nearer {n = n} {xs = xs} {ys = ys} {c = c} w ll t a bx b p falls up d = by_test (zero_or_pos (rank n c)) p d
+  choice_nearer {n = n} {xs = xs} {ys = ys} {c = c} w ll t a bx b p falls up d = by_test (eq-zero-or-pos (rank n c)) p d
     where
       by_test : {c : Option ℕ} → (rank n c ≡ 0) ⊎ (0 < rank n c) → Picked g xs ys c → (0 < rank n c) ⊎ (0 < rank n None) → Nearer n xs c
       by_test {c = c} (inr pos) (begins h) d = elim (falls c pos) [ inl f ↦ by_kind f pos | inr f ↦ absurd (not_both a h (ahead_begins ys w ll.productive t b (falls_begins f))) ]

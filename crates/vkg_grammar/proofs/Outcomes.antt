@@ -1,5 +1,5 @@
 -- A list of tokens has one outcome.
-use Rattle.std.proofs.Common.{◌≡◌, ℕ, ◌+◌, ◌<◌, Bool, true, false, inl, inr, List, [], ◌∷◌, Result, Ok, Err, take, drop, refl, ap, sym, ◌∙◌, subst, arith, take-append-drop}
+use Rattle.std.proofs.Common.{◌≡◌, ℕ, ◌+◌, ◌<◌, inl, inr, List, [], ◌∷◌, Result, Ok, Err, take, drop, refl, ap, sym, ◌∙◌, subst, arith, take-append-drop, true≢false}
 use Rattle.std.proofs.lemmas.Bool.{cases_lt}
 use Rattle.vkg_grammar.specs.declared.note.Note.{Note}
 use Rattle.vkg_grammar.specs.declared.parsing.ParseFault.{ParseFault}
@@ -29,14 +29,11 @@ not_tokens e f = cc
 least : (m n : ℕ) → (m < n → ⊥) → (n < m → ⊥) → m ≡ n
 least m n p q = elim (cases_lt m n) [ inl l ↦ absurd (p l) | inr g ↦ (elim (cases_lt n m) [ inl l ↦ absurd (q l) | inr h ↦ omega arith ]) ]
 
-clash : {b : Bool} → b ≡ true → b ≡ false → ⊥
-clash p q = let e : true ≡ false = sym p ∙ q in cc
-
 pub not_deep : (g : Form) (ks : List ℕ) (n : ℕ) → IsShallow g ks → IsTooDeep g ks n → ⊥
-not_deep g ks n s t = clash (s n t.inside) t.deep
+not_deep g ks n s t = true≢false (sym (s n t.inside) ∙ t.deep)
 
 pub one_deep : (g : Form) (ks : List ℕ) (m n : ℕ) → IsTooDeep g ks m → IsTooDeep g ks n → m ≡ n
-one_deep g ks m n a b = least m n (λ l. clash (b.before m l) a.deep) (λ l. clash (a.before n l) b.deep)
+one_deep g ks m n a b = least m n (λ l. true≢false (sym (b.before m l) ∙ a.deep)) (λ l. true≢false (sym (a.before n l) ∙ b.deep))
 
 -- what begins a text is not dead
 alive_part : (g : List Rule) (ts : List ℕ) (n : ℕ) → IsAlive g ts → IsAlive g (take (n + 1) ts)

@@ -1,5 +1,6 @@
 -- `least_of` gives the least place.
 use Rattle.std.proofs.Common.{◌≡◌, ℕ, zero, suc, ◌<◌, ◌≤◌, ◌⊎◌, inl, inr, ⊎_elim, List, [], ◌∷◌, Option, Some, None, min, refl, sym, ap, subst, ◌∙◌, arith}
+use Rattle.std.proofs.lemmas.Option.{none-some, same_Some}
 use Rattle.std.specs.Prelude.{fold}
 use Rattle.std.specs.List.{Contains}
 use Rattle.vkg_lists.specs.Places.{lesser, least_of, IsLeastPlace}
@@ -40,21 +41,15 @@ module _ {A : Type 0} (place : A → Option ℕ) where
     item = l.item;
     among = Contains-there y xs l.item l.among;
     here = l.here;
-    least = λ x b c h. ⊎_elim (λ i. absurd (differ b (sym is ∙ ap place i ∙ h))) (λ d. l.least x b d h) (Contains-cons_cases y xs x c);
+    least = λ x b c h. ⊎_elim (λ i. absurd (none-some b (sym is ∙ ap place i ∙ h))) (λ d. l.least x b d h) (Contains-cons_cases y xs x c);
   }
-    where
-      differ : (b : ℕ) → ◌≡◌ {A = Option ℕ} None (Some b) → ⊥
-      differ b e = cc
   least_by y xs (Some a) None is none later at e = record {
     item = y;
     among = Contains-here y xs;
     here = is ∙ e;
-    least = λ x b c h. ⊎_elim (λ i. below b (sym e ∙ sym is ∙ ap place i ∙ h)) (λ d. absurd (differ b (sym (least_of-none xs none x d) ∙ h))) (Contains-cons_cases y xs x c);
+    least = λ x b c h. ⊎_elim (λ i. below b (sym e ∙ sym is ∙ ap place i ∙ h)) (λ d. absurd (none-some b (sym (least_of-none xs none x d) ∙ h))) (Contains-cons_cases y xs x c);
   }
     where
-      differ : (b : ℕ) → ◌≡◌ {A = Option ℕ} None (Some b) → ⊥
-      differ b e = cc
-
       below : (b : ℕ) → ◌≡◌ {A = Option ℕ} (Some at) (Some b) → at ≤ b
       below b k = let same : at ≡ b = cc in omega (arith, same)
   least_by y xs (Some a) (Some b) is rest later at e = let l = later b refl in let is_min : min a b ≡ at = cc in elim (order a b) [
@@ -62,13 +57,13 @@ module _ {A : Type 0} (place : A → Option ℕ) where
       item = y;
       among = Contains-here y xs;
       here = is ∙ ap (λ (n : ℕ). Some n) same;
-      least = λ x c m h. ⊎_elim (λ i. let k = inside a c (sym is ∙ ap place i ∙ h) in omega (arith, k, same)) (λ d. let k = l.least x c d h in omega (arith, k, low, same)) (Contains-cons_cases y xs x m);
+      least = λ x c m h. ⊎_elim (λ i. let k = same_Some a c (sym is ∙ ap place i ∙ h) in omega (arith, k, same)) (λ d. let k = l.least x c d h in omega (arith, k, low, same)) (Contains-cons_cases y xs x m);
     }
     | inr high ↦ let same : b ≡ at = omega (arith, is_min, high) in record {
       item = l.item;
       among = Contains-there y xs l.item l.among;
       here = l.here ∙ ap (λ (n : ℕ). Some n) same;
-      least = λ x c m h. ⊎_elim (λ i. let k = inside a c (sym is ∙ ap place i ∙ h) in omega (arith, k, high, same)) (λ d. let k = l.least x c d h in omega (arith, k, same)) (Contains-cons_cases y xs x m);
+      least = λ x c m h. ⊎_elim (λ i. let k = same_Some a c (sym is ∙ ap place i ∙ h) in omega (arith, k, high, same)) (λ d. let k = l.least x c d h in omega (arith, k, same)) (Contains-cons_cases y xs x m);
     }
   ]
     where
@@ -76,9 +71,6 @@ module _ {A : Type 0} (place : A → Option ℕ) where
       order zero b = inl (omega arith)
       order (suc a) zero = inr (omega arith)
       order (suc a) (suc b) = elim (order a b) [ inl h ↦ inl (omega (arith, h)) | inr h ↦ inr (omega (arith, h)) ]
-
-      inside : (m n : ℕ) → ◌≡◌ {A = Option ℕ} (Some m) (Some n) → m ≡ n
-      inside m n k = cc
 
   -- the least place is one that an item has, and none has a lesser one
   pub least_of-some : (xs : List A) (at : ℕ) → least_of place xs ≡ Some at → IsLeastPlace place xs at

@@ -12,6 +12,10 @@ use Rattle.vkg_maps.specs.declared.mapping.ObjectMap.TheVariants as object
 use Rattle.vkg_maps.specs.declared.quad_rule.QuadRule.{QuadRule}
 use Rattle.vkg_maps.specs.declared.quad_rule.Join.{Join}
 
+-- own: a mapping has at most so many quad rules
+abbrev pub rule_limit : ℕ
+rule_limit = 4096
+
 -- R2RML, 11.1, target graphs: each graph map, and the default graph where there is none
 abbrev pub targets : List TermMap → List (Option TermMap)
 targets [] = None ∷ []

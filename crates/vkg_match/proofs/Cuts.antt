@@ -4,6 +4,7 @@ use Rattle.std.specs.Prelude.{Some, fold, chars}
 use Rattle.std.specs.List.{AllByRecursion}
 use Rattle.std.specs.Str.{NoCharPasses}
 use Rattle.std.proofs.lemmas.Str.{encodes-chars, NoCharPasses-append, NoCharPasses-nil}
+use Rattle.vkg_lists.proofs.Members.{recursion_push}
 use lib.Utf8.{encode, encodes}
 use Rattle.vkg_cells.specs.declared.cell.SqlType.{SqlType}
 use Rattle.vkg_schema.specs.Rows.{Row}
@@ -36,10 +37,6 @@ map-append-one : {A B : Type 0} (f : A → B) (xs : List A) (y : A) → map f (x
 map-append-one f [] y = refl
 map-append-one f (x ∷ xs) y = ap (λ r. f x ∷ r) (map-append-one f xs y)
 
-all-append-one : {A : Type 0} (P : A → Type 0) (xs : List A) (y : A) → AllByRecursion P xs → P y → AllByRecursion P (xs ++ y ∷ [])
-all-append-one P [] y h k = (k, tt)
-all-append-one P (x ∷ xs) y h k = (h.0, all-append-one P xs y h.1 k)
-
 module _ (sort : Sort) (row : Row) where
   pieces_text-append : (ps qs : List Piece) → pieces_text sort row (ps ++ qs) ≡ joined (pieces_text sort row ps) (pieces_text sort row qs)
   pieces_text-append [] qs = sym (nil_joined (pieces_text sort row qs))
@@ -50,7 +47,7 @@ module _ (sort : Sort) (row : Row) where
   one_piece : (p : Piece) → pieces_text sort row (p ∷ []) ≡ piece_text sort row p
   one_piece p = joined_nil (piece_text sort row p)
 
-  chars_text : (s : List ℕ) → piece_text sort row (Chars s) ≡ Some s
+  pub chars_text : (s : List ℕ) → piece_text sort row (Chars s) ≡ Some s
   chars_text s = elim sort as (λ t. piece_text t row (Chars s) ≡ Some s) [ OfIri ↦ refl | OfBlank ↦ refl | OfLit a ↦ refl ]
 
   text_pieces_text : (s : List ℕ) → pieces_text sort row (text_pieces s) ≡ Some s
@@ -152,7 +149,7 @@ module _ (sort : Sort) (row : Row) where
 
     at_fine : (cut : Cut) (c : ℕ) → IsFine cut → is_break sort c ≡ true → IsFine (cut_at cut c)
     at_fine cut c h b = record {
-      done = all-append-one IsFineSegment cut.done (record { pieces = last_pieces cut; mark = c }) h.done ((last_clear cut h, b), last_fine cut h);
+      done = recursion_push IsFineSegment cut.done (record { pieces = last_pieces cut; mark = c }) h.done ((last_clear cut h, b), last_fine cut h);
       unbroken = empty_clear;
       pieces = tt;
       text = empty_clear;

@@ -6,11 +6,14 @@ use Rattle.std.proofs.lemmas.Str.{IsUtf8-nil, IsUtf8-append}
 use lib.Utf8.{encode, encodes, scalar, scalars}
 use Rattle.std.proofs.lemmas.Slice.Eq.{bytes_eq-Decides}
 use Rattle.std.proofs.lemmas.List.Folds.{list_all-append}
-use Rattle.std.proofs.lemmas.Option.{same_Some}
+use Rattle.std.proofs.lemmas.Option.{none-some, same_Some}
+use Rattle.std.proofs.Math.Bool.{and-false, and-true}
 use Rattle.hex.specs.Hex.{decode_of, encode_lower, IsBytes}
 use Rattle.hex.specs.declared.error.FromHexError.{FromHexError}
 use Rattle.hex.proofs.HexLemmas.{decode_of-encode_lower}
-use Rattle.vkg_lists.proofs.Bools.{and_true, and_parts}
+use Rattle.vkg_lists.proofs.Bools.{and_true, and_parts, is_false, same_truth, neither}
+use Rattle.vkg_lists.proofs.Counts.{eq_comm}
+use Rattle.vkg_lists.proofs.Texts.{bytes_test}
 use Rattle.vkg_terms.specs.declared.term.Term.{Term}
 use Rattle.vkg_terms.specs.declared.term.Term.TheVariants.{Iri, Blank, Lit}
 use Rattle.vkg_terms.specs.declared.term.Annotation.{Annotation}
@@ -18,6 +21,8 @@ use Rattle.vkg_terms.specs.declared.term.Annotation.TheVariants.{Plain, Lang, Ty
 use Rattle.vkg_terms.specs.Label.{blank_label}
 use Rattle.vkg_terms.specs.Same.{annotation_eq, term_eq, term_name}
 use Rattle.vkg_terms.proofs.LabelLemmas.{label_same, label_kit}
+use Rattle.vkg_terms.proofs.SameLemmas.{term_itself, terms_apart}
+use Rattle.vkg_terms.proofs.SafeLemmas.{octets}
 use Rattle.vkg_cells.specs.declared.cell.SqlType.{SqlType}
 use Rattle.vkg_cells.specs.Form.{lexical_form, joined}
 use Rattle.vkg_cells.specs.Order.{same_form}
@@ -29,7 +34,8 @@ use Rattle.vkg_expr.specs.declared.term_expr.Piece.TheVariants.{Chars, Hole}
 use Rattle.vkg_expr.specs.declared.term_expr.TermExpr.{TermExpr}
 use Rattle.vkg_expr.specs.declared.term_expr.TermExpr.TheVariants.{Fixed, Made, Resolved}
 use Rattle.vkg_expr.specs.TermExprs.{pieces_expr, term_expr}
-use Rattle.vkg_expr.specs.Value.{holds, term_cell, term_of, value_of}
+use Rattle.vkg_expr.specs.Value.{holds, term_of, value_of}
+use Rattle.vkg_expr.proofs.ReadBack.{term_back}
 use Rattle.vkg_match.specs.declared.answer.Verdict.{Verdict as VerdictValue}
 use Rattle.vkg_match.specs.declared.cut.Segment.{Segment}
 use Rattle.vkg_match.specs.Seen.{verdict_seen}
@@ -37,11 +43,10 @@ use Rattle.vkg_match.specs.Cut.{cut_pieces, is_break, last_pieces}
 use Rattle.vkg_match.specs.Laws.{FitsHole, FitsHoles, FitsPiece, HoldsTexts, IsExact, IsTextPiece, is_met}
 use Rattle.vkg_match.specs.Sources.{labelled_of, octets_labelled}
 use Rattle.vkg_match.specs.Verdict.{Verdict, Never, All, both, by_constants, by_sorts, constant_agrees, constant_of, cut_of, cuts_agree, holes_or_texts, if_cut, is_resolved, lone_hole, of_one_sort, pieces_of, same_sort, segment, segment_at, segments, sort_of, sort_of_term, texts_agree, verdict_of, when, where_same, whole_text}
-use Rattle.vkg_match.proofs.Cuts.{cut_fine, cut_text, last_clear, last_fine, part}
-use Rattle.vkg_match.proofs.Holes.{Held, clear_hole, held, hole_met, holes_met, octets, text_kept, text_there, and_true_here}
-use Rattle.vkg_match.proofs.Splits.{Clear, ClearPart, agree, is_false, one_truth, split_exact}
+use Rattle.vkg_match.proofs.Cuts.{chars_text, cut_fine, cut_text, last_clear, last_fine, part}
+use Rattle.vkg_match.proofs.Holes.{Held, clear_hole, held, hole_met, holes_met, text_kept, text_there}
+use Rattle.vkg_match.proofs.Splits.{Clear, ClearPart, agree, split_exact}
 use Rattle.vkg_match.proofs.Values.{Text, joined_nil, piece_text, pieces_text, pieces_value, same_terms, term_at, term_made, term_value, terms_hold, text_at, texts_hold, whole_value}
-use Rattle.vkg_expr.proofs.KindLists.{and_false}
 
 when_met : (row : Row) (b : Bool) → is_met (when b) row ≡ b
 when_met row true = refl
@@ -49,18 +54,18 @@ when_met row false = refl
 
 both_met : (row : Row) (v w : Verdict) → is_met (both v w) row ≡ (is_met v row && is_met w row)
 both_met row Never w = refl
-both_met row (All es) Never = sym (and_false (list_all (λ c. holds c row) es))
+both_met row (All es) Never = sym (and-false (list_all (λ c. holds c row) es))
 both_met row (All es) (All fs) = list_all-append (λ c. holds c row) es fs
 
 turned : (a b : Text) → same_form a b ≡ same_form b a
 turned None None = refl
 turned None (Some t) = refl
 turned (Some s) None = refl
-turned (Some s) (Some t) = one_truth _ _ (λ e. (bytes_eq-Decides t s).1 (sym ((bytes_eq-Decides s t).0 e))) (λ e. (bytes_eq-Decides s t).1 (sym ((bytes_eq-Decides t s).0 e)))
+turned (Some s) (Some t) = eq_comm bytes_test s t
 
 texts_met : (sort : Sort) (row : Row) (ps qs : List Piece) → is_met (texts_agree sort ps qs) row ≡ same_form (pieces_text sort row ps) (pieces_text sort row qs)
 texts_met sort row ps qs =
-    and_true_here _
+    and-true _
     ∙ texts_hold row (pieces_expr sort ps) (pieces_expr sort qs) (pieces_text sort row ps) (pieces_text sort row qs) (pieces_value sort row ps) (pieces_value sort row qs)
 
 -- ---- one segment
@@ -68,12 +73,9 @@ module _ (sort : Sort) (row : Row) where
   text : List Piece → Text
   text ps = pieces_text sort row ps
 
-  chars_text : (s : List ℕ) → piece_text sort row (Chars s) ≡ Some s
-  chars_text s = elim sort as (λ t. piece_text t row (Chars s) ≡ Some s) [ OfIri ↦ refl | OfBlank ↦ refl | OfLit a ↦ refl ]
-
   constant_is : (ps : List Piece) (s : List ℕ) → constant_of ps ≡ Some s → pieces_text sort row ps ≡ Some s
   constant_is [] s e = e
-  constant_is (Chars t ∷ []) s e = joined_nil (piece_text sort row (Chars t)) ∙ chars_text t ∙ e
+  constant_is (Chars t ∷ []) s e = joined_nil (piece_text sort row (Chars t)) ∙ chars_text sort row t ∙ e
   constant_is (Hole at k ∷ []) s e = cc
   constant_is (Chars t ∷ q ∷ ps) s e = cc
   constant_is (Hole at k ∷ q ∷ ps) s e = cc
@@ -82,13 +84,10 @@ module _ (sort : Sort) (row : Row) where
     is : pieces_text sort row ps ≡ piece_text sort row (Hole hole.0 hole.1)
     fits : FitsHole hole.1 (cell_at row hole.0)
 
-  some_hole : (h i : ℕ × SqlType) → Some h ≡ Some i → h ≡ i
-  some_hole h i e = cc
-
   lone_is : (ps : List Piece) (hole : ℕ × SqlType) → lone_hole ps ≡ Some hole → AllByRecursion (FitsPiece row) ps → Lone ps hole
   lone_is [] hole e h = cc
   lone_is (Chars t ∷ []) hole e h = cc
-  lone_is (Hole at k ∷ []) hole e h = subst (Lone (Hole at k ∷ [])) (some_hole (at, k) hole e) (record { is = joined_nil (piece_text sort row (Hole at k)); fits = h.0 })
+  lone_is (Hole at k ∷ []) hole e h = subst (Lone (Hole at k ∷ [])) (same_Some (at, k) hole e) (record { is = joined_nil (piece_text sort row (Hole at k)); fits = h.0 })
   lone_is (Chars t ∷ q ∷ ps) hole e h = cc
   lone_is (Hole at k ∷ q ∷ ps) hole e h = cc
 
@@ -198,7 +197,7 @@ labelled_is (b ∷ digits) t e = by (decode_of digits) e
 
 -- ---- terms of one sort
 labels_same : (s t : List ℕ) → bytes_eq (blank_label s) (blank_label t) ≡ bytes_eq s t
-labels_same s t = one_truth _ _
+labels_same s t = same_truth _ _
     (λ e. (bytes_eq-Decides s t).1 (label_same s t ((bytes_eq-Decides (blank_label s) (blank_label t)).0 e)))
     (λ e. (bytes_eq-Decides (blank_label s) (blank_label t)).1 (ap blank_label ((bytes_eq-Decides s t).0 e)))
 
@@ -207,7 +206,7 @@ terms_made a b None p e = refl
 terms_made a b (Some s) None e = refl
 terms_made OfIri OfIri (Some s) (Some t) e = refl
 terms_made OfBlank OfBlank (Some s) (Some t) e = labels_same s t
-terms_made (OfLit x) (OfLit y) (Some s) (Some t) e = ap (λ c. bytes_eq s t && c) e ∙ and_true_here (bytes_eq s t)
+terms_made (OfLit x) (OfLit y) (Some s) (Some t) e = ap (λ c. bytes_eq s t && c) e ∙ and-true (bytes_eq s t)
 terms_made OfIri OfBlank (Some s) (Some t) e = cc
 terms_made OfIri (OfLit y) (Some s) (Some t) e = cc
 terms_made OfBlank OfIri (Some s) (Some t) e = cc
@@ -241,20 +240,17 @@ record HasPieces (row : Row) (e : TermExpr) (ps : List Piece) : Type 0 where
   written : AllByRecursion IsTextPiece ps
   fitted : AllByRecursion (FitsPiece row) ps
 
-some_pieces : (ps qs : List Piece) → Some ps ≡ Some qs → ps ≡ qs
-some_pieces ps qs e = cc
-
 has_pieces : (row : Row) (e : TermExpr) (ps : List Piece) → pieces_of e ≡ Some ps → HoldsTexts e → FitsHoles row e → HasPieces row e ps
-has_pieces row (Fixed (Iri s)) ps e t f = subst (HasPieces row (Fixed (Iri s))) (some_pieces (Chars s ∷ []) ps e) (record { makes = ap (λ r. Some (Iri r)) (sym (append-nil s)); written = (t, tt); fitted = (tt, tt) })
-has_pieces row (Fixed (Lit s a)) ps e t f = subst (HasPieces row (Fixed (Lit s a))) (some_pieces (Chars s ∷ []) ps e) (record { makes = ap (λ r. Some (Lit r a)) (sym (append-nil s)); written = (t, tt); fitted = (tt, tt) })
+has_pieces row (Fixed (Iri s)) ps e t f = subst (HasPieces row (Fixed (Iri s))) (same_Some (Chars s ∷ []) ps e) (record { makes = ap (λ r. Some (Iri r)) (sym (append-nil s)); written = (t, tt); fitted = (tt, tt) })
+has_pieces row (Fixed (Lit s a)) ps e t f = subst (HasPieces row (Fixed (Lit s a))) (same_Some (Chars s ∷ []) ps e) (record { makes = ap (λ r. Some (Lit r a)) (sym (append-nil s)); written = (t, tt); fitted = (tt, tt) })
 has_pieces row (Fixed (Blank l)) ps e t f = by (labelled_of l) refl e
   where
     by : (o : Text) → labelled_of l ≡ o → option_map (λ t. Chars t ∷ []) o ≡ Some ps → HasPieces row (Fixed (Blank l)) ps
     by None g e = cc
     by (Some t) g e =
         let h = labelled_is l t g in
-        subst (HasPieces row (Fixed (Blank l))) (some_pieces (Chars t ∷ []) ps e) (record { makes = ap (λ r. Some (Blank r)) (sym h.1 ∙ ap blank_label (sym (append-nil t))); written = (h.0, tt); fitted = (tt, tt) })
-has_pieces row (Made sort qs) ps e t f = subst (HasPieces row (Made sort qs)) (some_pieces qs ps e) (record { makes = refl; written = t; fitted = f })
+        subst (HasPieces row (Fixed (Blank l))) (same_Some (Chars t ∷ []) ps e) (record { makes = ap (λ r. Some (Blank r)) (sym h.1 ∙ ap blank_label (sym (append-nil t))); written = (h.0, tt); fitted = (tt, tt) })
+has_pieces row (Made sort qs) ps e t f = subst (HasPieces row (Made sort qs)) (same_Some qs ps e) (record { makes = refl; written = t; fitted = f })
 has_pieces row (Resolved base at k) ps e t f = cc
 
 pieces_exact : (row : Row) (e f : TermExpr) (ps qs : List Piece) → same_sort (sort_of e) (sort_of f) ≡ true → HasPieces row e ps → HasPieces row f qs
@@ -286,41 +282,13 @@ blank_spelled row (Hole at k ∷ ps) t h = spelled_joined (lexical_form (cell_at
 
 no_text : (l : List ℕ) (o : Text) → labelled_of l ≡ None → Spelled o → same_terms (Some (Blank l)) (option_map (term_made OfBlank) o) ≡ false
 no_text l None e h = refl
-no_text l (Some t) e h = is_false _ (λ f. none (sym e ∙ ap labelled_of ((bytes_eq-Decides l (blank_label t)).0 f) ∙ labelled_there t h))
-  where
-    none : ◌≡◌ {A = Text} None (Some t) → ⊥
-    none e = cc
+no_text l (Some t) e h = is_false _ (λ f. none-some t (sym e ∙ ap labelled_of ((bytes_eq-Decides l (blank_label t)).0 f) ∙ labelled_there t h))
 
 terms_turned : (o p : Option Term) → same_terms o p ≡ same_terms p o
 terms_turned None None = refl
 terms_turned None (Some t) = refl
 terms_turned (Some s) None = refl
-terms_turned (Some s) (Some t) = of s t
-  where
-    bytes : (a b : List ℕ) → bytes_eq a b ≡ bytes_eq b a
-    bytes a b = one_truth _ _ (λ e. (bytes_eq-Decides b a).1 (sym ((bytes_eq-Decides a b).0 e))) (λ e. (bytes_eq-Decides a b).1 (sym ((bytes_eq-Decides b a).0 e)))
-
-    notes : (x y : Annotation) → annotation_eq x y ≡ annotation_eq y x
-    notes Plain Plain = refl
-    notes Plain (Lang b) = refl
-    notes Plain (Typed b) = refl
-    notes (Lang a) Plain = refl
-    notes (Lang a) (Lang b) = bytes a b
-    notes (Lang a) (Typed b) = refl
-    notes (Typed a) Plain = refl
-    notes (Typed a) (Lang b) = refl
-    notes (Typed a) (Typed b) = bytes a b
-
-    of : (s t : Term) → term_eq s t ≡ term_eq t s
-    of (Iri a) (Iri b) = bytes a b
-    of (Iri a) (Blank b) = refl
-    of (Iri a) (Lit b y) = refl
-    of (Blank a) (Iri b) = refl
-    of (Blank a) (Blank b) = bytes a b
-    of (Blank a) (Lit b y) = refl
-    of (Lit a x) (Iri b) = refl
-    of (Lit a x) (Blank b) = refl
-    of (Lit a x) (Lit b y) = λ i. bytes a b i && notes x y i
+terms_turned (Some s) (Some t) = eq_comm terms_apart s t
 
 abbrev is_fixed : TermExpr → Bool
 is_fixed (Fixed t) = true
@@ -413,7 +381,7 @@ whole_exact : (row : Row) (e f : TermExpr) → same_sort OfIri (sort_of e) ≡ t
 whole_exact row e f a b =
     (λ i. same_terms (iri_at row e a i) (iri_at row f b i))
     ∙ terms_made OfIri OfIri (text_at row e) (text_at row f) refl
-    ∙ sym (and_true_here _ ∙ texts_hold row (whole_text e) (whole_text f) (text_at row e) (text_at row f) (whole_value row e) (whole_value row f))
+    ∙ sym (and-true _ ∙ texts_hold row (whole_text e) (whole_text f) (text_at row e) (text_at row f) (whole_value row e) (whole_value row f))
 
 resolved_sort : (e : TermExpr) → is_resolved e ≡ true → sort_of e ≡ OfIri
 resolved_sort (Fixed t) e = cc
@@ -429,10 +397,6 @@ either_resolved (Fixed t) f e = inr (resolved_sort f e)
 either_resolved (Made sort ps) f e = inr (resolved_sort f e)
 either_resolved (Resolved base at k) f e = inl refl
 
-neither : (a b : Bool) → (a || b) ≡ false → (a ≡ false) × (b ≡ false)
-neither true b e = cc
-neither false b e = (refl, e)
-
 one_sort_exact : (row : Row) (e f : TermExpr) → IsComposed e f → same_sort (sort_of e) (sort_of f) ≡ true → Known row e → Known row f
     → same_terms (term_at row e) (term_at row f) ≡ is_met (of_one_sort (sort_of e) e f) row
 one_sort_exact row e f c s h g =
@@ -442,17 +406,14 @@ one_sort_exact row e f c s h g =
     ] refl
 
 -- ---- two sorts
-pub some_term : (s t : Term) → Some s ≡ Some t → s ≡ t
-some_term s t e = cc
-
 made_sort : (sort : Sort) (o : Text) (t : Term) → option_map (term_made sort) o ≡ Some t → sort_of_term t ≡ sort
 made_sort sort None t e = cc
-made_sort OfIri (Some s) t e = ap sort_of_term (sym (some_term (Iri s) t e))
-made_sort OfBlank (Some s) t e = ap sort_of_term (sym (some_term (Blank (blank_label s)) t e))
-made_sort (OfLit a) (Some s) t e = ap sort_of_term (sym (some_term (Lit s a) t e))
+made_sort OfIri (Some s) t e = ap sort_of_term (sym (same_Some (Iri s) t e))
+made_sort OfBlank (Some s) t e = ap sort_of_term (sym (same_Some (Blank (blank_label s)) t e))
+made_sort (OfLit a) (Some s) t e = ap sort_of_term (sym (same_Some (Lit s a) t e))
 
 sort_at : (row : Row) (e : TermExpr) (t : Term) → term_at row e ≡ Some t → sort_of_term t ≡ sort_of e
-sort_at row (Fixed u) t e = ap sort_of_term (sym (some_term u t e))
+sort_at row (Fixed u) t e = ap sort_of_term (sym (same_Some u t e))
 sort_at row (Made sort ps) t e = made_sort sort (pieces_text sort row ps) t e
 sort_at row (Resolved base at k) t e = made_sort OfIri (text_at row (Resolved base at k)) t e
 
@@ -493,23 +454,6 @@ terms_exact row (Resolved base at k) f h g = by_sorts_exact row (Resolved base a
 -- the verdict is exact
 pub exact : (e f : TermExpr) → IsExact e f (verdict_of e f)
 exact e f s t row h g = terms_hold row e f ∙ terms_exact row e f (s, h) (t, g)
-
-term_back : (o : Option Term) → term_of (term_cell o) ≡ o
-term_back None = refl
-term_back (Some s) = refl
-
-bytes_itself : (a : List ℕ) → bytes_eq a a ≡ true
-bytes_itself a = (bytes_eq-Decides a a).1 refl
-
-note_itself : (x : Annotation) → annotation_eq x x ≡ true
-note_itself Plain = refl
-note_itself (Lang a) = bytes_itself a
-note_itself (Typed a) = bytes_itself a
-
-term_itself : (s : Term) → term_eq s s ≡ true
-term_itself (Iri a) = bytes_itself a
-term_itself (Blank a) = bytes_itself a
-term_itself (Lit a x) = and_true (bytes_eq a a) (annotation_eq x x) (bytes_itself a) (note_itself x)
 
 pub there_at : (row : Row) (e : TermExpr) (t : Term) → term_of (value_of (term_expr e) row) ≡ Some t → term_at row e ≡ Some t
 there_at row e t m = sym (term_back (term_at row e)) ∙ ap term_of (sym (term_value row e)) ∙ m

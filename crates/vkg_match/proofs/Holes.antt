@@ -1,17 +1,21 @@
 -- What a hole makes on a row whose cell fits it.
-use Rattle.std.proofs.Common.{◌≡◌, ◌⊎◌, inl, inr, ℕ, ◌<◌, refl, sym, ap, subst, ◌∙◌, List, [], ◌∷◌, ◌++◌, Bool, true, false, cond, not, ◌&&◌, ◌||◌, ◌==◌, arith, nat_lt, Result, Ok, Err, IsUtf8, append-nil}
-use Rattle.std.specs.Prelude.{Option, Some, None, option_map, option_and_then, bytes_eq, IsSome, is_some, chars, flat_map, encode_utf8, unwrap_or}
+use Rattle.std.proofs.Common.{◌≡◌, ◌⊎◌, inl, inr, ℕ, refl, sym, ap, subst, ◌∙◌, List, [], ◌∷◌, ◌++◌, Bool, true, false, cond, not, ◌&&◌, ◌||◌, ◌==◌, arith, nat_lt, Result, Ok, Err, IsUtf8, append-nil}
+use Rattle.std.specs.Prelude.{Option, Some, None, option_map, option_and_then, bytes_eq, IsSome, is_some, chars, flat_map, encode_utf8}
 use Rattle.std.specs.List.{list_all}
 use Rattle.std.specs.Str.{NonePass, NoCharPasses, is_utf8}
-use Rattle.std.proofs.lemmas.Option.{same_Some}
+use Rattle.std.proofs.lemmas.Option.{none-some, same_Some}
 use Rattle.std.proofs.lemmas.Slice.Eq.{bytes_eq-Decides}
 use Rattle.std.proofs.lemmas.Str.{scalars-chars, is_utf8-from_IsUtf8, IsUtf8-from_is_utf8, NoCharPasses-append, NoCharPasses-nil, encode_ascii}
+use Rattle.std.proofs.Math.Bool.{and-true}
+use Rattle.vkg_expr.proofs.ReadBack.{truth_back}
 use Rattle.percent_encoding.specs.Percent.{percent_decode}
 use lib.Utf8.{encode, scalar, scalars}
-use Rattle.vkg_lists.proofs.Bools.{and_parts}
+use Rattle.vkg_lists.proofs.Bools.{and_parts, is_false, same_truth}
+use Rattle.vkg_lists.proofs.Counts.{eq_comm}
+use Rattle.vkg_lists.proofs.Texts.{bytes_test}
 use Rattle.vkg_terms.specs.Safe.{is_safe_character, is_unreserved, percent, safe, safe_character}
-use Rattle.vkg_terms.proofs.Octets.{use_below, encode_all, scalar_below}
-use Rattle.vkg_terms.proofs.SafeLemmas.{decode-safe, safe_same, plain, plain_percent}
+use Rattle.vkg_terms.proofs.SafeLemmas.{decode-safe, safe_same, plain, plain_percent, octets}
+use Rattle.vkg_terms.proofs.SameLemmas.{bytes_itself}
 use Rattle.vkg_cells.specs.declared.cell.SqlType.{SqlType}
 use Rattle.vkg_cells.specs.declared.cell.Cell.{Cell}
 use Rattle.vkg_cells.specs.declared.cell.Cell.TheVariants as cell
@@ -20,19 +24,19 @@ use Rattle.vkg_cells.specs.Field.{cell_of_field}
 use Rattle.vkg_cells.specs.Form.{lexical_form}
 use Rattle.vkg_cells.specs.Order.{family, family_of, same, same_form}
 use Rattle.vkg_cells.proofs.LawLemmas.{by-form}
-use Rattle.vkg_schema.specs.Rows.{Row, cell_at}
+use Rattle.vkg_schema.specs.Rows.{Row, cell_at, is_known_true}
 use Rattle.vkg_expr.specs.declared.term_expr.Sort.{Sort}
 use Rattle.vkg_expr.specs.declared.term_expr.Sort.TheVariants.{OfIri, OfBlank, OfLit}
 use Rattle.vkg_expr.specs.declared.term_expr.Piece.TheVariants.{Hole}
 use Rattle.vkg_expr.specs.Expr.{Col, Const, Lex, Same}
 use Rattle.vkg_expr.specs.Typing.{same_family}
-use Rattle.vkg_expr.specs.Value.{holds, truth_cell, truth_of}
+use Rattle.vkg_expr.specs.Value.{holds}
 use Rattle.vkg_match.specs.Cut.{is_break}
 use Rattle.vkg_match.specs.Laws.{FitsHole, is_met}
 use Rattle.vkg_match.specs.Sources.{cell_if, cell_with, source_of, text_if}
 use Rattle.vkg_match.specs.Verdict.{hole_makes, hole_text, holes_agree, where_cell, where_same}
 use Rattle.vkg_match.proofs.Forms.{Proper, family_is, proper}
-use Rattle.vkg_match.proofs.Splits.{Clear, is_false, one_truth}
+use Rattle.vkg_match.proofs.Splits.{Clear}
 use Rattle.vkg_match.proofs.Values.{Text, piece_text, texts_hold}
 
 -- NULL, or a proper cell
@@ -43,42 +47,29 @@ pub held : (k : SqlType) (c : Cell) → FitsHole k c → Held k c
 held k c (inl e) = inl e
 held k c (inr h) = inr (proper k c h.0 h.1 h.2)
 
-itself : (s : List ℕ) → bytes_eq s s ≡ true
-itself s = (bytes_eq-Decides s s).1 refl
-
 -- ---- equality of cells as a test
-abbrev known : Option Bool → Bool
-known o = unwrap_or o false
-
-cells_compared : (o : Option Bool) → unwrap_or (truth_of (truth_cell o)) false ≡ known o
-cells_compared None = refl
-cells_compared (Some b) = refl
-
-known_true : (o : Option Bool) → known o ≡ true → o ≡ Some true
+known_true : (o : Option Bool) → is_known_true o ≡ true → o ≡ Some true
 known_true None e = cc
 known_true (Some b) e = ap Some e
 
-no_some : (s : List ℕ) → ◌≡◌ {A = Text} None (Some s) → ⊥
-no_some s e = cc
-
 -- cells of one family are equal where their forms are
-same_known : (c d : Cell) (s t : List ℕ) → family_of c ≡ family_of d → lexical_form c ≡ Some s → lexical_form d ≡ Some t → known (same c d) ≡ bytes_eq s t
+same_known : (c d : Cell) (s t : List ℕ) → family_of c ≡ family_of d → lexical_form c ≡ Some s → lexical_form d ≡ Some t → is_known_true (same c d) ≡ bytes_eq s t
 same_known c d s t f a b =
     let law = by-form c d f (has (lexical_form c) s a) in
-    one_truth _ _
+    same_truth _ _
     (λ e. (bytes_eq-Decides s t).1 (same_Some s t (sym a ∙ law.0 (known_true (same c d) e) ∙ b)))
-    (λ e. ap known (law.1 (a ∙ ap Some ((bytes_eq-Decides s t).0 e) ∙ sym b)))
+    (λ e. ap is_known_true (law.1 (a ∙ ap Some ((bytes_eq-Decides s t).0 e) ∙ sym b)))
   where
     has : (o : Text) (s : List ℕ) → o ≡ Some s → IsSome o
     has o s e = ap is_some e
 
-null_left : (c d : Cell) → c ≡ cell.Null → known (same c d) ≡ false
-null_left c d e = ap (λ x. known (same x d)) e
+null_left : (c d : Cell) → c ≡ cell.Null → is_known_true (same c d) ≡ false
+null_left c d e = ap (λ x. is_known_true (same x d)) e
 
-null_right : (c d : Cell) → d ≡ cell.Null → known (same c d) ≡ false
-null_right c d e = ap (λ x. known (same c x)) e ∙ of c
+null_right : (c d : Cell) → d ≡ cell.Null → is_known_true (same c d) ≡ false
+null_right c d e = ap (λ x. is_known_true (same c x)) e ∙ of c
   where
-    of : (c : Cell) → known (same c cell.Null) ≡ false
+    of : (c : Cell) → is_known_true (same c cell.Null) ≡ false
     of cell.Null = refl
     of (cell.Text a) = refl
     of (cell.Int a) = refl
@@ -94,7 +85,7 @@ null_form c e = ap lexical_form e
 
 -- ---- the cell that has a form
 form_itself : (c : Cell) (s : List ℕ) → lexical_form c ≡ Some s → same_form (lexical_form c) (Some s) ≡ true
-form_itself c s e = ap (λ o. same_form o (Some s)) e ∙ itself s
+form_itself c s e = ap (λ o. same_form o (Some s)) e ∙ bytes_itself s
 
 with_form : (k : SqlType) (c : Cell) → (h : Proper k c) → cell_with k h.form ≡ Some c
 with_form k c h = ap (cell_if h.form) h.read ∙ ap (λ b. cond b (Some c) None) (form_itself c h.form h.is)
@@ -102,9 +93,6 @@ with_form k c h = ap (cell_if h.form) h.read ∙ ap (λ b. cond b (Some c) None)
 form_is : (o : Text) (s : List ℕ) → same_form o (Some s) ≡ true → o ≡ Some s
 form_is None s e = cc
 form_is (Some r) s e = ap Some ((bytes_eq-Decides r s).0 e)
-
-some_cell : (c d : Cell) → Some c ≡ Some d → c ≡ d
-some_cell c d e = cc
 
 -- what is found is read from the form, and has it
 record Found (k : SqlType) (s : List ℕ) (d : Cell) : Type 0 where
@@ -114,7 +102,7 @@ record Found (k : SqlType) (s : List ℕ) (d : Cell) : Type 0 where
 found_if : (k : SqlType) (s : List ℕ) (d : Cell) (r : Result Cell FieldFault) → cell_of_field k s ≡ r → cell_if s r ≡ Some d → Found k s d
 found_if k s d (Err e) h f = cc
 found_if k s d (Ok c) h f = elim (same_form (lexical_form c) (Some s)) as (λ b. same_form (lexical_form c) (Some s) ≡ b → cond b (Some c) None ≡ Some d → Found k s d) [
-  | true ↦ λ e g. let is = some_cell c d g in record { read = h ∙ ap Ok is; is = ap lexical_form (sym is) ∙ form_is (lexical_form c) s e }
+  | true ↦ λ e g. let is = same_Some c d g in record { read = h ∙ ap Ok is; is = ap lexical_form (sym is) ∙ form_is (lexical_form c) s e }
   | false ↦ λ e g. cc
 ] refl f
 
@@ -128,31 +116,24 @@ cell_met row hole h s None e = sym (is_false _ (λ f. none (sym e ∙ ap (cell_w
     none e = cc
 cell_met row hole h s (Some d) e =
     let f = found_if hole.1 s d (cell_of_field hole.1 s) refl e in
-    and_true_right (holds (Same (Col hole.0) (Const d hole.1)) row)
-    ∙ cells_compared (same (cell_at row hole.0) d)
+    and-true (holds (Same (Col hole.0) (Const d hole.1)) row)
+    ∙ ap is_known_true (truth_back (same (cell_at row hole.0) d))
     ∙ same_known (cell_at row hole.0) d h.form s (h.of_family ∙ sym (family_is hole.1 d s f.read)) h.is f.is
-    ∙ turned h.form s
-  where
-    and_true_right : (b : Bool) → (b && true) ≡ b
-    and_true_right true = refl
-    and_true_right false = refl
-
-    turned : (s t : List ℕ) → bytes_eq s t ≡ bytes_eq t s
-    turned s t = one_truth _ _ (λ e. (bytes_eq-Decides t s).1 (sym ((bytes_eq-Decides s t).0 e))) (λ e. (bytes_eq-Decides s t).1 (sym ((bytes_eq-Decides t s).0 e)))
+    ∙ eq_comm bytes_test h.form s
 
 cell_null : (row : Row) (hole : ℕ × SqlType) (o : Option Cell) → cell_at row hole.0 ≡ cell.Null → is_met (where_cell hole o) row ≡ false
 cell_null row hole None e = refl
-cell_null row hole (Some d) e = ap (λ b. b && true) (cells_compared (same (cell_at row hole.0) d) ∙ null_left (cell_at row hole.0) d e)
+cell_null row hole (Some d) e = ap (λ b. b && true) (ap is_known_true (truth_back (same (cell_at row hole.0) d)) ∙ null_left (cell_at row hole.0) d e)
 
 pub text_kept : (s t : List ℕ) (b : Bool) → text_if s b ≡ Some t → (IsUtf8 s × (b ≡ true)) × (s ≡ t)
 text_kept s t b e = elim (is_utf8 s) as (λ u. is_utf8 s ≡ u → cond (u && b) (Some s) None ≡ Some t → (IsUtf8 s × (b ≡ true)) × (s ≡ t)) [
   | true ↦ λ u f. let h = by b f in ((IsUtf8-from_is_utf8 s u, h.0), h.1)
-  | false ↦ λ u f. absurd (no_some t f)
+  | false ↦ λ u f. absurd (none-some t f)
 ] refl e
   where
     by : (b : Bool) → cond b (Some s) None ≡ Some t → (b ≡ true) × (s ≡ t)
     by true f = (refl, same_Some s t f)
-    by false f = absurd (no_some t f)
+    by false f = absurd (none-some t f)
 
 pub text_there : (s : List ℕ) (b : Bool) → IsUtf8 s → b ≡ true → text_if s b ≡ Some s
 text_there s b u e = rw (is_utf8-from_IsUtf8 s u, e) refl
@@ -161,7 +142,7 @@ text_there s b u e = rw (is_utf8-from_IsUtf8 s u, e) refl
 source_there : (t : List ℕ) → IsUtf8 t → source_of (safe t) ≡ Some t
 source_there t u =
     let d = decode-safe t u in
-    ap (λ x. text_if x (bytes_eq (safe x) (safe t))) d ∙ text_there t (bytes_eq (safe t) (safe t)) u (itself (safe t))
+    ap (λ x. text_if x (bytes_eq (safe x) (safe t))) d ∙ text_there t (bytes_eq (safe t) (safe t)) u (bytes_itself (safe t))
 
 source_is : (s t : List ℕ) → source_of s ≡ Some t → IsUtf8 t × (safe t ≡ s)
 source_is s t e =
@@ -169,13 +150,13 @@ source_is s t e =
     (subst IsUtf8 h.1 h.0.0, ap safe (sym h.1) ∙ (bytes_eq-Decides (safe (percent_decode s)) s).0 h.0.1)
 
 safe_forms : (s t : List ℕ) → IsUtf8 s → IsUtf8 t → bytes_eq s t ≡ bytes_eq (safe s) (safe t)
-safe_forms s t u v = one_truth _ _
+safe_forms s t u v = same_truth _ _
     (λ e. (bytes_eq-Decides (safe s) (safe t)).1 (ap safe ((bytes_eq-Decides s t).0 e)))
     (λ e. (bytes_eq-Decides s t).1 (safe_same s t u v ((bytes_eq-Decides (safe s) (safe t)).0 e)))
 
 iri_met : (row : Row) (hole : ℕ × SqlType) (h : Proper hole.1 (cell_at row hole.0)) (s : List ℕ) (o : Text) → source_of s ≡ o
     → is_met (where_cell hole (option_and_then (cell_with hole.1) o)) row ≡ bytes_eq s (safe h.form)
-iri_met row hole h s None e = sym (is_false _ (λ f. no_some h.form (sym e ∙ ap source_of ((bytes_eq-Decides s (safe h.form)).0 f) ∙ source_there h.form h.spelled)))
+iri_met row hole h s None e = sym (is_false _ (λ f. none-some h.form (sym e ∙ ap source_of ((bytes_eq-Decides s (safe h.form)).0 f) ∙ source_there h.form h.spelled)))
 iri_met row hole h s (Some t) e =
     let g = source_is s t e in
     cell_met row hole h t (cell_with hole.1 t) refl ∙ safe_forms t h.form g.0 h.spelled ∙ ap (λ x. bytes_eq x (safe h.form)) g.1
@@ -217,15 +198,11 @@ forms_held OfBlank row h i p q = refl
 forms_held (OfLit a) row h i p q = refl
 
 cells_held : (row : Row) (h i : ℕ × SqlType) → family h.1 ≡ family i.1 → Held h.1 (cell_at row h.0) → Held i.1 (cell_at row i.0)
-    → known (same (cell_at row h.0) (cell_at row i.0)) ≡ same_form (lexical_form (cell_at row h.0)) (lexical_form (cell_at row i.0))
+    → is_known_true (same (cell_at row h.0) (cell_at row i.0)) ≡ same_form (lexical_form (cell_at row h.0)) (lexical_form (cell_at row i.0))
 cells_held row h i f (inl e) q = null_left (cell_at row h.0) (cell_at row i.0) e ∙ sym (ap (λ c. same_form (lexical_form c) (lexical_form (cell_at row i.0))) e)
 cells_held row h i f (inr p) (inl e) = null_right (cell_at row h.0) (cell_at row i.0) e ∙ sym (ap (same_form (lexical_form (cell_at row h.0))) (null_form (cell_at row i.0) e) ∙ form_none (lexical_form (cell_at row h.0)))
 cells_held row h i f (inr p) (inr q) =
     same_known (cell_at row h.0) (cell_at row i.0) p.form q.form (p.of_family ∙ f ∙ sym q.of_family) p.is q.is ∙ (λ j. same_form (sym p.is j) (sym q.is j))
-
-pub and_true_here : (b : Bool) → (b && true) ≡ b
-and_true_here true = refl
-and_true_here false = refl
 
 pub holes_met : (sort : Sort) (row : Row) (h i : ℕ × SqlType) → FitsHole h.1 (cell_at row h.0) → FitsHole i.1 (cell_at row i.0)
     → is_met (holes_agree h i) row ≡ same_form (piece_text sort row (Hole h.0 h.1)) (piece_text sort row (Hole i.0 i.1))
@@ -233,8 +210,8 @@ holes_met sort row h i a b =
     elim (same_family h.1 i.1) as (λ t. same_family h.1 i.1 ≡ t → is_met (cond t (where_same (Col h.0) (Col i.0)) (where_same (Lex (Col h.0)) (Lex (Col i.0)))) row ≡ same_form (lexical_form (cell_at row h.0)) (lexical_form (cell_at row i.0))) [
       | true ↦ λ e.
           let f : family h.1 ≡ family i.1 = grind arith in
-          and_true_here (holds (Same (Col h.0) (Col i.0)) row) ∙ cells_compared (same (cell_at row h.0) (cell_at row i.0)) ∙ cells_held row h i f (held h.1 _ a) (held i.1 _ b)
-      | false ↦ λ e. and_true_here (holds (Same (Lex (Col h.0)) (Lex (Col i.0))) row) ∙ texts_hold row (Lex (Col h.0)) (Lex (Col i.0)) (lexical_form (cell_at row h.0)) (lexical_form (cell_at row i.0)) refl refl
+          and-true (holds (Same (Col h.0) (Col i.0)) row) ∙ ap is_known_true (truth_back (same (cell_at row h.0) (cell_at row i.0))) ∙ cells_held row h i f (held h.1 _ a) (held i.1 _ b)
+      | false ↦ λ e. and-true (holds (Same (Lex (Col h.0)) (Lex (Col i.0))) row) ∙ texts_hold row (Lex (Col h.0)) (Lex (Col i.0)) (lexical_form (cell_at row h.0)) (lexical_form (cell_at row i.0)) refl refl
     ] refl
     ∙ forms_held sort row h i (held h.1 _ a) (held i.1 _ b)
 
@@ -245,9 +222,6 @@ none_pass sort (c ∷ cs) h = (h c, none_pass sort cs h)
 
 any_clear : (sort : Sort) (s : List ℕ) → ((c : ℕ) → is_break sort c ≡ false) → IsUtf8 s → NoCharPasses (is_break sort) s
 any_clear sort s h u = (u.0, u.1.1, none_pass sort u.0 h)
-
-pub octets : (c : ℕ) → scalar c ≡ true → list_all (λ b. nat_lt b 256) (encode c) ≡ true
-octets c e = encode_all (λ b. nat_lt b 256) c (scalar_below c e) (λ b _ l. grind arith) (λ l. grind arith)
 
 clear_plain : (xs : List ℕ) → list_all plain xs ≡ true → NoCharPasses (is_break OfIri) xs
 clear_plain [] e = NoCharPasses-nil (is_break OfIri)

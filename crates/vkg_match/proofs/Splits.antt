@@ -5,27 +5,12 @@ use Rattle.std.specs.List.{AllByRecursion}
 use Rattle.std.specs.Str.{NonePass, NoCharPasses}
 use Rattle.std.proofs.lemmas.Slice.Eq.{bytes_eq-Decides}
 use Rattle.std.proofs.lemmas.Str.{encode_same, NoCharPasses-append, length-encode, len_utf8_bounds}
+use Rattle.std.proofs.Math.Bool.{and-false, and_assoc}
 use lib.Utf8.{encode, encodes}
-use Rattle.vkg_lists.proofs.Bools.{and_parts}
+use Rattle.vkg_lists.proofs.Bools.{and_parts, is_false, same_truth}
 use Rattle.vkg_cells.specs.Order.{same_form}
 use Rattle.vkg_match.proofs.Values.{Text}
 use Rattle.vkg_cells.specs.Form.{joined}
-use Rattle.vkg_expr.proofs.KindLists.{and_false}
-
-pub is_false : (b : Bool) → (b ≡ true → ⊥) → b ≡ false
-is_false true h = absurd (h refl)
-is_false false h = refl
-
-pub one_truth : (a b : Bool) → (a ≡ true → b ≡ true) → (b ≡ true → a ≡ true) → a ≡ b
-one_truth true b h k = sym (h refl)
-one_truth false b h k = sym (is_false b (λ e. no (k e)))
-  where
-    no : false ≡ true → ⊥
-    no e = cc
-
-pub and_assoc : (a b c : Bool) → ((a && b) && c) ≡ (a && (b && c))
-and_assoc true b c = refl
-and_assoc false b c = refl
 
 not_nothing : (c : ℕ) (u : List ℕ) → [] ≡ encode c ++ u → ⊥
 not_nothing c u e =
@@ -77,7 +62,7 @@ module _ (p : ℕ → Bool) where
 
   parts_same : (s t : List ℕ) (c d : ℕ) (u v : List ℕ) → NoCharPasses p s → NoCharPasses p t → p c ≡ true → p d ≡ true
       → bytes_eq (s ++ (encode c ++ u)) (t ++ (encode d ++ v)) ≡ (((c == d) && bytes_eq s t) && bytes_eq u v)
-  parts_same s t c d u v h k a b = one_truth _ _ there back
+  parts_same s t c d u v h k a b = same_truth _ _ there back
     where
       there : bytes_eq (s ++ (encode c ++ u)) (t ++ (encode d ++ v)) ≡ true → (((c == d) && bytes_eq s t) && bytes_eq u v) ≡ true
       there e =
@@ -100,11 +85,11 @@ module _ (p : ℕ → Bool) where
 
   step : (o o' : Text) (c d : ℕ) (w w' : Text) → Clear o → Clear o' → p c ≡ true → p d ≡ true
       → same_form (joined o (joined (Some (encode c)) w)) (joined o' (joined (Some (encode d)) w')) ≡ (((c == d) && same_form o o') && same_form w w')
-  step None o' c d w w' h k a b = sym (ap (λ t. t && same_form w w') (and_false (c == d)))
-  step (Some s) None c d None w' h k a b = sym (ap (λ t. t && same_form None w') (and_false (c == d)))
-  step (Some s) None c d (Some u) w' h k a b = sym (ap (λ t. t && same_form (Some u) w') (and_false (c == d)))
-  step (Some s) (Some t) c d None w' h k a b = sym (and_false ((c == d) && bytes_eq s t))
-  step (Some s) (Some t) c d (Some u) None h k a b = sym (and_false ((c == d) && bytes_eq s t))
+  step None o' c d w w' h k a b = sym (ap (λ t. t && same_form w w') (and-false (c == d)))
+  step (Some s) None c d None w' h k a b = sym (ap (λ t. t && same_form None w') (and-false (c == d)))
+  step (Some s) None c d (Some u) w' h k a b = sym (ap (λ t. t && same_form (Some u) w') (and-false (c == d)))
+  step (Some s) (Some t) c d None w' h k a b = sym (and-false ((c == d) && bytes_eq s t))
+  step (Some s) (Some t) c d (Some u) None h k a b = sym (and-false ((c == d) && bytes_eq s t))
   step (Some s) (Some t) c d (Some u) (Some v) h k a b = parts_same s t c d u v h k a b
 
   end_left : (l o : Text) (d : ℕ) (w : Text) → Clear l → Clear o → p d ≡ true → same_form l (joined o (joined (Some (encode d)) w)) ≡ false

@@ -18,6 +18,7 @@ use Rattle.vkg_expr.specs.declared.term_expr.TermExpr.TheVariants.{Fixed, Made, 
 use Rattle.vkg_expr.specs.Expr.{Expr, Same, exprs}
 use Rattle.vkg_expr.specs.TermExprs.{piece_expr, pieces_expr, term_expr}
 use Rattle.vkg_expr.specs.Value.{against, concat_of, holds, term_cell, text_cell, text_of, truth_cell, truth_of, value_of, values_of}
+use Rattle.vkg_expr.proofs.ReadBack.{text_back}
 use Rattle.vkg_match.specs.Verdict.{whole_text}
 
 abbrev pub Text : Type 0
@@ -49,10 +50,6 @@ piece_text (OfLit a) row (Hole at k) = lexical_form (cell_at row at)
 abbrev pub pieces_text : Sort → Row → List Piece → Text
 pieces_text sort row [] = Some []
 pieces_text sort row (p ∷ ps) = joined (piece_text sort row p) (pieces_text sort row ps)
-
-text_back : (o : Text) → text_of (text_cell o) ≡ o
-text_back None = refl
-text_back (Some s) = refl
 
 piece_value : (sort : Sort) (row : Row) (p : Piece) → value_of (piece_expr sort p) row ≡ text_cell (piece_text sort row p)
 piece_value OfIri row (Chars s) = refl

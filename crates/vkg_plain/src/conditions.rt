@@ -2,7 +2,8 @@
 ghost use Rattle.std.specs.Prelude.{◌≡◌, IfOk, IsOkAnd, map, fold, filter};
 ghost use Rattle.vkg_sparql.specs.Seen.{condition_seen};
 ghost use Rattle.vkg_algebra.specs.Seen.{condition_seen_if_any};
-ghost use Rattle.vkg_algebra.specs.Values.{expression_value, holds as holds_in, holds_if_any as holds_in_if_any, is_true as is_true_of};
+ghost use Rattle.vkg_schema.specs.Rows.{is_known_true};
+ghost use Rattle.vkg_algebra.specs.Values.{expression_value, holds as holds_in, holds_if_any as holds_in_if_any};
 ghost use Rattle.vkg_plain.specs.Chains.{both_value, either_value};
 
 use crate::fault::PlainFault;
@@ -28,7 +29,7 @@ pub fn holds(
 }
 
 fn is_true(truth: Option<bool>) -> bool
-    ensures { result ≡ is_true_of truth }
+    ensures { result ≡ is_known_true truth }
 {
     match truth {
         Some(truth) => truth,

@@ -51,7 +51,8 @@ fn same_solutions(a: &[Option<Term>], b: &[Option<Term>]) -> bool
     true
 }
 
-fn same_places(a: &Option<Term>, b: &Option<Term>) -> bool
+/// Whether both are the same term, or neither is one.
+pub fn same_places(a: &Option<Term>, b: &Option<Term>) -> bool
     ensures { result ≡ option_eq term_eq a.now b.now }
 {
     match (a, b) {

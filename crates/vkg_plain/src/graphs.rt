@@ -2,9 +2,9 @@
 ghost use Rattle.std.specs.Prelude.{◌≡◌, ◌∷◌, IfOk, filter, filter_map, not};
 ghost use Rattle.std.specs.List.{list_any};
 ghost use Rattle.vkg_terms.specs.Same.{term_eq};
-ghost use Rattle.vkg_maps.specs.Dataset.{graph_eq};
 ghost use Rattle.vkg_algebra.specs.Evaluation.{graph_names as graph_names_of, graph_of as graph_in};
 
+use crate::distinct::same_places;
 use crate::quad::Quad;
 use std::alloc::Global;
 use vkg_base::{Items, Memory};
@@ -16,21 +16,11 @@ pub fn graph_of(alloc: Global, quads: &[Quad], graph: &Option<Term>) -> Result<I
 {
     let mut triples = Items::new(alloc);
     for quad in quads {
-        if same_graph(quad.graph(), graph) {
+        if same_places(quad.graph(), graph) {
             triples.push(quad.copy()?)?;
         }
     }
     Ok(triples)
-}
-
-fn same_graph(a: &Option<Term>, b: &Option<Term>) -> bool
-    ensures { result ≡ graph_eq a.now b.now }
-{
-    match (a, b) {
-        (None, None) => true,
-        (Some(a), Some(b)) => a.same(b),
-        _ => false,
-    }
 }
 
 /// The names of the named graphs that are not empty, each once.

@@ -24,7 +24,6 @@ mod quad;
 mod reader;
 mod rows;
 mod solution;
-mod tabs;
 mod truths;
 
 pub use answering::answer;

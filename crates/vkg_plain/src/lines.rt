@@ -1,15 +1,13 @@
 // The lines of solutions (SPARQL 1.1 Query Results CSV and TSV Formats, 4).
-ghost use Rattle.std.specs.Prelude.{◌≡◌, ◌∷◌, IfOk, map, slice_get, string_bytes};
-ghost use Rattle.std.specs.Option.{option_copied};
+ghost use Rattle.std.specs.Prelude.{◌≡◌, ◌∷◌, IfOk, map, string_bytes};
 ghost use Rattle.vkg_lists.specs.Ascending.{ascending};
 ghost use Rattle.vkg_sparql.specs.Seen.{query_seen};
-ghost use Rattle.vkg_algebra.specs.Answer.{header as header_of, place_text as text_of_place, solution_line as line_of_solution, variable_text as text_of_variable};
+ghost use Rattle.vkg_algebra.specs.Answer.{header as header_of, place_text as text_of_place, solution_line as line_of_solution};
 
 use crate::solution::Solution;
-use crate::tabs::tabbed;
 use std::alloc::Global;
-use vkg_algebra::{selected_variables, translate};
-use vkg_base::{Items, Lines, Memory, Text, at};
+use vkg_algebra::{header, tabbed};
+use vkg_base::{Items, Lines, Memory, Text};
 use vkg_sparql::Query;
 use vkg_terms::{Term, term_text};
 
@@ -21,40 +19,6 @@ pub fn solution_lines(alloc: Global, query: &Query, rows: &[Solution]) -> Result
     lines.push(header(alloc, query)?)?;
     lines.append(sorted_lines(alloc, rows)?)?;
     Ok(lines)
-}
-
-/// The selected variables, with tabs between them.
-fn header(alloc: Global, query: &Query) -> Result<String, Memory>
-    ensures { IfOk result (λ s. string_bytes s ≡ header_of (query_seen query.now)) }
-{
-    let algebra = translate(alloc, query)?;
-    let variables = selected_variables(alloc, query, &algebra)?;
-    let texts = variable_texts(alloc, query.names.as_slice(), variables.as_slice())?;
-    tabbed(alloc, texts.as_slice())
-}
-
-fn variable_texts(alloc: Global, names: &[Text], variables: &[usize]) -> Result<Items<Text>, Memory>
-    ensures { IfOk result (λ ts. ts ≡ map (λ v. text_of_variable (slice_get names.now v)) variables.now) }
-{
-    let mut texts = Items::new(alloc);
-    for variable in variables {
-        texts.push(variable_text(alloc, at(names, *variable))?)?;
-    }
-    Ok(texts)
-}
-
-/// A variable with its question mark.
-fn variable_text(alloc: Global, name: Option<&Text>) -> Result<Text, Memory>
-    ensures { IfOk result (λ t. t ≡ text_of_variable (option_copied name.entry)) }
-{
-    match name {
-        None => Text::new(alloc, ""),
-        Some(name) => {
-            let mut out = String::from_str(alloc, "?")?;
-            out.push_str(name.as_str())?;
-            Ok(Text::from_string(out))
-        }
-    }
 }
 
 fn sorted_lines(alloc: Global, rows: &[Solution]) -> Result<Lines, Memory>

@@ -49,7 +49,7 @@ fn known(term: &Term) -> Result<(), PlainFault>
 }
 
 /// The effective boolean value of what may be an error (17.2.2).
-#[tactic(auto, using(crate::proofs::Narrow::ebv_narrow))]
+#[tactic(auto, using(vkg_values::proofs::Narrow::ebv_narrow))]
 pub fn truth(alloc: Global, value: &Option<Term>) -> Result<Option<bool>, PlainFault>
     ensures { IfOk result (λ b. b ≡ truth_of_value value.now) }
 {
@@ -75,7 +75,7 @@ pub fn tested(
     }
 }
 
-#[tactic(auto, using(crate::proofs::Narrow::test_narrow))]
+#[tactic(auto, using(vkg_values::proofs::Narrow::test_narrow))]
 fn test_term(alloc: Global, test: Test, term: &Term) -> Result<bool, PlainFault>
     ensures { IfOk result (λ b. b ≡ test_value None test term.now) }
 {
@@ -123,7 +123,7 @@ fn compare_values(
     }
 }
 
-#[tactic(auto, using(crate::proofs::Narrow::compare_narrow))]
+#[tactic(auto, using(vkg_values::proofs::Narrow::compare_narrow))]
 fn compare_known(
     alloc: Global,
     compare: Compare,

@@ -1,14 +1,14 @@
 -- Kinds of lists of plans, from their first.
 use Rattle.std.proofs.Common.{◌≡◌, true, ◌&&◌, List, [], ◌∷◌, ◌++◌, refl, append_assoc, append-nil, ◌≤◌, ◌∙◌, ap, arith, get_or, length, map, sym}
-use Rattle.std.specs.Prelude.{Option, Some, None, option_map, if◌then◌else◌}
+use Rattle.std.proofs.Math.Bool.{and-false}
+use Rattle.std.specs.Prelude.{Option, Some, None, is_some, option_map, if◌then◌else◌}
 use Rattle.std.specs.Cmp.Lexicographic.{pointwise}
-use Rattle.vkg_cells.specs.declared.cell.SqlType.TheVariants as kind
 use Rattle.vkg_expr.specs.Typing.{same_kind}
 use Rattle.vkg_plan.specs.declared.plan.Plan.{Plan as PlanValue}
 use Rattle.vkg_plan.specs.Kinds.{Kinds, Tables, alike, are_alike, beside_all, is_alike, joined, kinds_of_each, plan_kinds, with_first}
 use Rattle.vkg_plan.specs.Plan.{plans}
 use Rattle.vkg_plan.specs.Seen.{plan_seen}
-use Rattle.vkg_expr.proofs.KindLists.{and_false, itself}
+use Rattle.vkg_expr.proofs.KindLists.{itself}
 
 pub themselves : (ks : Kinds) → pointwise same_kind ks ks ≡ true
 themselves [] = refl
@@ -16,7 +16,7 @@ themselves (k ∷ ks) = rw (itself k) (themselves ks)
 
 pub are_alike-more : (ks : Kinds) (a : Option Kinds) (o : Option (List Kinds)) → are_alike ks (with_first a o) ≡ (is_alike ks a && are_alike ks o)
 are_alike-more ks None o = refl
-are_alike-more ks (Some ls) None = rw and_false
+are_alike-more ks (Some ls) None = rw and-false
 are_alike-more ks (Some ls) (Some kss) = refl
 
 pub alike-more : (ks : Kinds) (o : Option (List Kinds)) → alike (with_first (Some ks) o) ≡ (if are_alike ks (with_first (Some ks) o) then Some ks else None)
@@ -27,6 +27,20 @@ pub beside_all-more : (a : Option Kinds) (o : Option (List Kinds)) → beside_al
 beside_all-more None o = refl
 beside_all-more (Some ks) None = refl
 beside_all-more (Some ks) (Some kss) = refl
+
+-- where these have kinds, their parts have
+pub first_some : (a : Option Kinds) (b : Option (List Kinds)) → is_some (with_first a b) ≡ true → (is_some a ≡ true) × (is_some b ≡ true)
+first_some (Some ks) (Some kss) e = (refl, refl)
+first_some (Some ks) None e = cc
+first_some None b e = cc
+
+pub beside_some : (o : Option (List Kinds)) → is_some (beside_all o) ≡ true → is_some o ≡ true
+beside_some None e = cc
+beside_some (Some kss) e = refl
+
+pub alike_some : (o : Option (List Kinds)) → is_some (alike o) ≡ true → is_some o ≡ true
+alike_some None e = cc
+alike_some (Some kss) e = refl
 
 -- some kinds, and those behind them, if they are there
 abbrev pub onto : Kinds → Option Kinds → Option Kinds

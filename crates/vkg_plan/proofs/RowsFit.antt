@@ -1,5 +1,5 @@
 -- The rows of a well-typed plan have a cell for each of its columns, NULL or of that column's kind.
-use Rattle.std.proofs.Common.{◌≡◌, zero, suc, Bool, true, false, not, List, [], ◌∷◌, ◌++◌, map, length, refl, sym, ap, subst, cond}
+use Rattle.std.proofs.Common.{◌≡◌, Bool, true, false, not, List, [], ◌∷◌, ◌++◌, map, length, refl, sym, ap, subst, cond}
 use Rattle.std.specs.Prelude.{IfSome, Option, Some, None, option_and_then, replicate, if◌then◌else◌}
 use Rattle.std.specs.List.{AllByRecursion, filter, flat_map, list_all}
 use Rattle.std.specs.Option.{option_map_or}
@@ -10,9 +10,10 @@ use Rattle.vkg_cells.specs.declared.cell.Cell.TheVariants as cell
 use Rattle.vkg_cells.specs.declared.cell.SqlType.TheVariants as kind
 use Rattle.vkg_schema.specs.Rows.{Database, Row}
 use Rattle.vkg_expr.proofs.ValueFits.{kind_same, null_fits, values-fit}
+use Rattle.vkg_expr.proofs.TypedParts.{fits_row, kinds-append}
 use Rattle.vkg_expr.specs.Expr.{Expr, exprs}
-use Rattle.vkg_expr.specs.Laws.{FitsRow, HasKinds}
-use Rattle.vkg_expr.specs.Typing.{fits, is_one, kind_of, kinds_of, same_kind}
+use Rattle.vkg_expr.specs.Laws.{HasKinds}
+use Rattle.vkg_expr.specs.Typing.{is_one, kind_of, kinds_of, same_kind}
 use Rattle.vkg_expr.specs.Value.{holds, values_of}
 use Rattle.vkg_plan.specs.Kinds.{Kinds, Tables, alike, beside_all, beside_two, checked, joined, kinds_of_each, plan_kinds, width, with_first}
 use Rattle.vkg_plan.specs.Laws.{HasRowsOf, HaveKinds, TablesFit}
@@ -36,18 +37,6 @@ All-filter P p (x ∷ xs) h = kept (p x) (All-filter P p xs h.1)
 pub All-map : {X Y : Type 0} (P : X → Type 0) (Q : Y → Type 0) (f : X → Y) → ((x : X) → P x → Q (f x)) → (xs : List X) → AllByRecursion P xs → AllByRecursion Q (map f xs)
 All-map P Q f g [] h = tt
 All-map P Q f g (x ∷ xs) h = (g x h.0, All-map P Q f g xs h.1)
-
-kinds-append : (ks ls : Kinds) (cs ds : Row) → HasKinds ks cs → HasKinds ls ds → HasKinds (ks ++ ls) (cs ++ ds)
-kinds-append [] ls [] ds h k = k
-kinds-append [] ls (c ∷ cs) ds h k = absurd h
-kinds-append (x ∷ ks) ls [] ds h k = absurd h
-kinds-append (x ∷ ks) ls (c ∷ cs) ds h k = (h.0, kinds-append ks ls cs ds h.1 k)
-
-pub fits_row : (ks : Kinds) (row : Row) → HasKinds ks row → FitsRow ks row
-fits_row [] row h at k e = cc
-fits_row (l ∷ ks) [] h at k e = absurd h
-fits_row (l ∷ ks) (c ∷ cs) h zero k e = subst (λ m. fits m c ≡ true) (same_Some l k e) h.0
-fits_row (l ∷ ks) (c ∷ cs) h (suc at) k e = fits_row ks cs h.1 at k e
 
 pairs-fit : (ks ls : Kinds) (xs ys : List Row) → HaveKinds ks xs → HaveKinds ls ys → HaveKinds (ks ++ ls) (pairs xs ys)
 pairs-fit ks ls [] ys h k = tt

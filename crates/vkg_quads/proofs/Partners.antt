@@ -1,12 +1,12 @@
 -- The partners of a row are among the rows of its key.
-use Rattle.std.proofs.Common.{◌≡◌, ℕ, refl, sym, ◌∙◌, ap, List, [], ◌∷◌, ◌++◌, map, flat_map, filter, Bool, true, false, cond, ◌&&◌, Option, Some, None}
+use Rattle.std.proofs.Common.{◌≡◌, ℕ, refl, sym, ◌∙◌, ap, List, [], ◌∷◌, ◌++◌, map, flat_map, filter, Bool, true, false, cond, Option, Some, None}
 use Rattle.std.specs.Prelude.{filter_map, slice_get, option_map}
 use Rattle.std.specs.List.{cons_option, list_all}
 use Rattle.std.specs.Str.{bytes_eq}
 use Rattle.std.proofs.lemmas.Slice.Eq.{bytes_eq-Decides}
 use Rattle.std.proofs.lemmas.List.Elements.{filter_map-append, filter-append}
 use Rattle.std.proofs.lemmas.List.{map-append}
-use Rattle.vkg_lists.proofs.Bools.{and_parts}
+use Rattle.vkg_lists.proofs.Bools.{and_parts, is_false}
 use Rattle.vkg_lists.proofs.Walks.{filter_absorbs}
 use Rattle.vkg_terms.specs.NQuads.{Quad, line}
 use Rattle.vkg_cells.specs.declared.cell.Cell.{Cell}
@@ -124,17 +124,13 @@ agree_keys (p ∷ ps) r s e =
     let k = agree_keys ps r s h.1 in
     (t.0 ++ k.0, ap (λ o. joined o (row_key r (map child ps))) t.1 ∙ ap (λ o. joined (Some t.0) o) k.1, ap (λ o. joined o (row_key s (map parent ps))) t.2 ∙ ap (λ o. joined (Some t.0) o) k.2)
 
-not_true : (b : Bool) → (b ≡ true → ⊥) → b ≡ false
-not_true true n = absurd (n refl)
-not_true false n = refl
-
 none_pass : {X : Type 0} (p : X → Bool) (xs : List X) → ((x : X) → p x ≡ false) → filter p xs ≡ []
 none_pass p [] h = refl
 none_pass p (x ∷ xs) h = ap (λ b. cond b (x ∷ filter p xs) (filter p xs)) (h x) ∙ none_pass p xs h
 
 -- a row without key has no partner
 pub no_partner : (ps : List (ℕ × ℕ)) (r : Row) (rows : List Row) → row_key r (map child ps) ≡ None → filter (agree ps r) rows ≡ []
-no_partner ps r rows e = none_pass (agree ps r) rows (λ s. not_true (agree ps r s) (λ a. let k = agree_keys ps r s a in let f : None ≡ Some k.0 = sym e ∙ k.1 in cc (f)))
+no_partner ps r rows e = none_pass (agree ps r) rows (λ s. is_false (agree ps r s) (λ a. let k = agree_keys ps r s a in let f : None ≡ Some k.0 = sym e ∙ k.1 in cc (f)))
 
 pub partners : (ps : List (ℕ × ℕ)) (r : Row) (rows : List Row) (key : List ℕ) → row_key r (map child ps) ≡ Some key → filter (agree ps r) (filter (has_key (map parent ps) key) rows) ≡ filter (agree ps r) rows
 partners ps r rows key e = filter_absorbs (agree ps r) (has_key (map parent ps) key) has rows

@@ -4,17 +4,17 @@ use Rattle.std.specs.Prelude.{IfErr, IfOk}
 use Rattle.std.specs.List.{Contains, enumerate_from}
 use Rattle.std.proofs.lemmas.Bool.{ltb-true, ltb-false}
 use Rattle.vkg_lists.proofs.Members.{Contains-none, Contains-here, Contains-there, Contains-cons_cases}
+use Rattle.vkg_lists.proofs.Results.{ok_err}
 use Rattle.vkg_turtle.specs.declared.triple.Triple.{Triple}
 use Rattle.vkg_schema.specs.declared.table.Table.{Table}
 use Rattle.vkg_maps.specs.declared.mapping.Mapping.{Mapping}
 use Rattle.vkg_maps.specs.declared.mapping.TriplesMap.{TriplesMap}
-use Rattle.vkg_maps.specs.QuadRules.{quad_rules}
+use Rattle.vkg_maps.specs.QuadRules.{quad_rules, rule_limit}
 use Rattle.vkg_r2rml.specs.declared.map_node.MapNode.{MapNode}
 use Rattle.vkg_r2rml.specs.declared.map_error.MapFault.{MapFault}
 use Rattle.vkg_r2rml.specs.declared.map_error.MapError.{MapError}
 use Rattle.vkg_r2rml.specs.declared.map_error.MapError.TheVariants.{Fault, Memory}
 use Rattle.vkg_r2rml.specs.Checked.{Checked}
-use Rattle.vkg_r2rml.specs.RuleCount.{rule_limit}
 use Rattle.vkg_r2rml.specs.TriplesMaps.{triples_maps}
 use Rattle.vkg_r2rml.specs.TriplesMap.{triples_map}
 use Rattle.vkg_r2rml.specs.Mapping.{fault, map_limit, in_front, in_order, of_maps, count_fault, counted, mapping_of, Fails as FailsOf}
@@ -22,9 +22,6 @@ use Rattle.vkg_r2rml.specs.Faults.{OnTriplesMap, Precedes, IsLeastFault, IsFault
 use Rattle.vkg_r2rml.proofs.Least.{AnswersLeast}
 use Rattle.vkg_r2rml.proofs.LeastFault.{on_triples_map}
 use Rattle.vkg_maps.proofs.LeastFault.{at_least}
-
-ok_err : {A E : Type 0} (a : A) (f : E) → ◌≡◌ {A = Result A E} (Ok a) (Err f) → ⊥
-ok_err a f e = cc
 
 front_err : (m : TriplesMap) (rest : Result (List TriplesMap) MapFault) (f : MapFault) → in_front m rest ≡ Err f → rest ≡ Err f
 front_err m (Ok ms) f e = absurd (ok_err (m ∷ ms) f e)

@@ -1,9 +1,11 @@
 -- The least check that fails, of parts that are put together.
 use Rattle.std.proofs.Common.{◌≡◌, ℕ, ◌≤◌, min, ◌⊎◌, inl, inr, ⊎_elim, refl, sym, ◌∙◌, ap, subst, List, map, Option, Some, None, Ok, Err, arith}
+use Rattle.std.proofs.lemmas.Option.{none-some}
 use Rattle.std.specs.List.{Contains, filter_map}
 use Rattle.vkg_lists.specs.Places.{least_of}
 use Rattle.vkg_lists.proofs.Places.{least_of-none, least_of-some}
 use Rattle.vkg_lists.proofs.Members.{Contains-map, Contains-from_map}
+use Rattle.vkg_lists.proofs.Results.{ok_err, ok_same}
 use Rattle.vkg_r2rml.specs.Checked.{Checked, both, all_of, and_then, fault_if_any, value_if_any, unless}
 use Rattle.vkg_r2rml.specs.Faults.{Fails, Among, After}
 
@@ -15,9 +17,6 @@ pub record AnswersLeast {A : Type 0} (P : ℕ → Type 0) (part : Checked A) : T
 -- a part by itself
 pub alone : {A : Type 0} (part : Checked A) → AnswersLeast (Fails part) part
 alone part = record { fails = λ check e. e; least = λ check e. (check, e, omega arith) }
-
-ok_err : {A : Type 0} (a : A) (c : ℕ) → ◌≡◌ {A = Checked A} (Ok a) (Err c) → ⊥
-ok_err a c e = cc
 
 err_err : {A : Type 0} (c d : ℕ) → ◌≡◌ {A = Checked A} (Err c) (Err d) → c ≡ d
 err_err c d e = cc
@@ -54,11 +53,8 @@ of_both {A} {B} P Q (Err c) (Err d) p q = record {
 pub of_then : {A B : Type 0} (P : ℕ → Type 0) (Q : A → ℕ → Type 0) (a : Checked A) (next : A → Checked B) → AnswersLeast P a → ((x : A) → a ≡ Ok x → AnswersLeast (Q x) (next x)) → AnswersLeast (λ check. P check ⊎ After a Q check) (and_then a next)
 of_then {A} P Q (Ok x) next p q = record {
   fails = λ check e. inr (x, refl, (q x refl).fails check e);
-  least = λ check h. ⊎_elim (λ i. let r = p.least check i in absurd (ok_err x r.0 r.1)) (λ j. (q x refl).least check (subst (λ y. Q y check) (sym (ok_ok x j.0 j.1)) j.2)) h;
+  least = λ check h. ⊎_elim (λ i. let r = p.least check i in absurd (ok_err x r.0 r.1)) (λ j. (q x refl).least check (subst (λ y. Q y check) (sym (ok_same x j.0 j.1)) j.2)) h;
 }
-  where
-    ok_ok : (x y : A) → ◌≡◌ {A = Checked A} (Ok x) (Ok y) → x ≡ y
-    ok_ok x y e = cc
 of_then {A} {B} P Q (Err c) next p q = record {
   fails = λ check e. inl (p.fails check (ap (λ n. Err n) (err_err {A = B} c check e)));
   least = λ check h. ⊎_elim (λ i. let r = p.least check i in let same : c ≡ r.0 = err_err {A = A} c r.0 r.1 in (c, refl, omega (arith, r.2, same))) (λ j. absurd (ok_err j.0 c (sym j.1))) h;
@@ -89,11 +85,8 @@ module _ {X A : Type 0} (P : X → ℕ → Type 0) (f : X → Checked A) (xs : L
     fails = λ check h. absurd (ok_err _ check h);
     least = λ check h.
         let r = (each h.0 h.1).least check h.2 in
-        absurd (none_some r.0 (sym (least_of-none fault_if_any (map f xs) e (f h.0) (Contains-map f xs h.0 h.1)) ∙ fault_of (f h.0) r.0 r.1));
+        absurd (none-some r.0 (sym (least_of-none fault_if_any (map f xs) e (f h.0) (Contains-map f xs h.0 h.1)) ∙ fault_of (f h.0) r.0 r.1));
   }
-    where
-      none_some : (n : ℕ) → ◌≡◌ {A = Option ℕ} None (Some n) → ⊥
-      none_some n e = cc
   among (Some c) e =
       let l = least_of-some fault_if_any (map f xs) c e in
       record {

@@ -4,7 +4,8 @@ use Rattle.std.specs.Prelude.{sum_by}
 use Rattle.vkg_maps.specs.declared.mapping.Mapping.{Mapping}
 use Rattle.vkg_maps.specs.declared.mapping.TriplesMap.{TriplesMap}
 use Rattle.vkg_r2rml.specs.declared.map_error.MapFault.{MapFault}
-use Rattle.vkg_r2rml.specs.RuleCount.{rule_limit, rules_of_map}
+use Rattle.vkg_maps.specs.QuadRules.{rule_limit}
+use Rattle.vkg_r2rml.specs.RuleCount.{rules_of_map}
 use Rattle.vkg_r2rml.specs.Mapping.{fault, of_maps}
 use Rattle.vkg_r2rml.proofs.RuleCount.{rule_count}
 

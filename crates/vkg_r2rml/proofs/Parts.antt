@@ -3,10 +3,8 @@ use Rattle.std.proofs.Common.{◌≡◌, ℕ, List, [], ◌∷◌, map, refl, sy
 use Rattle.std.specs.Prelude.{Option, Some, None, Ok, Err, filter_map, ok_or, fold, min}
 use Rattle.std.specs.List.{AllByRecursion, cons_option}
 use Rattle.vkg_lists.specs.Places.{least_of, lesser}
+use Rattle.vkg_lists.proofs.Results.{ok_same}
 use Rattle.vkg_r2rml.specs.Checked.{Checked, value_if_any, fault_if_any, both, unless, all_of, and_then}
-
-pub ok_same : {A : Type 0} (a b : A) → ◌≡◌ {A = Checked A} (Ok a) (Ok b) → a ≡ b
-ok_same a b e = cc
 
 module _ {A B : Type 0} where
   pub of_both : (a : Checked A) (b : Checked B) (p : A × B) → both a b ≡ Ok p → (a ≡ Ok p.0) × (b ≡ Ok p.1)

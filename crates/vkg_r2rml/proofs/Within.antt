@@ -6,6 +6,7 @@ use Rattle.std.specs.List.{AllByRecursion, AllZip}
 use Rattle.std.proofs.lemmas.List.{length-map}
 use Rattle.std.proofs.lemmas.Option.{slice_get-map, slice_get_within}
 use Rattle.vkg_lists.proofs.Tests.{nat_test}
+use Rattle.vkg_lists.proofs.Results.{ok_same}
 use Rattle.vkg_terms.specs.declared.term.Term.{Term}
 use Rattle.vkg_terms.specs.declared.term.Term.TheVariants.{Iri, Blank, Lit}
 use Rattle.vkg_terms.specs.declared.term.Annotation.TheVariants.{Plain, Lang, Typed}
@@ -20,7 +21,7 @@ use Rattle.vkg_maps.specs.declared.mapping.ObjectMap.TheVariants as object
 use Rattle.vkg_maps.specs.declared.mapping.PredicateObjectMap.{PredicateObjectMap}
 use Rattle.vkg_maps.specs.declared.mapping.TriplesMap.{TriplesMap}
 use Rattle.vkg_maps.specs.declared.term_map.TermMap.{TermMap}
-use Rattle.vkg_maps.specs.QuadRules.{parent_of as maps_parent_of, quad_rules}
+use Rattle.vkg_maps.specs.QuadRules.{parent_of as maps_parent_of, quad_rules, rule_limit}
 use Rattle.vkg_turtle.specs.declared.triple.Triple.{Triple}
 use Rattle.vkg_term_maps.specs.declared.place.Place.{Place}
 use Rattle.vkg_term_maps.specs.declared.place.Place.TheVariants.{Constant, Node}
@@ -36,14 +37,13 @@ use Rattle.vkg_r2rml.specs.declared.map_node.MapNode.{MapNode}
 use Rattle.vkg_r2rml.specs.Checked.{Checked, value_if_any, both, all_of, and_then, at_least_one, exactly_one, numbered, resource}
 use Rattle.vkg_r2rml.specs.LogicalTable.{source, table_named, table_of, table_of_node, table_of_text}
 use Rattle.vkg_r2rml.specs.Mapping.{count_fault, counted, fault, in_front, in_order, mapping_of, of_maps}
-use Rattle.vkg_r2rml.specs.RuleCount.{rule_limit}
 use Rattle.vkg_r2rml.specs.ReferencingMap.{columns_of, column_if_known, column_named, comparable, condition, conditions, family_at, no_term_map, parent_of, reference, referencing_map, side, table_of_parent}
 use Rattle.vkg_r2rml.specs.TriplesMap.{as_object, assembled, classes, classes_and_graphs, graph_maps, object_at_node, object_map, object_maps, objects_of, pair, pair_at, predicate_object_map, predicate_object_maps, predicates, subject, subject_at, term_map, term_maps, triples_map, triples_map_over}
 use Rattle.vkg_r2rml.specs.TriplesMaps.{map_node, nodes_of_maps, place_of, table_at, triples_maps}
 use Rattle.vkg_maps.specs.Within.{kinds_at, AreConditions, IsCondition, IsMapWithin, IsObjectWithin, IsOver, IsPairWithin, IsWithin}
 use Rattle.vkg_r2rml.specs.Within.{ReadIsWithin}
 use Rattle.vkg_term_maps.proofs.OverColumns.{over_read, place_within}
-use Rattle.vkg_r2rml.proofs.Parts.{of_all, of_both, of_first, of_option, of_then, ok_same}
+use Rattle.vkg_r2rml.proofs.Parts.{of_all, of_both, of_first, of_option, of_then}
 
 -- ---- columns and kinds
 

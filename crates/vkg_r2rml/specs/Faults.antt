@@ -7,7 +7,7 @@ use Rattle.vkg_turtle.specs.declared.triple.Triple.{Triple}
 use Rattle.vkg_schema.specs.declared.table.Table.{Table}
 use Rattle.vkg_schema.specs.declared.table.Column.{Column}
 use Rattle.vkg_maps.specs.declared.mapping.TriplesMap.{TriplesMap}
-use Rattle.vkg_maps.specs.QuadRules.{quad_rules}
+use Rattle.vkg_maps.specs.QuadRules.{quad_rules, rule_limit}
 use Rattle.vkg_term_maps.specs.declared.place.Role.{Role}
 use Rattle.vkg_term_maps.specs.declared.place.Role.TheVariants.{Subject, Predicate, Object, Graph}
 use Rattle.vkg_term_maps.specs.declared.place.Place.{Place}
@@ -22,7 +22,6 @@ use Rattle.vkg_r2rml.specs.Checked.{Checked, both, all_of, exactly_one, at_least
 use Rattle.vkg_r2rml.specs.ReferencingMap.{no_term_map, parent_of, table_of_parent, columns_of, column_if_known, side, comparable, same_table}
 use Rattle.vkg_r2rml.specs.TriplesMap.{term_map, class}
 use Rattle.vkg_r2rml.specs.TriplesMaps.{triples_maps}
-use Rattle.vkg_r2rml.specs.RuleCount.{rule_limit}
 use Rattle.vkg_r2rml.specs.Mapping.{fault, map_limit}
 
 -- ---- which check fails, of parts that are looked at one by one

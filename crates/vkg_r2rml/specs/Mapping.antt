@@ -4,13 +4,12 @@ use Rattle.vkg_turtle.specs.declared.triple.Triple.{Triple}
 use Rattle.vkg_schema.specs.declared.table.Table.{Table}
 use Rattle.vkg_maps.specs.declared.mapping.Mapping.{Mapping}
 use Rattle.vkg_maps.specs.declared.mapping.TriplesMap.{TriplesMap}
-use Rattle.vkg_maps.specs.QuadRules.{quad_rules}
+use Rattle.vkg_maps.specs.QuadRules.{quad_rules, rule_limit}
 use Rattle.vkg_r2rml.specs.declared.map_error.MapFault.{MapFault}
 use Rattle.vkg_r2rml.specs.declared.map_error.MapError.{MapError}
 use Rattle.vkg_r2rml.specs.declared.map_error.MapError.TheVariants.{Fault, Memory}
 use Rattle.vkg_r2rml.specs.declared.map_node.MapNode.{MapNode}
 use Rattle.vkg_r2rml.specs.Checked.{Checked}
-use Rattle.vkg_r2rml.specs.RuleCount.{rule_limit}
 use Rattle.vkg_r2rml.specs.TriplesMaps.{triples_maps}
 use Rattle.vkg_r2rml.specs.TriplesMap.{triples_map}
 

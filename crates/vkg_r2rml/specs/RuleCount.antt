@@ -5,10 +5,6 @@ use Rattle.vkg_maps.specs.declared.mapping.TriplesMap.{TriplesMap}
 use Rattle.vkg_maps.specs.declared.mapping.PredicateObjectMap.{PredicateObjectMap}
 use Rattle.vkg_maps.specs.QuadRules.{targets}
 
--- own: a mapping has at most so many quad rules
-abbrev pub rule_limit : ℕ
-rule_limit = 4096
-
 -- R2RML, 6.3: one for each predicate, object and graph
 abbrev pub rules_of_pair : List TermMap → PredicateObjectMap → ℕ
 rules_of_pair graphs po = length po.predicates * length po.objects * length (targets (graphs ++ po.graphs))

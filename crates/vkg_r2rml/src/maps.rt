@@ -175,16 +175,6 @@ fn node_text(alloc: Global, node: &Term) -> Result<String, Memory>
     ensures own { IfOk result (λ text. IsOnlyTerm node.now (string_bytes text)) }
     ensures utf8 { IfOk result (λ _. HoldsText node.now) }
 {
-    let _form = form_of(node);
+    let _name = node.name();
     term_text(alloc, node)
-}
-
-fn form_of(term: &Term) -> &str
-    ensures { HoldsText term.now }
-{
-    match term {
-        Term::Iri(iri) => iri.as_str(),
-        Term::Blank(label) => label.as_str(),
-        Term::Lit(text, _) => text.as_str(),
-    }
 }

@@ -1,8 +1,8 @@
 // Whether a mapping has more quad rules than it may have.
 ghost use Rattle.std.specs.Prelude.{◌≡◌, ◌≤◌, ◌*◌, ◌-◌, ◌+◌, ◌++◌, nat_lt, sum_by, length};
 ghost use Rattle.std.specs.Option.{SomeIff};
-ghost use Rattle.vkg_maps.specs.QuadRules.{targets};
-ghost use Rattle.vkg_r2rml.specs.RuleCount.{rule_limit, rules_of_pair, rules_of_pairs, rules_of_map};
+ghost use Rattle.vkg_maps.specs.QuadRules.{rule_limit, targets};
+ghost use Rattle.vkg_r2rml.specs.RuleCount.{rules_of_pair, rules_of_pairs, rules_of_map};
 
 use vkg_maps::{PredicateObjectMap, TermMap, TriplesMap};
 

@@ -1,5 +1,4 @@
 pub mod Answered
-pub mod Joined
 pub mod Permuted
 pub mod RowLists
 pub mod Typed

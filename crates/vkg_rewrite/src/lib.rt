@@ -12,7 +12,6 @@
 mod answer;
 mod lines;
 mod rewriting;
-mod tabs;
 
 pub use answer::answer_lines;
 pub use lines::result_lines;

@@ -1,9 +1,10 @@
 -- Without a data error each term map of each row makes its term or none.
-use Rattle.std.proofs.Common.{◌≡◌, ◌∙◌, ℕ, ◌+◌, ⊎_elim, List, [], ◌∷◌, ◌++◌, map, refl, sym, ap, subst}
+use Rattle.std.proofs.Common.{◌≡◌, ◌∙◌, ℕ, ◌+◌, ⊎_elim, List, [], ◌∷◌, ◌++◌, refl, sym, ap, subst}
 use Rattle.std.specs.Prelude.{Some, Contains, flat_map}
 use Rattle.std.specs.List.{enumerate_from}
 use Rattle.vkg_lists.proofs.Members.{Contains-none, Contains-here, Contains-there, Contains-cons_cases}
 use Rattle.vkg_schema.specs.Rows.{Database, Row, rows_of}
+use Rattle.vkg_schema.proofs.Found.{map_none}
 use Rattle.vkg_maps.specs.declared.mapping.Mapping.{Mapping}
 use Rattle.vkg_maps.specs.declared.mapping.TriplesMap.{TriplesMap}
 use Rattle.vkg_maps.specs.declared.term_map.TermMap.{TermMap}
@@ -29,10 +30,6 @@ module _ {A : Type 0} where
       (Contains-cons_cases y ys x c)
 
 module _ {A B : Type 0} where
-  no_image : (f : A → B) (xs : List A) → map f xs ≡ [] → xs ≡ []
-  no_image f [] e = refl
-  no_image f (x ∷ xs) e = cc
-
   each_nothing : (f : A → List B) (xs : List A) → flat_map f xs ≡ [] → (x : A) → Contains xs x → f x ≡ []
   each_nothing f [] e x c = absurd (Contains-none x c)
   each_nothing f (y ∷ ys) e x c = ⊎_elim
@@ -49,4 +46,4 @@ all_made mapping db e m c t d row r =
     let of_map = each_nothing (map_faults mapping.base db) (enumerate_from 1 mapping.maps) e (k.0, m) k.1 in
     let of_row = each_nothing (row_faults mapping.base (term_maps m) k.0) (enumerate_from 1 (rows_of db m.table)) of_map (n.0, row) n.1 in
     let of_term = each_nothing (faults_at mapping.base k.0 (n.0, row)) (enumerate_from 0 (term_maps m)) of_row (i.0, Some t) i.1 in
-    no_image (fault_at k.0 n.0 i.0) (term_faults mapping.base row (Some t)) of_term
+    map_none (fault_at k.0 n.0 i.0) (term_faults mapping.base row (Some t)) of_term

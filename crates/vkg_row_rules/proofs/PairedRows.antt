@@ -1,7 +1,8 @@
 -- Two rows behind each other: what is made of the first, and of the second.
-use Rattle.std.proofs.Common.{◌≡◌, ◌∙◌, ℕ, zero, suc, ◌+◌, ◌<◌, Bool, false, ◌&&◌, List, [], ◌∷◌, ◌++◌, map, length, refl, ap, arith}
-use Rattle.std.specs.Prelude.{Option, Some, None, option_map, unwrap_or, flat_map}
+use Rattle.std.proofs.Common.{◌≡◌, ◌∙◌, ℕ, ◌+◌, ◌<◌, ◌&&◌, List, [], ◌∷◌, ◌++◌, map, length, refl, ap, arith}
+use Rattle.std.specs.Prelude.{Some, option_map, flat_map}
 use Rattle.std.specs.List.{list_all, AllByRecursion}
+use Rattle.vkg_expr.proofs.ReadBack.{truth_back}
 use Rattle.vkg_terms.specs.declared.term.Term.TheVariants as term
 use Rattle.vkg_terms.specs.Safe.{safe}
 use Rattle.vkg_terms.specs.Label.{blank_label}
@@ -9,12 +10,13 @@ use Rattle.vkg_cells.specs.Form.{lexical_form, joined}
 use Rattle.vkg_cells.specs.Order.{same}
 use Rattle.vkg_schema.specs.Meets.{Below}
 use Rattle.vkg_schema.specs.Rows.{Row, cell_at, equal_at, agree, is_known_true}
+use Rattle.vkg_schema.proofs.RowCells.{cell_at-left, cell_at-right}
 use Rattle.vkg_maps.specs.declared.term_map.TermMap.{TermMap}
 use Rattle.vkg_maps.specs.declared.term_map.TermMap.TheVariants as from
 use Rattle.vkg_maps.specs.declared.term_map.Piece.{Piece as TemplatePiece}
 use Rattle.vkg_maps.specs.declared.term_map.Piece.TheVariants as piece
 use Rattle.vkg_maps.specs.declared.term_map.TermType.{TermType}
-use Rattle.vkg_maps.specs.Terms.{term_of as term_made, where_value, template_value, piece_text, put, against}
+use Rattle.vkg_maps.specs.Terms.{term_of as term_made, where_value, template_value, put, against}
 use Rattle.vkg_expr.specs.declared.term_expr.Piece.{Piece}
 use Rattle.vkg_expr.specs.declared.term_expr.Piece.TheVariants.{Chars, Hole}
 use Rattle.vkg_expr.specs.declared.term_expr.Sort.{Sort}
@@ -23,21 +25,9 @@ use Rattle.vkg_expr.specs.declared.term_expr.TermExpr.{TermExpr}
 use Rattle.vkg_expr.specs.declared.term_expr.TermExpr.TheVariants.{Fixed, Made, Resolved}
 use Rattle.vkg_expr.specs.Expr.{Expr, Col, Same, exprs}
 use Rattle.vkg_expr.specs.TermExprs.{made, moved_piece, moved_term, piece_expr, pieces_expr, term_expr}
-use Rattle.vkg_expr.specs.Value.{value_of, values_of, truth_of, truth_cell, holds}
+use Rattle.vkg_expr.specs.Value.{value_of, values_of, holds}
 use Rattle.vkg_expr.specs.Value as value
 use Rattle.vkg_maps.specs.Within.{piece_columns, term_columns}
-
--- ---- cells
-
-pub cell_before : (r s : Row) (at : ℕ) → at < length r → cell_at (r ++ s) at ≡ cell_at r at
-cell_before [] s at l = absurd (let n : at < 0 = l in omega (arith, n))
-cell_before (c ∷ cs) s zero l = refl
-cell_before (c ∷ cs) s (suc at) l = cell_before cs s at (omega (arith, l))
-
-pub cell_behind : (r s : Row) (at n : ℕ) → n ≡ at + length r → cell_at (r ++ s) n ≡ cell_at s at
-cell_behind [] s at n e = ap (cell_at s) (let f : n ≡ at = omega (arith, e) in f)
-cell_behind (c ∷ cs) s at zero e = absurd (let f : ⊥ = omega (arith, e) in f)
-cell_behind (c ∷ cs) s at (suc n) e = cell_behind cs s at n (omega (arith, e))
 
 -- ---- of the first
 
@@ -46,19 +36,19 @@ module _ (r s : Row) where
   pieces_before t [] h = refl
   pieces_before t (piece.Fixed text ∷ ps) h = ap (joined (Some text)) (pieces_before t ps h)
   pieces_before t (piece.Column c ∷ ps) h =
-      ap (λ d. joined (option_map (put t) (lexical_form d)) (template_value t (r ++ s) ps)) (cell_before r s c h.0)
+      ap (λ d. joined (option_map (put t) (lexical_form d)) (template_value t (r ++ s) ps)) (cell_at-left r s c h.0)
       ∙ ap (joined (option_map (put t) (lexical_form (cell_at r c)))) (pieces_before t ps h.1)
 
   pub term_before : (base : List ℕ) (t : TermMap) → Below (length r) (term_columns t) → term_made base t (r ++ s) ≡ term_made base t r
   term_before base (from.Constant term) h = refl
-  term_before base (from.Column c t) h = ap (λ d. where_value t (option_map (against base t) (lexical_form d))) (cell_before r s c h.0)
+  term_before base (from.Column c t) h = ap (λ d. where_value t (option_map (against base t) (lexical_form d))) (cell_at-left r s c h.0)
   term_before base (from.Template ps t) h = ap (where_value t) (pieces_before t ps h)
 
 -- ---- of the second
 
 module _ (r s : Row) (n : ℕ) (width : n ≡ length r) where
   moved_cell : (at : ℕ) → cell_at (r ++ s) (at + n) ≡ cell_at s at
-  moved_cell at = cell_behind r s at (at + n) (omega (arith, width))
+  moved_cell at = cell_at-right r s (at + n) at (omega (arith, width))
 
   piece_behind : (k : Sort) (p : Piece) → value_of (piece_expr k (moved_piece n p)) (r ++ s) ≡ value_of (piece_expr k p) s
   piece_behind OfIri (Chars text) = refl
@@ -90,15 +80,11 @@ module _ (r s : Row) (n : ℕ) (width : n ≡ length r) where
 
   -- ---- join conditions
 
-  same_known : (o : Option Bool) → unwrap_or (truth_of (truth_cell o)) false ≡ is_known_true o
-  same_known None = refl
-  same_known (Some b) = refl
-
   condition_holds : (c : ℕ × ℕ) → c.0 < length r → holds (Same (Col c.0) (Col (c.1 + n))) (r ++ s) ≡ equal_at r s c
   unfolding equal_at
   condition_holds c l =
-      same_known (same (cell_at (r ++ s) c.0) (cell_at (r ++ s) (c.1 + n)))
-      ∙ ap (λ d. is_known_true (same d (cell_at (r ++ s) (c.1 + n)))) (cell_before r s c.0 l)
+      ap is_known_true (truth_back (same (cell_at (r ++ s) c.0) (cell_at (r ++ s) (c.1 + n))))
+      ∙ ap (λ d. is_known_true (same d (cell_at (r ++ s) (c.1 + n)))) (cell_at-left r s c.0 l)
       ∙ ap (λ d. is_known_true (same (cell_at r c.0) d)) (moved_cell c.1)
 
   pub conditions_hold : (cs : List (ℕ × ℕ)) → AllByRecursion (λ (c : ℕ × ℕ). c.0 < length r) cs →

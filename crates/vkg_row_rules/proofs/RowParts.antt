@@ -1,5 +1,5 @@
 -- The rows of a rule over rows, and what its terms are there.
-use Rattle.std.proofs.Common.{◌≡◌, ◌∙◌, ℕ, List, [], ◌∷◌, ◌++◌, map, length, refl, sym, ap, subst}
+use Rattle.std.proofs.Common.{◌≡◌, ◌∙◌, ℕ, List, [], ◌++◌, map, length, sym, ap, subst, append-nil}
 use Rattle.std.specs.Prelude.{Option, Some, None, Contains}
 use Rattle.std.specs.List.{list_all}
 use Rattle.vkg_lists.proofs.Members.{Contains-from_filter, Contains-from_flat_map, Contains-from_map}
@@ -16,7 +16,7 @@ use Rattle.vkg_row_rules.specs.RowDataset.{conditions, rule_rows, term_at}
 use Rattle.vkg_row_rules.specs.RowRules.{object_term}
 use Rattle.vkg_row_rules.specs.RowTerms.{row_term}
 use Rattle.vkg_row_rules.proofs.RowTermValues.{row_term_value}
-use Rattle.vkg_row_rules.proofs.RuleQuads.{IsFine, IsSound, before, behind}
+use Rattle.vkg_row_rules.proofs.RuleQuads.{IsFine, IsSound, before, behind, rule}
 use Rattle.vkg_row_rules.proofs.SoundRules.{OfGraph, object_table}
 use Rattle.vkg_maps.specs.Within.{kinds_at}
 
@@ -38,10 +38,6 @@ module _ (base : List ℕ) (schema : Tables) (db : Database) where
     pub object : term_at (object_term base schema (kinds_at schema rule.table) rule.join rule.object) row ≡ term_if_any (term_made base rule.object other)
     pub graph : GraphIs (kinds_at schema rule.table) rule.graph row child
 
-  append_nil : (row : Row) → row ≡ row ++ []
-  append_nil [] = refl
-  append_nil (c ∷ cs) = ap (λ r. c ∷ r) (append_nil cs)
-
   graph_of : (table : ℕ) (g : Option TermMap) (row : Row) → Contains (table_rows db table) row → OfGraph (IsFine base schema db table) g → GraphIs (kinds_at schema table) g row row
   graph_of table None row c h = tt
   graph_of table (Some g) row c h = row_term_value base (kinds_at schema table) g row (h.made row c)
@@ -51,17 +47,15 @@ module _ (base : List ℕ) (schema : Tables) (db : Database) where
   graph_before table r s width (Some g) c h = before base (kinds_at schema table) r s width g h.over (h.made r c)
 
   module _ (table : ℕ) (subject predicate object : TermMap) (graph : Option TermMap) where
-    abbrev rule : Option Join → QuadRule
-    rule join = record { table = table; join = join; subject = subject; predicate = predicate; object = object; graph = graph }
-
-    parts_of : (join : Option Join) → IsSound base schema db (rule join) → (row : Row) → Contains (rule_rows schema db table join) row → HasParts (rule join) row
+    parts_of : (join : Option Join) → IsSound base schema db (rule base schema db table subject predicate object graph join) → (row : Row) → Contains (rule_rows schema db table join) row
+        → HasParts (rule base schema db table subject predicate object graph join) row
     parts_of None h row c = record {
       child = row;
       other = row;
       behind_child = [];
       of_child = c;
       of_other = c;
-      whole = append_nil row;
+      whole = sym (append-nil row);
       subject = row_term_value base (kinds_at schema table) subject row (h.terms.subject.made row c);
       predicate = row_term_value base (kinds_at schema table) predicate row (h.terms.predicate.made row c);
       object = row_term_value base (kinds_at schema table) object row (h.terms.object.made row c);

@@ -23,21 +23,14 @@ use Rattle.vkg_maps.specs.Terms.{Made, term_of as term_made, term_if_any, term_f
 use Rattle.vkg_maps.specs.Terms as maps
 use Rattle.vkg_expr.specs.Expr.{Expr, Col, Lex, IriOf, exprs}
 use Rattle.vkg_expr.specs.TermExprs.{made, piece_expr, pieces_expr}
-use Rattle.vkg_expr.specs.Value.{value_of, values_of, term_of, text_of, term_cell, text_cell, concat_of, against}
+use Rattle.vkg_expr.specs.Value.{value_of, values_of, term_of, text_of, text_cell, concat_of, against}
+use Rattle.vkg_expr.proofs.ReadBack.{term_back, text_back}
 use Rattle.vkg_row_rules.specs.RowDataset.{term_at}
 use Rattle.vkg_row_rules.specs.RowTerms.{piece_of, row_term, sort_of}
 
 -- no data error
 abbrev pub IsMade : Made → Type 0
 IsMade m = fault_of m ≡ []
-
-text_back : (o : Option (List ℕ)) → text_of (text_cell o) ≡ o
-text_back None = refl
-text_back (Some s) = refl
-
-pub term_back : (o : Option Term) → term_of (term_cell o) ≡ o
-term_back None = refl
-term_back (Some t) = refl
 
 same_text : (o : Option (List ℕ)) → o ≡ option_map (λ s. s) o
 same_text None = refl

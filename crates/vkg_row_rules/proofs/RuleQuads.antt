@@ -79,7 +79,7 @@ graph_before base schema db table r s width None c h = refl
 graph_before base schema db table r s width (Some g) c h = ap (option_map graph_name) (before base (kinds_at schema table) r s width g h.over (h.made r c))
 
 module _ (base : List ℕ) (schema : Tables) (db : Database) (table : ℕ) (subject predicate object : TermMap) (graph : Option TermMap) where
-  abbrev rule : Option Join → QuadRule
+  abbrev pub rule : Option Join → QuadRule
   rule join = record { table = table; join = join; subject = subject; predicate = predicate; object = object; graph = graph }
 
   abbrev ks : List SqlType

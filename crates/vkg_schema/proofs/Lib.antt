@@ -5,5 +5,6 @@ pub mod Found
 pub mod One
 pub mod OwnNames
 pub mod Ranges
+pub mod RowCells
 pub mod Targets
 pub mod WellFormed

@@ -19,6 +19,7 @@ use Rattle.vkg_ddl.specs.NameChecks.{matches, column_place, one_place, one_colum
 use Rattle.vkg_ddl.specs.TypeChecks.{column_kind}
 use Rattle.vkg_ddl.specs.ReferenceChecks.{targets_in, are_columns, columns_fault, same_columns, are_key, key_fault, at_target, family_of, family_named, over_families, family_fault, family_at_target}
 use Rattle.vkg_lists.proofs.Members.{each_from_recursion}
+use Rattle.vkg_lists.proofs.Walks.{map-map}
 use Rattle.vkg_schema.specs.declared.table.Reference.{Reference}
 use Rattle.vkg_schema.specs.Meets.{same_columns as same_places, child_columns, parent_columns, RefersTo, Comparable, IsReference}
 use Rattle.vkg_schema.specs.Resolve.{column_at, columns_at, place_of, places_of, key_at, keys_at, table_place, place_at, pair_at, pairs_at, pairs_to, reference_at, table_at, schema_of}
@@ -34,10 +35,6 @@ by_place g h a (x ∷ xs) e =
     let first : g a ≡ h x = ap g z ∙ e 0 x refl in
     let rest : map g (range_with_len (a + 1) (length xs)) ≡ map h xs = by_place g h (a + 1) xs (λ k y q. let s : a + 1 + k ≡ a + suc k = omega arith in ap g s ∙ e (suc k) y q) in
     (λ i. first i ∷ rest i)
-
-map_after : {A B C : Type 0} (g : B → C) (f : A → B) (xs : List A) → map g (map f xs) ≡ map (λ x. g (f x)) xs
-map_after g f [] = refl
-map_after g f (x ∷ xs) = ap (λ l. g (f x) ∷ l) (map_after g f xs)
 
 one_same : (columns : List WrittenColumn) (a b : Name) → one_column columns a b ≡ true → nat_eq (place_of columns a) (place_of columns b) ≡ true
 one_same columns a b e = go (column_place columns a) (column_place columns b) e
@@ -125,7 +122,7 @@ module _ (tables : List WrittenTable) (t u : WrittenTable) (r : WrittenReference
 
   parents_are : parent_columns plain ≡ places_of u.columns right
   parents_are =
-      map_after (λ p. p.1) (pair_at t.columns u.columns r.columns right) (range_with_len 0 (length r.columns))
+      map-map (λ p. p.1) (pair_at t.columns u.columns r.columns right) (range_with_len 0 (length r.columns))
       ∙ ap (λ n. map (λ k. place_at u.columns (slice_get right k)) (range_with_len 0 n)) (sym is_right.size)
       ∙ by_place (λ k. place_at u.columns (slice_get right k)) (place_of u.columns) 0 right (λ k n e. let z : 0 + k ≡ k = omega arith in ap (λ j. place_at u.columns (slice_get right j)) z ∙ ap (place_at u.columns) e)
 

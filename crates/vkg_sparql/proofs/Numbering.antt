@@ -6,6 +6,7 @@ use Rattle.std.specs.Str.{bytes_eq}
 use Rattle.std.proofs.lemmas.Bool.{lt-ltb}
 use Rattle.std.proofs.lemmas.List.Folds.{list_any-append}
 use Rattle.std.proofs.lemmas.Slice.Eq.{bytes_eq-Decides}
+use Rattle.std.proofs.Math.Bool.{or-true}
 use Rattle.vkg_sparql.specs.declared.lexeme.Lexeme.{Lexeme}
 use Rattle.vkg_sparql.specs.declared.names.Named.{Named}
 use Rattle.vkg_sparql.specs.Lexemes.{key_of, name_of, named_of, number_in, with_key, with_new_key}
@@ -74,12 +75,8 @@ module _ (key : List ℕ) where
   kept_on [] named h = h
   kept_on (x ∷ xs) named h = kept_on xs (step named x) (kept (key_of x) named x h)
 
-  either_true : (b : Bool) → (b || true) ≡ true
-  either_true true = refl
-  either_true false = refl
-
   added : (keys : List (List ℕ)) → list_any (bytes_eq key) (keys ++ key ∷ []) ≡ true
-  added keys = list_any-append (bytes_eq key) keys (key ∷ []) ∙ ap (λ b. list_any (bytes_eq key) keys || (b || false)) ((bytes_eq-Decides key key).1 refl) ∙ either_true (list_any (bytes_eq key) keys)
+  added keys = list_any-append (bytes_eq key) keys (key ∷ []) ∙ ap (λ b. list_any (bytes_eq key) keys || (b || false)) ((bytes_eq-Decides key key).1 refl) ∙ or-true (list_any (bytes_eq key) keys)
 
   known_if : (b : Bool) (named : Named) (x : Lexeme) → list_any (bytes_eq key) named.keys ≡ b → Known key (if b then named else with_new_key named key x)
   known_if true named x e = e

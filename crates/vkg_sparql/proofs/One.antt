@@ -1,12 +1,10 @@
 -- There is one answer.
-use Rattle.std.proofs.Common.{◌≡◌, ℕ, List, [], ◌∷◌, Result, Ok, Err, Option, Some, None, ap, sym, ◌∙◌, subst}
-use Rattle.vkg_grammar.specs.declared.note.Note.{Note}
+use Rattle.std.proofs.Common.{◌≡◌, ℕ, List, [], Ok, Option, Some, None, ap, sym, ◌∙◌, subst}
+use Rattle.std.proofs.lemmas.Option.{same_Some}
 use Rattle.vkg_grammar.specs.Form.{IsTooDeep, IsShallow}
-use Rattle.vkg_grammar.specs.Grammar.{Derives}
 use Rattle.vkg_grammar.specs.Kinds.{kinds_of, start_at}
 use Rattle.vkg_grammar.specs.OneTree.{IsTheTree}
 use Rattle.vkg_grammar.specs.Parsing.{IsFirstDead, IsCutOff}
-use Rattle.vkg_grammar.specs.Trees.{Tree}
 use Rattle.vkg_grammar.proofs.Outcomes.{same_tokens, same_place, not_tokens, alive_text, not_cut, not_deep, one_dead, one_deep}
 use Rattle.vkg_grammar.proofs.Same.{tree_derives}
 use Rattle.vkg_tokens.specs.declared.cutting.Token.{Token}
@@ -69,9 +67,6 @@ dead_or_short x y =
 
 -- ---- one answer
 
-one_check : {o : Option QueryFault} {f g : QueryFault} → o ≡ Some f → o ≡ Some g → f ≡ g
-one_check e f = cc
-
 one_value : (text base : List ℕ) (q other : Query) → IsQueryText text base q → IsQueryText text base other → q ≡ other
 one_value text base q other a b = a.is ∙ ap query_of (one_said a.says b.says) ∙ sym b.is
 
@@ -119,7 +114,7 @@ one_fault text base f g (checked s u e q) (no_token v d) = absurd (not_tokens e.
 one_fault text base f g (checked s u e q) (too_deep v d) = absurd (said_deep e d)
 one_fault text base f g (checked s u e q) (dead v d) = absurd (said_dead e d)
 one_fault text base f g (checked s u e q) (cut_off v d p) = absurd (said_short e d)
-one_fault text base f g (checked s u e q) (checked r v d p) = one_check q (ap fault_of (one_said e d) ∙ p)
+one_fault text base f g (checked s u e q) (checked r v d p) = same_Some f g (sym q ∙ ap fault_of (one_said e d) ∙ p)
 
 pub determined : IsDetermined
 determined = record {

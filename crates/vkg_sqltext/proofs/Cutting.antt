@@ -3,16 +3,16 @@ use Rattle.std.proofs.Common.{◌≡◌, ◌≢◌, ◌∙◌, ℕ, ◌<◌, ◌
 use Rattle.std.specs.Prelude.{IsUtf8, chars, decimal}
 use Rattle.std.specs.List.{list_all}
 use Rattle.std.specs.Str.Parse.{AllDigits, digits_value}
-use Rattle.std.proofs.Math.Utf8.{encode, encodes}
+use Rattle.std.proofs.Math.Utf8.{encode}
 use Rattle.std.proofs.lemmas.Bool.{eq-eqb}
 use Rattle.std.proofs.lemmas.Bool.Decides.{nat_tests}
 use Rattle.std.proofs.lemmas.Fmt.{decimal_is_IsNumeral}
-use Rattle.std.proofs.lemmas.Str.{encode_same, encodes-chars}
+use Rattle.std.proofs.lemmas.Str.{encode_same}
 use Rattle.std.proofs.lemmas.Str.Parse.{tells_digits}
 use Rattle.vkg_lists.proofs.Bools.{and_parts, and_true}
 use Rattle.vkg_terms.proofs.Octets.{head_same, tail_same}
 use Rattle.vkg_sqltext.specs.Text.{doubled, quoted}
-use Rattle.vkg_terms.proofs.TextLemmas.{starts}
+use Rattle.vkg_terms.proofs.TextLemmas.{chars_same, starts}
 
 -- it does not go on with a byte of this kind
 abbrev pub stops : (ℕ → Bool) → List ℕ → Bool
@@ -119,9 +119,6 @@ module _ (sign : ℕ) (small : sign < 128) where
       (sym (append_assoc (doubled sign c) (flat_map (doubled sign) cs) (sign ∷ x)) ∙ same ∙ append_assoc (doubled sign d) (flat_map (doubled sign) ds) (sign ∷ y)) in
       let more = body_same cs ds x y s t one.1 in
       ((λ i. one.0 i ∷ more.0 i), more.1)
-
-  chars_same : (a b : List ℕ) → IsUtf8 a → IsUtf8 b → chars a ≡ chars b → a ≡ b
-  chars_same a b u v e = sym (encodes-chars a u) ∙ ap encodes e ∙ encodes-chars b v
 
   pub within_same : (a b x y : List ℕ) → IsUtf8 a → IsUtf8 b → stops is_sign x ≡ true → stops is_sign y ≡ true
       → (flat_map (doubled sign) (chars a) ++ sign ∷ []) ++ x ≡ (flat_map (doubled sign) (chars b) ++ sign ∷ []) ++ y → (a ≡ b) × (x ≡ y)

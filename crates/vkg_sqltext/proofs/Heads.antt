@@ -1,8 +1,9 @@
 -- The text of an expression begins with a word, and the word tells its form.
-use Rattle.std.proofs.Common.{◌≡◌, ◌∙◌, ℕ, ◌<◌, ◌^◌, ◌==◌, ◌&&◌, Bool, true, false, if◌then◌else◌, zero, suc, List, [], ◌∷◌, ◌++◌, flat_map, refl, sym, ap, arith, append_assoc, nat_le}
+use Rattle.std.proofs.Common.{◌≡◌, ◌∙◌, ℕ, ◌<◌, ◌^◌, ◌==◌, ◌&&◌, Bool, true, false, if◌then◌else◌, suc, List, [], ◌∷◌, ◌++◌, flat_map, refl, sym, ap, arith, append_assoc, nat_le}
 use Rattle.std.specs.Prelude.{IsUtf8, codes, decimal}
 use Rattle.std.specs.List.{list_all, list_any}
-use Rattle.std.specs.Str.{bytes_eq, IsAscii}
+use Rattle.std.specs.Str.{bytes_eq}
+use Rattle.std.proofs.lemmas.Str.Ascii.{IsAscii-nil, IsAscii-push}
 use Rattle.std.proofs.lemmas.Bool.Decides.{nat_tests}
 use Rattle.std.proofs.lemmas.List.{append_cancel_left}
 use Rattle.std.proofs.lemmas.Str.{IsUtf8-append, IsUtf8-from_ascii}
@@ -29,6 +30,7 @@ use Rattle.vkg_expr.specs.declared.expr.Operator.TheVariants.{Test, Take, Compar
 use Rattle.vkg_expr.specs.Expr.{Expr, Exprs, Col, Const, MakeIri, IriOf, MakeBlank, MakeLit, Lex, IriSafe, Concat, Same, IsNull, Not, And, Or, Coalesce, Sparql, Ebv}
 use Rattle.vkg_expr.specs.Expr as expr
 use Rattle.vkg_expr.specs.Typing.{fits}
+use Rattle.vkg_expr.specs.TermExprs.{text_const}
 use Rattle.vkg_sqltext.specs.Laws.{HoldsAnnotation, HoldsCell}
 use Rattle.vkg_sqltext.specs.Text.{commas, compare_text, constant_text, expr_text, expr_texts, kind_text, operator_text, quoted, take_text, test_text}
 use Rattle.vkg_sqltext.proofs.Cutting.{decimal_digits, decimal_same, is_digit, quoted_same, run_same, stops, stops_behind}
@@ -98,13 +100,10 @@ cell_head (cell.Bin s) k = Spaced (codes "BIN") s
 cell_head (cell.Term t) k = Whole t
 
 -- a quoted argument has the text of a constant
-abbrev said : List ℕ → Expr
-said s = Const (cell.Text s) kind.Text
-
 abbrev annotation_said : Annotation → Exprs
 annotation_said Plain = expr.Nil
-annotation_said (Lang tag) = expr.More (said (codes "@" ++ tag)) expr.Nil
-annotation_said (Typed datatype) = expr.More (said (codes "^^" ++ datatype)) expr.Nil
+annotation_said (Lang tag) = expr.More (text_const (codes "@" ++ tag)) expr.Nil
+annotation_said (Typed datatype) = expr.More (text_const (codes "^^" ++ datatype)) expr.Nil
 
 abbrev one : Expr → Exprs
 one e = expr.More e expr.Nil
@@ -113,7 +112,7 @@ abbrev head : Expr → Head
 head (Col at) = Column at
 head (Const c k) = cell_head c k
 head (MakeIri e) = Calls (codes "IRI") (one e)
-head (IriOf base e) = Calls (codes "IRI_OF") (expr.More (said base) (one e))
+head (IriOf base e) = Calls (codes "IRI_OF") (expr.More (text_const base) (one e))
 head (MakeBlank e) = Calls (codes "BLANK") (one e)
 head (MakeLit e annotation) = Calls (codes "LIT") (expr.More e (annotation_said annotation))
 head (Lex e) = Calls (codes "LEX") (one e)
@@ -257,7 +256,7 @@ spaced_back w s =
 abbrev back : Head → Expr
 back (Bare w) = Const (cell.Bool (bytes_eq w (codes "TRUE"))) kind.Bool
 back (Spaced w s) = spaced_back w s
-back (Quote s) = said s
+back (Quote s) = text_const s
 back (Column n) = Col n
 back (Cast k) = Const cell.Null k
 back (Whole t) = Const (cell.Term t) kind.Term
@@ -355,13 +354,8 @@ sound_cell (cell.Bool true) k h = tt
 sound_cell (cell.Bool false) k h = tt
 sound_cell c k h = h
 
-one_ascii : (b : ℕ) → b < 128 → IsAscii (b ∷ [])
-one_ascii b l zero = l
-one_ascii b l (suc zero) = omega arith
-one_ascii b l (suc (suc i)) = omega arith
-
 utf8_behind : (b : ℕ) → b < 128 → (s : List ℕ) → IsUtf8 s → IsUtf8 (b ∷ s)
-utf8_behind b l s h = IsUtf8-append (b ∷ []) s (IsUtf8-from_ascii (b ∷ []) (one_ascii b l)) h
+utf8_behind b l s h = IsUtf8-append (b ∷ []) s (IsUtf8-from_ascii (b ∷ []) (IsAscii-push [] b IsAscii-nil l)) h
 
 sound_annotation : (annotation : Annotation) → HoldsAnnotation annotation → SoundExprs (annotation_said annotation)
 sound_annotation Plain h = tt
@@ -557,8 +551,8 @@ from_head e a f x y s t u z same =
     let h = head_one (head e) (head f) x y a (sound_head e s) (sound_head f t) u z r.0 n r.1 in
     (sym (is_back e s) ∙ ap back h.0 ∙ is_back f t, h.1)
 
-said_one : (s : List ℕ) → ExprIsOne (said s)
-said_one s = from_head (said s) tt
+said_one : (s : List ℕ) → ExprIsOne (text_const s)
+said_one s = from_head (text_const s) tt
 
 cell_one : (c : Cell) (k : SqlType) → HeadIsOne (cell_head c k)
 cell_one (cell.Bool true) k = tt

@@ -3,17 +3,12 @@ use Rattle.std.proofs.Common.{◌≡◌, ◌∙◌, ℕ, List, [], ◌∷◌, �
 use Rattle.std.specs.Prelude.{IfOk, IsOkAnd, Result, Ok, Err, codes}
 use Rattle.vkg_expr.specs.declared.expr.Expr.{Expr as ExprValue}
 use Rattle.vkg_expr.specs.Seen.{expr_seen}
-use Rattle.vkg_plan.specs.declared.plan.Plan.{Plan as PlanValue, map-Plan}
-use Rattle.vkg_plan.specs.declared.plan.Plan.TheOpen.{Plan-F}
-use Rattle.vkg_plan.specs.declared.plan.Plan.TheFolds.{fold_out-Plan}
-use Rattle.vkg_plan.specs.Plan.{Plan, Left}
+use Rattle.vkg_plan.specs.declared.plan.Plan.{Plan as PlanValue}
 use Rattle.vkg_plan.specs.declared.plan.Plan.TheVariants as value
 use Rattle.vkg_plan.specs.Kinds.{Tables}
-use Rattle.vkg_plan.specs.Seen.{plan_seen, plan_step}
+use Rattle.vkg_plan.specs.Seen.{plan_seen}
+use Rattle.vkg_plan.proofs.SeenParts.{seen-Left}
 use Rattle.vkg_sqltext.specs.Text.{expr_text, separated, sources, sql_text}
-
-seen-Left : (p q : PlanValue) (c : ExprValue) → plan_seen (value.Left p q c) ≡ Left (plan_seen p) (plan_seen q) (expr_seen c)
-seen-Left p q c = fold_out-Plan Plan plan_step (value.Left p q c) ∙ ap (λ (x : Plan-F PlanValue). plan_step (map-Plan PlanValue Plan plan_seen x)) (value.outs-Left p q c)
 
 abbrev left_of : List ℕ → ExprValue → List ℕ → List ℕ
 left_of x c y = codes "SELECT * FROM " ++ separated (codes " LEFT JOIN ") (sources 1 (x ∷ y ∷ [])) ++ codes " ON " ++ expr_text (expr_seen c)

@@ -7,8 +7,9 @@ use Rattle.vkg_cells.specs.declared.cell.SqlType.TheVariants as kind
 use Rattle.vkg_expr.specs.Expr.{Expr, Exprs, Col, Const, MakeIri, IriOf, MakeBlank, MakeLit, Lex, IriSafe, Concat, Same, IsNull, Not, And, Or, Coalesce, Sparql, Ebv, each, exprs}
 use Rattle.vkg_expr.specs.Expr as expr
 use Rattle.vkg_expr.specs.Typing.{are_all, arity, common, equality_kind, fits, giving, is_one, kind_of, kinds_of, lexical_kind, no_column, with_kind}
-use Rattle.vkg_plan.specs.Kinds.{Kinds, Tables, alike, beside_all, beside_two, checked, kinds_of_each, plan_kinds, with_first}
+use Rattle.vkg_plan.specs.Kinds.{Kinds, Tables, beside_all, beside_two, checked, kinds_of_each, plan_kinds}
 use Rattle.vkg_plan.specs.Plan.{Plan, Plans, Unit as Once, Empty, Scan, Select, Project, Join, Left, UnionAll, Distinct, Nil, More}
+use Rattle.vkg_plan.proofs.KindLists.{alike_some, beside_some, first_some}
 use Rattle.vkg_sqltext.specs.Laws.{HoldsExpr, HoldsExprs, HoldsPlan, HoldsPlans}
 use Rattle.vkg_sqltext.proofs.Heads.{SoundExpr, SoundExprs}
 
@@ -108,18 +109,6 @@ checked_some c (Some ks) h = record { kinds = ks; is = refl; truth = one_some ki
 two_some : (o p : Option Kinds) → is_some (beside_two o p) ≡ true → (is_some o ≡ true) × (is_some p ≡ true)
 two_some (Some ks) (Some ls) h = (refl, refl)
 two_some o p h = absurd (cc)
-
-beside_some : (o : Option (List Kinds)) → is_some (beside_all o) ≡ true → is_some o ≡ true
-beside_some None h = absurd (cc)
-beside_some (Some kss) h = refl
-
-alike_some : (o : Option (List Kinds)) → is_some (alike o) ≡ true → is_some o ≡ true
-alike_some None h = absurd (cc)
-alike_some (Some kss) h = refl
-
-first_some : (o : Option Kinds) (p : Option (List Kinds)) → is_some (with_first o p) ≡ true → (is_some o ≡ true) × (is_some p ≡ true)
-first_some (Some ks) (Some kss) h = (refl, refl)
-first_some o p h = absurd (cc)
 
 record Followed {A B : Type 0} (f : A → Option B) (o : Option A) : Type 0 where
   value : A

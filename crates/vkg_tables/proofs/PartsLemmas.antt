@@ -3,20 +3,17 @@ use Rattle.std.proofs.Common.{◌≡◌, ◌∙◌, ◌&&◌, ◌||◌, ◌++◌
 use Rattle.std.specs.List.{list_any}
 use Rattle.std.specs.Cmp.Lexicographic.{bytes_decides, pointwise, pointwise_decides}
 use Rattle.std.proofs.lemmas.List.{map-append}
+use Rattle.std.proofs.Math.Bool.{and-false, or-false}
 use Rattle.std.specs.Str.{bytes_eq}
 use Rattle.std.specs.Prelude.{String}
 use Rattle.std.specs.String.{string_eq}
 use Rattle.std.specs.Prelude.{Vec}
 use Rattle.vkg_cells.specs.declared.cell.Cell.{Cell}
 use Rattle.vkg_cells.specs.declared.cell.Cell.TheVariants as cell
-use Rattle.vkg_cells.specs.Order.{same}
+use Rattle.vkg_cells.specs.Order.{same, same_form}
 use Rattle.vkg_schema.specs.Rows.{Row, agree, equal_at, has_no_null, is_known, is_known_true, is_null, cell_at}
 use Rattle.vkg_tables.specs.Checks.{is_orphan, repeats, with_itself}
 use Rattle.vkg_tables.specs.Parts.{IsNoTerm, HasNoTerm, all_parts, is_missing, one_or_none, onto_parts, part, parts, texts_eq, texts_of}
-
-abbrev same_part : Option (List ℕ) → Option (List ℕ) → Bool
-same_part (Some a) (Some b) = bytes_eq a b
-same_part a b = false
 
 abbrev is_there : {A : Type 0} → Option A → Bool
 is_there None = false
@@ -27,7 +24,7 @@ abbrev pub both : Option (List (List ℕ)) → Option (List (List ℕ)) → Bool
 both (Some a) (Some b) = texts_eq a b
 both a b = false
 
-cells-same : (c d : Cell) → IsNoTerm c → is_known_true (same c d) ≡ same_part (part c) (part d)
+cells-same : (c d : Cell) → IsNoTerm c → is_known_true (same c d) ≡ same_form (part c) (part d)
 unfolding part
 cells-same cell.Null d h = refl
 cells-same (cell.Text a) cell.Null h = refl
@@ -100,13 +97,9 @@ cell-NoTerm [] k h = λ e. cc e
 cell-NoTerm (c ∷ r) zero h = h.0
 cell-NoTerm (c ∷ r) (suc k) h = cell-NoTerm r k h.1
 
-and-false : (b : Bool) → b && false ≡ false
-and-false true = refl
-and-false false = refl
-
-both-onto : (x y : Option (List ℕ)) (xs ys : Option (List (List ℕ))) → both (onto_parts x xs) (onto_parts y ys) ≡ same_part x y && both xs ys
+both-onto : (x y : Option (List ℕ)) (xs ys : Option (List (List ℕ))) → both (onto_parts x xs) (onto_parts y ys) ≡ same_form x y && both xs ys
 both-onto None y xs ys = refl
-both-onto (Some a) y None ys = sym (and-false (same_part (Some a) y))
+both-onto (Some a) y None ys = sym (and-false (same_form (Some a) y))
 both-onto (Some a) None (Some us) ys = refl
 both-onto (Some a) (Some b) (Some us) None = sym (and-false (bytes_eq a b))
 both-onto (Some a) (Some b) (Some us) (Some vs) = refl
@@ -235,10 +228,6 @@ cell_at-in (c ∷ row) (suc k) d h = cell_at-in row k d (omega (arith, h))
 
 texts-same : (f t : List (List ℕ)) → texts_eq f t ≡ true → f ≡ t
 texts-same f t e = (pointwise_decides bytes_decides f t).0 e
-
-or-false : (b : Bool) → b || false ≡ b
-or-false true = refl
-or-false false = refl
 
 pub any-push : {A : Type 0} (p : A → Bool) (xs : List A) (x : A) → list_any p (xs ++ x ∷ []) ≡ list_any p xs || p x
 any-push p [] x = or-false (p x)

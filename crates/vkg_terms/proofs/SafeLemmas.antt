@@ -1,5 +1,5 @@
 -- The IRI-safe form: its escapes give the text back, and it holds only iunreserved characters and `%`.
-use Rattle.std.proofs.Common.{◌≡◌, ◌≢◌, ◌<◌, ◌≤◌, ◌++◌, ◌&&◌, ◌||◌, ◌==◌, ◌/◌, ◌%◌, ℕ, List, [], ◌∷◌, Bool, true, false, if◌then◌else◌, nat_lt, sym, ap, ◌∙◌, refl, arith, append_assoc, inl, inr, ltb-true, IsAscii, not, zero, suc}
+use Rattle.std.proofs.Common.{◌≡◌, ◌≢◌, ◌<◌, ◌≤◌, ◌++◌, ◌&&◌, ◌||◌, ◌==◌, ◌/◌, ◌%◌, ℕ, List, [], ◌∷◌, Bool, true, false, if◌then◌else◌, nat_lt, sym, ap, ◌∙◌, refl, arith, append_assoc, ltb-true, IsAscii, not, zero, suc}
 use Rattle.std.specs.Prelude.{flat_map, chars, IsUtf8}
 use Rattle.std.specs.List.{list_all}
 use Rattle.std.proofs.lemmas.Str.{encodes-chars, scalars-chars, chars-append, chars-encodes, chars-IsAscii, IsUtf8-from_ascii, IsUtf8-encode, chars-nil}
@@ -34,7 +34,7 @@ other_percent : (b : ℕ) → other b ≡ true → b ≢ 37
 unfolding other
 other_percent b e = grind (arith, nat_tests)
 
-octets : (c : ℕ) → scalar c ≡ true → list_all (λ b. nat_lt b 256) (encode c) ≡ true
+pub octets : (c : ℕ) → scalar c ≡ true → list_all (λ b. nat_lt b 256) (encode c) ≡ true
 octets c e = encode_all (λ b. nat_lt b 256) c (scalar_below c e) (λ b _ l. grind (arith, nat_tests)) (λ l. grind (arith, nat_tests))
 
 decode-kept : (bs rest : List ℕ) → list_all other bs ≡ true → percent_decode (bs ++ rest) ≡ bs ++ percent_decode rest

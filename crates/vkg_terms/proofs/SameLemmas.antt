@@ -14,7 +14,7 @@ use Rattle.vkg_terms.specs.Same.{annotation_eq, term_eq}
 same_bytes : (xs ys : List ℕ) → bytes_eq xs ys ≡ true → xs ≡ ys
 same_bytes xs ys = (bytes_eq-Decides xs ys).0
 
-bytes_itself : (xs : List ℕ) → bytes_eq xs xs ≡ true
+pub bytes_itself : (xs : List ℕ) → bytes_eq xs xs ≡ true
 bytes_itself xs = (bytes_eq-Decides xs xs).1 refl
 
 same_annotation : (a b : Annotation) → annotation_eq a b ≡ true → a ≡ b
@@ -46,7 +46,7 @@ same_term (Lit a x) (Lit b y) e =
     ap (λ text. Lit text x) (same_bytes a b (first_so (bytes_eq a b) (annotation_eq x y) e))
     ∙ ap (Lit b) (same_annotation x y (second_so (bytes_eq a b) (annotation_eq x y) e))
 
-term_itself : (t : Term) → term_eq t t ≡ true
+pub term_itself : (t : Term) → term_eq t t ≡ true
 term_itself (Iri a) = bytes_itself a
 term_itself (Blank a) = bytes_itself a
 term_itself (Lit a x) = λ i. bytes_itself a i && annotation_itself x i

@@ -5,6 +5,7 @@ use Rattle.std.specs.List.{list_any, list_all, prefix_len}
 use Rattle.std.proofs.lemmas.Bool.Decides.{eqb_tells}
 use Rattle.std.proofs.lemmas.List.Sums.{fold-append}
 use Rattle.std.specs.Char.{is_ascii_alphabetic}
+use Rattle.std.specs.Cmp.{first_so, second_so}
 use Rattle.vkg_terms.specs.Iri.{is_scheme, is_scheme_character}
 use Rattle.vkg_terms.specs.TemplateParts.{places, may_be_scheme, is_hole, standing_at, standing}
 use Rattle.vkg_terms.specs.declared.template.Part.{Part}
@@ -70,14 +71,6 @@ cut (p ∷ ps) = split (cut ps) (may_be_scheme p) refl
 
 -- ---- the front of a template: what all may stand in a scheme
 
-first : (b c : Bool) → b && c ≡ true → b ≡ true
-first true c e = refl
-first false c e = e
-
-second : (b c : Bool) → b && c ≡ true → c ≡ true
-second true c e = e
-second false c e = cc
-
 -- a colon may not stand in a scheme
 no_colon : (c : ℕ) → is_scheme_character c ≡ true → (c == 58) ≡ false
 no_colon c e = elim (eqb_tells c 58) [
@@ -94,30 +87,30 @@ stays_hole : (ps : List (Option ℕ)) → list_all may_be_scheme ps ≡ true →
 stays_hole [] e = refl
 stays_hole (None ∷ ps) e = stays_hole ps e
 stays_hole (Some c ∷ ps) e =
-    ap (λ f. fold after_place f ps) (keeps Hole c (first (is_scheme_character c) (list_all may_be_scheme ps) e))
-    ∙ stays_hole ps (second (is_scheme_character c) (list_all may_be_scheme ps) e)
+    ap (λ f. fold after_place f ps) (keeps Hole c (first_so (is_scheme_character c) (list_all may_be_scheme ps) e))
+    ∙ stays_hole ps (second_so (is_scheme_character c) (list_all may_be_scheme ps) e)
 
 stays_scheme : (ps : List (Option ℕ)) → list_all may_be_scheme ps ≡ true → fold after_place Scheme ps ≡ (if list_any is_hole ps then Hole else Scheme)
 stays_scheme [] e = refl
 stays_scheme (None ∷ ps) e = stays_hole ps e
 stays_scheme (Some c ∷ ps) e =
-    ap (λ f. fold after_place f ps) (keeps Scheme c (first (is_scheme_character c) (list_all may_be_scheme ps) e))
-    ∙ stays_scheme ps (second (is_scheme_character c) (list_all may_be_scheme ps) e)
+    ap (λ f. fold after_place f ps) (keeps Scheme c (first_so (is_scheme_character c) (list_all may_be_scheme ps) e))
+    ∙ stays_scheme ps (second_so (is_scheme_character c) (list_all may_be_scheme ps) e)
 
 stays_no_scheme : (ps : List (Option ℕ)) → list_all may_be_scheme ps ≡ true → fold after_place NoScheme ps ≡ (if list_any is_hole ps then Hole else NoScheme)
 stays_no_scheme [] e = refl
 stays_no_scheme (None ∷ ps) e = stays_hole ps e
 stays_no_scheme (Some c ∷ ps) e =
-    ap (λ f. fold after_place f ps) (keeps NoScheme c (first (is_scheme_character c) (list_all may_be_scheme ps) e))
-    ∙ stays_no_scheme ps (second (is_scheme_character c) (list_all may_be_scheme ps) e)
+    ap (λ f. fold after_place f ps) (keeps NoScheme c (first_so (is_scheme_character c) (list_all may_be_scheme ps) e))
+    ∙ stays_no_scheme ps (second_so (is_scheme_character c) (list_all may_be_scheme ps) e)
 
 -- without a hole all characters may stand in a scheme
 all_characters : (ps : List (Option ℕ)) → list_any is_hole ps ≡ false → list_all may_be_scheme ps ≡ true → list_all is_scheme_character (filter_map (λ x. x) ps) ≡ true
 all_characters [] h e = refl
 all_characters (None ∷ ps) h e = cc
 all_characters (Some c ∷ ps) h e =
-    ap (λ b. b && list_all is_scheme_character (filter_map (λ x. x) ps)) (first (is_scheme_character c) (list_all may_be_scheme ps) e)
-    ∙ all_characters ps h (second (is_scheme_character c) (list_all may_be_scheme ps) e)
+    ap (λ b. b && list_all is_scheme_character (filter_map (λ x. x) ps)) (first_so (is_scheme_character c) (list_all may_be_scheme ps) e)
+    ∙ all_characters ps h (second_so (is_scheme_character c) (list_all may_be_scheme ps) e)
 
 abbrev front_of_characters : List ℕ → Front
 front_of_characters [] = Empty
@@ -130,12 +123,12 @@ front_goes : (ps : List (Option ℕ)) → list_all may_be_scheme ps ≡ true →
 front_goes [] e = refl
 front_goes (None ∷ ps) e = stays_hole ps e
 front_goes (Some c ∷ ps) e =
-    ap (λ f. fold after_place f ps) (keeps Empty c (first (is_scheme_character c) (list_all may_be_scheme ps) e))
+    ap (λ f. fold after_place f ps) (keeps Empty c (first_so (is_scheme_character c) (list_all may_be_scheme ps) e))
     ∙ by_letter (is_ascii_alphabetic c)
   where
     by_letter : (b : Bool) → fold after_place (if b then Scheme else NoScheme) ps ≡ (if list_any is_hole ps then Hole else if b then Scheme else NoScheme)
-    by_letter true = stays_scheme ps (second (is_scheme_character c) (list_all may_be_scheme ps) e)
-    by_letter false = stays_no_scheme ps (second (is_scheme_character c) (list_all may_be_scheme ps) e)
+    by_letter true = stays_scheme ps (second_so (is_scheme_character c) (list_all may_be_scheme ps) e)
+    by_letter false = stays_no_scheme ps (second_so (is_scheme_character c) (list_all may_be_scheme ps) e)
 
 -- ---- what ends the front decides
 
@@ -165,7 +158,7 @@ at_last true false [] ps h = ap decided (stays_relative ps)
 at_last true false (d ∷ ds) ps h = by_letter (is_ascii_alphabetic d)
   where
     rest : list_all is_scheme_character ds ≡ true
-    rest = second (is_scheme_character d) (list_all is_scheme_character ds) (h refl)
+    rest = second_so (is_scheme_character d) (list_all is_scheme_character ds) (h refl)
 
     by_letter : (b : Bool) → decided (fold after_place (at_colon (if b then Scheme else NoScheme)) ps) ≡ (if b && list_all is_scheme_character ds then stands.Absolute else stands.Relative)
     by_letter false = ap decided (stays_relative ps)

@@ -3,6 +3,7 @@ use Rattle.std.proofs.Common.{◌≡◌, ◌≢◌, ◌==◌, ◌++◌, ◌∷�
 use Rattle.std.specs.Prelude.{option_map}
 use Rattle.std.proofs.lemmas.Bool.Decides.{nat_tests}
 use Rattle.std.proofs.lemmas.List.{append-nil}
+use Rattle.std.proofs.lemmas.Option.{same_Some}
 use Rattle.vkg_terms.specs.declared.template.Part.{Part}
 use Rattle.vkg_terms.specs.declared.template.Part.TheVariants.{Fixed, Hole}
 use Rattle.vkg_terms.specs.TemplateParts.{Mark, Plain, Open, Close, mark, marks, onto, escape, is_special, onto_fixed, hole, outside, inside, outside_if_any, template_of}
@@ -15,9 +16,6 @@ abbrev written : Mark → List ℕ
 written (Plain b) = escaped b
 written Open = 123 ∷ []
 written Close = 125 ∷ []
-
-some_same : {A : Type 0} (x y : A) → Some x ≡ Some y → x ≡ y
-some_same x y e = cc e
 
 none_some : {A : Type 0} (x : A) → None ≡ Some x → ⊥
 none_some x e = cc e
@@ -35,7 +33,7 @@ marks-written (Close ∷ ms) = marks-cons 125 (flat_map written ms) refl ∙ ap 
 
 map_some : {A B : Type 0} (f : A → B) (o : Option A) (y : B) → option_map f o ≡ Some y → (x : A) × (o ≡ Some x) × (f x ≡ y)
 map_some f None y e = absurd (none_some y e)
-map_some f (Some x) y e = (x, refl, some_same (f x) y e)
+map_some f (Some x) y e = (x, refl, same_Some (f x) y e)
 
 mark_written : (b : ℕ) (x y : Bool) → (b == 123) ≡ x → (b == 125) ≡ y → (b == 92) ≡ false → written (if x then Open else if y then Close else Plain b) ≡ b ∷ []
 mark_written b true y e f g = let h : 123 ≡ b = grind (arith, nat_tests) in ap (λ c. c ∷ []) h
@@ -69,10 +67,10 @@ two_marks b c bs ms false g more one e = one_mark b (c ∷ bs) ms g one e
 
 last_mark : (b : ℕ) (ms : List Mark) (x : Bool) → (b == 92) ≡ x → marks (b ∷ []) ≡ Some ms → b ∷ [] ≡ flat_map written ms
 last_mark b ms true g e = absurd (none_some ms (sym (ap (λ t. if t then None else Some (mark b ∷ [])) g) ∙ e))
-last_mark b ms false g e = one_mark b [] ms g (λ rest h. ap (flat_map written) (some_same [] rest h)) e
+last_mark b ms false g e = one_mark b [] ms g (λ rest h. ap (flat_map written) (same_Some [] rest h)) e
 
 written-marks : (bs : List ℕ) (ms : List Mark) → marks bs ≡ Some ms → bs ≡ flat_map written ms
-written-marks [] ms e = ap (flat_map written) (some_same [] ms e)
+written-marks [] ms e = ap (flat_map written) (same_Some [] ms e)
 written-marks (b ∷ []) ms e = last_mark b ms (b == 92) refl e
 written-marks (b ∷ c ∷ bs) ms e = two_marks b c bs ms (b == 92) refl (written-marks bs) (written-marks (c ∷ bs)) e
 
@@ -157,7 +155,7 @@ record Opened (name : List ℕ) (ms : List Mark) (ps : List Part) : Type 0 where
 
 mutual
   outside_is : (ms : List Mark) (ps : List Part) → outside ms ≡ Some ps → (ms ≡ marks_of ps) × IsNormal ps
-  outside_is [] ps e = let k = some_same [] ps e in (ap marks_of k, subst IsNormal k tt)
+  outside_is [] ps e = let k = same_Some [] ps e in (ap marks_of k, subst IsNormal k tt)
   outside_is (Plain b ∷ ms) ps e =
       let (qs, h, k) = map_some (onto_fixed b) (outside ms) ps e in
       let more = outside_is ms qs h in
@@ -213,7 +211,7 @@ named_by None ps e = absurd (none_some ps e)
 named_by (Some qs) ps e = by_test (is_all_named qs) refl e
   where
     by_test : (b : Bool) → is_all_named qs ≡ b → (if b then Some qs else None) ≡ Some ps → (Some qs ≡ Some ps) × (is_all_named ps ≡ true)
-    by_test true h k = (k, ap is_all_named (sym (some_same qs ps k)) ∙ h)
+    by_test true h k = (k, ap is_all_named (sym (same_Some qs ps k)) ∙ h)
     by_test false h k = absurd (none_some ps k)
 
 unnamed_by : (b : Bool) (ps : List Part) → is_all_named ps ≡ b → (if b then Some ps else None) ≡ None → b ≡ false

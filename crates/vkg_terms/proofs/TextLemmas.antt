@@ -76,7 +76,7 @@ body_same (c ∷ cs) (d ∷ ds) x y same =
     let more = body_same cs ds x y one.1 in
     (ap (λ z. z ∷ cs) one.0 ∙ ap (λ zs. d ∷ zs) more.0, more.1)
 
-chars_same : (a b : List ℕ) → IsUtf8 a → IsUtf8 b → chars a ≡ chars b → a ≡ b
+pub chars_same : (a b : List ℕ) → IsUtf8 a → IsUtf8 b → chars a ≡ chars b → a ≡ b
 chars_same a b u v e = sym (encodes-chars a u) ∙ ap encodes e ∙ encodes-chars b v
 
 -- a quoted text ends at its own closing quote

@@ -7,7 +7,8 @@ fn is_exactly(text: &[u8], word: &[u8]) -> bool
     text == word
 }
 
-fn is_caseless(text: &[u8], word: &[u8]) -> bool
+/// Whether a text is this word, whatever the case of ASCII letters.
+pub fn is_caseless(text: &[u8], word: &[u8]) -> bool
     ensures { result ≡ is_caseless text.now word.now }
 {
     text.eq_ignore_ascii_case(word)

@@ -1,6 +1,6 @@
 -- There is one answer.
-use Rattle.std.proofs.Common.{◌≡◌, ℕ, List, [], ◌∷◌, Result, Ok, Err, Option, Some, None, ap, sym, ◌∙◌, subst}
-use Rattle.vkg_grammar.specs.declared.note.Note.{Note}
+use Rattle.std.proofs.Common.{◌≡◌, ℕ, List, [], ◌∷◌, Option, Some, None, ap, sym, ◌∙◌, subst}
+use Rattle.std.proofs.lemmas.Option.{same_Some}
 use Rattle.vkg_grammar.specs.Form.{IsTooDeep, IsShallow}
 use Rattle.vkg_grammar.specs.Grammar.{Derives}
 use Rattle.vkg_grammar.specs.Kinds.{kinds_of, start_at}
@@ -52,9 +52,6 @@ one_no_text {text = text} {a = a} {b = b} x y = one_place TURTLE text x.tokens a
 
 -- ---- one answer
 
-one_check : {o : Option TurtleFault} {f g : TurtleFault} → o ≡ Some f → o ≡ Some g → f ≡ g
-one_check e f = cc
-
 one_value : (text base : List ℕ) (triples others : List Triple) → IsDocumentText text base triples → IsDocumentText text base others → triples ≡ others
 one_value text base triples others a b = a.are ∙ ap triples_of (one_said a.says b.says) ∙ sym b.are
 
@@ -90,7 +87,7 @@ one_fault text base f g (no_document x u e p) (no_utf8 m d) = absurd (m u)
 one_fault text base f g (no_document x u e p) (no_token v d) = absurd (not_tokens e.cut d)
 one_fault text base f g (no_document x u e p) (too_deep v d) = absurd (no_said_deep e d)
 one_fault text base f g (no_document x u e p) (no_text v d) = absurd (no_said e d)
-one_fault text base f g (no_document x u e p) (no_document w v d q) = one_check p (ap fault_of (one_said e d) ∙ q)
+one_fault text base f g (no_document x u e p) (no_document w v d q) = same_Some f g (sym p ∙ ap fault_of (one_said e d) ∙ q)
 
 pub determined : IsDetermined
 determined = record {

@@ -1,6 +1,5 @@
 ghost use Rattle.std.specs.Prelude.{◌≡◌};
 ghost use Rattle.std.specs.Cmp.{partial_equiv_from_equiv};
-ghost use Rattle.vkg_terms.specs.Same.{term_name};
 ghost use Rattle.vkg_turtle.specs.SameTriple.{triple_eq, triple_equiv, triple_hash, triple_alike};
 
 use std::hash::{Hash, Hasher};
@@ -13,16 +12,6 @@ pub struct Triple {
     pub predicate: Term,
     pub object: Term,
     pub at: usize,
-}
-
-fn name_of(term: &Term) -> &str
-    ensures { result.now ≡ term_name term.now }
-{
-    match term {
-        Term::Iri(iri) => iri.as_str(),
-        Term::Blank(label) => label.as_str(),
-        Term::Lit(text, _) => text.as_str(),
-    }
 }
 
 impl PartialEq for Triple {
@@ -47,8 +36,8 @@ impl Hash for Triple {
     ghost respects_eq = { triple_alike.fed };
 
     fn hash<H: Hasher>(&self, state: &mut H) {
-        name_of(&self.subject).hash(state);
-        name_of(&self.predicate).hash(state);
-        name_of(&self.object).hash(state);
+        self.subject.name().hash(state);
+        self.predicate.name().hash(state);
+        self.object.name().hash(state);
     }
 }

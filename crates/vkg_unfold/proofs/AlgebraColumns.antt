@@ -7,7 +7,7 @@ use Rattle.std.proofs.lemmas.List.{length-map, replicate-append-replicate}
 use Rattle.std.proofs.lemmas.List.Elements.{Contains-append_left, Contains-append_right, Contains-append_cases}
 use Rattle.vkg_lists.specs.Sets.{IsEqualityTest, distinct}
 use Rattle.vkg_lists.proofs.Counts.{eq_same, Decides-list_any}
-use Rattle.vkg_lists.proofs.Distinct.{Contains-distinct, Contains-from_distinct, distinct-distinct}
+use Rattle.vkg_lists.proofs.Distinct.{Contains-distinct, Contains-from_distinct}
 use Rattle.vkg_lists.proofs.Members.{Contains-none, Contains-here, Contains-there, Contains-cons_cases, Contains-flat_map, Contains-from_flat_map, Contains-from_filter, recursion_from_each}
 use Rattle.vkg_lists.proofs.Tests.{nat_test}
 use Rattle.vkg_cells.specs.declared.cell.SqlType.{SqlType}
@@ -19,8 +19,9 @@ use Rattle.vkg_sparql.specs.declared.pattern.TriplePattern.{TriplePattern}
 use Rattle.vkg_sparql.specs.Query.{Condition, Variable, Constant, Bound, Test, Take, Compare, SameTerm, Not, And, Or}
 use Rattle.vkg_algebra.specs.Algebra.{Algebra, Bgp, LeftJoin, Filter, Graph}
 use Rattle.vkg_algebra.specs.Algebra as algebra
-use Rattle.vkg_algebra.specs.Visible.{appearing, each_once, node_variables, pattern_variables, visible}
-use Rattle.vkg_algebra.proofs.VisibleLemmas.{each_once_appearing}
+use Rattle.vkg_algebra.specs.Visible.{each_once, has, node_variables, pattern_variables, visible}
+use Rattle.vkg_algebra.proofs.PatternLemmas.{is_among}
+use Rattle.vkg_algebra.proofs.VisibleLemmas.{visible_once}
 use Rattle.vkg_expr.specs.Expr.{Expr, Col, Same, IsNull, exprs}
 use Rattle.vkg_expr.specs.Expr as expr
 use Rattle.vkg_expr.specs.Logic.{and_of, or_of, truth_const}
@@ -32,7 +33,7 @@ use Rattle.vkg_unfold.specs.declared.mode.Mode.{Mode}
 use Rattle.vkg_unfold.specs.declared.mode.Mode.TheVariants.{Default, InGraph, Each}
 use Rattle.vkg_unfold.specs.Conditions.{condition_of, expr_of, gives_truth, to_term, to_truth, truth_expr}
 use Rattle.vkg_unfold.specs.FittingRules.{AreFitting, HasTermColumns, HasAnswerColumns}
-use Rattle.vkg_unfold.specs.Unfolded.{Name, Named, after, agreement, bgp_plan, column, columns_in, each_graph, exists_plan, graph_column, has, if_each, in_its_graph, in_mode, is_pattern, join_plan, left_column, left_plan, merged, merged_columns, name_eq, named_graph, names_plan, node_names, null_term, numbered, or_null, pattern_names, pattern_plan, patterns_plan, place_of, repeats, right_column, union_member, union_plan, unfolded, visible_column}
+use Rattle.vkg_unfold.specs.Unfolded.{Name, Named, after, agreement, bgp_plan, column, columns_in, each_graph, exists_plan, graph_column, if_each, in_its_graph, in_mode, is_pattern, join_plan, left_column, left_plan, merged, merged_columns, name_eq, named_graph, names_plan, node_names, null_term, numbered, or_null, pattern_names, pattern_plan, patterns_plan, place_of, repeats, right_column, union_member, union_plan, unfolded, visible_column}
 use Rattle.vkg_unfold.proofs.TermKinds.{IsTerm, IsTruth, and_truth, first_term, not_truth, null_truth, or_truth, same_truth, term_at}
 use Rattle.vkg_unfold.proofs.PlanColumns.{HasTermKinds, checked_truth, exists_plan_kinds, names_plan_kinds, pattern_plan_kinds, project_kinds, repeats_truth, union_kinds}
 use Rattle.std.specs.Bool.{Decides}
@@ -75,7 +76,7 @@ condition_truth ks at h (Some c) = (filter_truth ks at h c, tt)
 
 -- ---- places
 
-name_test : IsEqualityTest name_eq
+pub name_test : IsEqualityTest name_eq
 name_test = record { decides = by }
   where
     by : (a b : Name) → Decides (name_eq a b) (a ≡ b)
@@ -92,11 +93,8 @@ any_place : {X : Type 0} (p : X → Bool) (xs : List X) → list_any p xs ≡ tr
 any_place p [] h = absurd (true≢false (sym h))
 any_place p (x ∷ xs) h = place_step (p x) (list_any p xs) (place_of p xs) (length xs) h (any_place p xs)
 
-has_place : (vs : List ℕ) (v : ℕ) → has vs v ≡ true → place_of (nat_eq v) vs < length vs
+pub has_place : (vs : List ℕ) (v : ℕ) → has vs v ≡ true → place_of (nat_eq v) vs < length vs
 has_place vs v h = any_place (nat_eq v) vs h
-
-contains_has : (vs : List ℕ) (v : ℕ) → Contains vs v → has vs v ≡ true
-contains_has vs v c = (Decides-list_any nat_test vs v).1 c
 
 name_place : (names : List Name) (x : Name) → Contains names x → place_of (name_eq x) names < length names
 name_place names x c = any_place (name_eq x) names ((Decides-list_any name_test names x).1 c)
@@ -273,7 +271,7 @@ agreement_truth mode vs ws =
     All-append (IsTruth ks) (map shared (filter (has ws) vs)) (if_each mode (Same (Col (length vs)) (Col (columns_in mode vs + length ws))))
     (All-within (IsTruth ks) shared (filter (has ws) vs) (λ v c.
     let w = Contains-from_filter (has ws) vs v c in
-    let l = left_term mode vs ws v (contains_has vs v w.0) in
+    let l = left_term mode vs ws v (is_among vs v w.0) in
     let r = right_term mode vs ws v w.1 in
     or_truth ks (IsNull (left_column vs v) ∷ IsNull (right_column mode vs ws v) ∷ Same (left_column vs v) (right_column mode vs ws v) ∷ [])
     (null_truth ks (left_column vs v) l, (null_truth ks (right_column mode vs ws v) r, (same_truth ks (left_column vs v) (right_column mode vs ws v) l r, tt)))))
@@ -355,7 +353,7 @@ module _ (schema : Tables) where
   behind_kinds first vs n p h k = pair_kinds n (length vs) first p (truth_const true) h k refl
 
   column_term : (n : ℕ) (vs : List ℕ) (v : ℕ) → Contains vs v → IsTerm (replicate (n + length vs) kind.Term) (column vs n v)
-  column_term n vs v c = let k = has_place vs v (contains_has vs v c) in term_at (n + length vs) (n + place_of (nat_eq v) vs) (omega (arith, k))
+  column_term n vs v c = let k = has_place vs v (is_among vs v c) in term_at (n + length vs) (n + place_of (nat_eq v) vs) (omega (arith, k))
 
   after_test_kinds : (first : Plan) (vs : List ℕ) (p : Plan) → HasTermKinds schema 0 first → HasTermKinds schema (length vs) p → HasTermKinds schema (length vs) (after first vs 0 p)
   after_test_kinds first vs p h k =
@@ -395,7 +393,7 @@ module _ (schema : Tables) where
       by true e = term_at (suc (length vs)) (length vs) (omega arith)
       by false e =
           let there : Contains vs w = ⊎_elim (λ k. absurd (true≢false (sym ((nat_test.decides v w).1 k) ∙ e))) (λ k. k) (Contains-cons_cases v vs w (Contains-from_distinct nat_eq (v ∷ vs) w c)) in
-          let k = has_place vs w (contains_has vs w there) in
+          let k = has_place vs w (is_among vs w there) in
           term_at (suc (length vs)) (place_of (nat_eq w) vs) (omega (arith, k))
 
   each_graph_kinds : (vs : List ℕ) (v : ℕ) (p : Plan) → HasTermKinds schema (suc (length vs)) p → HasTermKinds schema (length (each_once (v ∷ vs))) (each_graph vs v p)
@@ -404,10 +402,6 @@ module _ (schema : Tables) where
       project_kinds schema (map (graph_column vs v) (each_once (v ∷ vs))) (in_its_graph vs v p) ks (its_graph_kinds vs v p h)
       (All-within (IsTerm ks) (graph_column vs v) (each_once (v ∷ vs)) (graph_column_term vs v))
       ∙ ap (λ n. Some (replicate n kind.Term)) (length-map (each_once (v ∷ vs)) (graph_column vs v))
-
--- a list of visible variables names each once
-visible_once : (a : Algebra) → each_once (visible a) ≡ visible a
-visible_once a = ap each_once (sym (each_once_appearing a)) ∙ distinct-distinct nat_eq (appearing a) ∙ each_once_appearing a
 
 module _ (schema : Tables) (rules : List RowRule) (fit : AreFitting schema rules) where
   in_mode_kinds : (mode : Mode) (vs : List ℕ) (p : Plan) → HasTermKinds schema (length vs) p → HasTermKinds schema (columns_in mode vs) (in_mode schema rules mode vs p)

@@ -4,6 +4,7 @@ use Rattle.std.specs.Prelude.{⊤, Option, Some, None, replicate, slice_get, fla
 use Rattle.std.specs.List.{AllByRecursion, list_all, cons_option}
 use Rattle.std.specs.Cmp.Lexicographic.{pointwise}
 use Rattle.std.proofs.lemmas.List.{length-map, map-append}
+use Rattle.std.proofs.lemmas.Option.{none-some}
 use Rattle.vkg_lists.specs.Sets.{distinct}
 use Rattle.vkg_lists.proofs.Distinct.{distinct-map}
 use Rattle.vkg_cells.specs.declared.cell.SqlType.{SqlType}
@@ -248,7 +249,7 @@ names_of (Variable v, e) = refl
 names_of (Label v, e) = refl
 names_of (Fixed t, e) = refl
 
-names_of_places : (xs : List (Node × Expr)) → map (λ (n : Named). n.0) (flat_map named xs) ≡ flat_map node_names (map (λ (x : Node × Expr). x.0) xs)
+pub names_of_places : (xs : List (Node × Expr)) → map (λ (n : Named). n.0) (flat_map named xs) ≡ flat_map node_names (map (λ (x : Node × Expr). x.0) xs)
 names_of_places [] = refl
 names_of_places (x ∷ xs) = map-append (λ (n : Named). n.0) (named x) (flat_map named xs) ∙ (λ i. names_of x i ++ names_of_places xs i)
 
@@ -257,10 +258,7 @@ hidden_one Default None test h = refl
 hidden_one Default (Some g) test h = refl
 hidden_one (InGraph i) None test h = refl
 hidden_one (InGraph i) (Some g) test h = refl
-hidden_one Each None test h = absurd (none_some h)
-  where
-    none_some : None ≡ Some test → ⊥
-    none_some e = cc
+hidden_one Each None test h = absurd (none-some test h)
 hidden_one Each (Some g) test h = refl
 
 columns_number : (mode : Mode) (p : TriplePattern) (rule : RowRule) (test : List Expr) → graph_test mode rule.graph ≡ Some test → length (map (λ (x : Named). x.1) (pattern_places mode p rule)) ≡ length (pattern_names mode p)
@@ -311,10 +309,7 @@ module _ (schema : Tables) (rules : List RowRule) (fit : AreFitting schema rules
   -- ---- the graphs' names
 
   one_graph : (ks : Kinds) (g : Option TermExpr) (test : List Expr) → graph_test Each g ≡ Some test → length (graph_terms g) ≡ 1
-  one_graph ks None test h = absurd (none_some h)
-    where
-      none_some : None ≡ Some test → ⊥
-      none_some e = cc
+  one_graph ks None test h = absurd (none-some test h)
   one_graph ks (Some g) test h = refl
 
   names_member_kinds : (rule : RowRule) → IsFitting schema rule → IfThere (HasTermKinds schema 1) (names_member schema rule)

@@ -5,6 +5,7 @@ use Rattle.std.proofs.Common.{nat_eq}
 use Rattle.std.specs.List.{filter, list_any}
 use Rattle.std.proofs.lemmas.List.{drop_more, map-append, map_more, take_more}
 use Rattle.std.proofs.lemmas.List.Elements.{filter-append, filter_map-append}
+use Rattle.std.proofs.lemmas.Option.{same_Some}
 use Rattle.vkg_lists.specs.Sets.{distinct}
 use Rattle.vkg_sparql.specs.Query.{Condition, And, Or}
 use Rattle.vkg_sparql.specs.Seen.{condition_seen}
@@ -105,10 +106,7 @@ and_none (e ∷ es) h = absurd (omega (arith, h))
 
 pub and_one : (es : List ExprValue) (x : ExprValue) → length es ≡ 1 → slice_get es 0 ≡ Some x → and_of (map expr_seen es) ≡ expr_seen x
 and_one [] x h k = absurd (omega (arith, h))
-and_one (e ∷ []) x h k = ap expr_seen (some_same e x k)
-  where
-    some_same : (a b : ExprValue) → Some a ≡ Some b → a ≡ b
-    some_same a b s = cc
+and_one (e ∷ []) x h k = ap expr_seen (same_Some e x k)
 and_one (e ∷ f ∷ es) x h k = absurd (omega (arith, h))
 
 pub and_more : (es : List ExprValue) → length es ≢ 0 → length es ≢ 1 → and_of (map expr_seen es) ≡ expr.And (exprs (map expr_seen es))
@@ -122,10 +120,7 @@ or_none (e ∷ es) h = absurd (omega (arith, h))
 
 pub or_one : (es : List ExprValue) (x : ExprValue) → length es ≡ 1 → slice_get es 0 ≡ Some x → or_of (map expr_seen es) ≡ expr_seen x
 or_one [] x h k = absurd (omega (arith, h))
-or_one (e ∷ []) x h k = ap expr_seen (some_same e x k)
-  where
-    some_same : (a b : ExprValue) → Some a ≡ Some b → a ≡ b
-    some_same a b s = cc
+or_one (e ∷ []) x h k = ap expr_seen (same_Some e x k)
 or_one (e ∷ f ∷ es) x h k = absurd (omega (arith, h))
 
 pub or_more : (es : List ExprValue) → length es ≢ 0 → length es ≢ 1 → or_of (map expr_seen es) ≡ expr.Or (exprs (map expr_seen es))

@@ -1,5 +1,6 @@
 -- Kinds of expressions: terms, truths and texts, and lists of them.
-use Rattle.std.proofs.Common.{◌≡◌, ◌∙◌, ℕ, zero, suc, ◌<◌, ◌+◌, true, false, not, ◌&&◌, List, [], ◌∷◌, ◌++◌, map, length, refl, ap, arith}
+use Rattle.std.proofs.Common.{◌≡◌, ◌∙◌, ℕ, zero, suc, ◌<◌, ◌+◌, true, false, not, ◌&&◌, List, [], ◌∷◌, ◌++◌, map, length, refl, ap, arith, add-zero}
+use Rattle.std.proofs.Math.Nat.{add-suc}
 use Rattle.std.specs.Prelude.{Some, replicate, slice_get, option_map}
 use Rattle.std.specs.List.{AllByRecursion, list_all}
 use Rattle.vkg_cells.specs.declared.cell.SqlType.{SqlType}
@@ -126,15 +127,9 @@ get_wider [] ls at k e = cc
 get_wider (l ∷ ks) ls zero k e = e
 get_wider (l ∷ ks) ls (suc at) k e = get_wider ks ls at k e
 
-plus_zero : (n : ℕ) → n + 0 ≡ n
-plus_zero n = omega arith
-
-plus_suc : (n m : ℕ) → n + suc m ≡ suc (n + m)
-plus_suc n m = omega arith
-
 pub get_behind : (ks ls : Kinds) (at : ℕ) → slice_get (ks ++ ls) (at + length ks) ≡ slice_get ls at
-get_behind [] ls at = ap (slice_get ls) (plus_zero at)
-get_behind (k ∷ ks) ls at = ap (slice_get (k ∷ (ks ++ ls))) (plus_suc at (length ks)) ∙ get_behind ks ls at
+get_behind [] ls at = ap (slice_get ls) (add-zero at)
+get_behind (k ∷ ks) ls at = ap (slice_get (k ∷ (ks ++ ls))) (add-suc at (length ks)) ∙ get_behind ks ls at
 
 wider_piece : (ks ls : Kinds) (p : Piece) → FitsPiece ks p → FitsPiece (ks ++ ls) p
 wider_piece ks ls (Chars s) h = tt

@@ -1,6 +1,5 @@
 -- The plan of an algebra over quad rules: a column for each visible variable, and in mode each the graph last.
 use Rattle.std.specs.Prelude.{ℕ, ◌+◌, Bool, true, false, List, [], ◌∷◌, ◌++◌, map, filter, flat_map, filter_map, length, replicate, Option, Some, None, nat_eq, if◌then◌else◌, find, suc}
-use Rattle.std.specs.List.{list_any}
 use Rattle.vkg_lists.specs.Sets.{distinct}
 use Rattle.vkg_terms.specs.declared.term.Term.TheVariants.{Iri}
 use Rattle.vkg_terms.specs.Vocabulary.{rr_default_graph}
@@ -15,7 +14,7 @@ use Rattle.vkg_sparql.specs.declared.pattern.TriplePattern.{TriplePattern}
 use Rattle.vkg_sparql.specs.Query.{Condition, Query}
 use Rattle.vkg_algebra.specs.Algebra.{Algebra, Bgp, LeftJoin, Filter, Graph}
 use Rattle.vkg_algebra.specs.Algebra as algebra
-use Rattle.vkg_algebra.specs.Visible.{visible, each_once}
+use Rattle.vkg_algebra.specs.Visible.{each_once, has, visible}
 use Rattle.vkg_algebra.specs.Translation.{algebra_of}
 use Rattle.vkg_algebra.specs.Answer.{selected_variables}
 use Rattle.vkg_expr.specs.declared.term_expr.TermExpr.{TermExpr}
@@ -198,9 +197,6 @@ module _ (schema : Tables) (rules : List RowRule) where
   bgp_plan mode (p ∷ ps) = patterns_plan mode (visible (Bgp (p ∷ ps))) (p ∷ ps)
 
 -- TWO ALGEBRAS: the variables of the left, then those of the right
-abbrev pub has : List ℕ → ℕ → Bool
-has vs v = list_any (nat_eq v) vs
-
 abbrev pub column : List ℕ → ℕ → ℕ → Expr
 column vs first v = Col (first + place_of (nat_eq v) vs)
 

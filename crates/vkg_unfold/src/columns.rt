@@ -3,7 +3,8 @@
 ghost use Rattle.std.specs.Prelude.{◌≡◌, ◌+◌, ◌≤◌, [], ◌∷◌, length, nat_eq, IfOk};
 ghost use Rattle.vkg_expr.specs.Expr.{Coalesce, Col, exprs};
 ghost use Rattle.vkg_expr.specs.Seen.{expr_seen};
-ghost use Rattle.vkg_unfold.specs.Unfolded.{columns_in, has, merged, null_term, place_of, right_column, visible_column};
+ghost use Rattle.vkg_algebra.specs.Visible.{has};
+ghost use Rattle.vkg_unfold.specs.Unfolded.{columns_in, merged, null_term, place_of, right_column, visible_column};
 
 use crate::mode::Mode;
 use std::alloc::Global;

@@ -1,7 +1,7 @@
 // A filter's expression as an expression over a row of terms.
 ghost use Rattle.std.specs.Prelude.{◌≡◌, [], ◌∷◌, map, true, IfOk, IsOkAnd};
 ghost use Rattle.vkg_sparql.specs.Seen.{condition_seen};
-ghost use Rattle.vkg_expr.specs.Expr.{Same, Sparql, exprs};
+ghost use Rattle.vkg_expr.specs.Expr.{IsNull, Same, Sparql, exprs};
 ghost use Rattle.vkg_expr.specs.Expr as expr;
 ghost use Rattle.vkg_expr.specs.Seen.{expr_seen};
 ghost use Rattle.vkg_unfold.specs.Conditions.{expr_of, gives_truth, to_term, to_truth, truth_expr};
@@ -17,6 +17,7 @@ use vkg_base::{Box, Items, Memory};
 use vkg_cells::{SqlType, natural};
 use vkg_expr::{Expr, Operator};
 use vkg_sparql::Condition;
+use vkg_values::{Compare, Take, Test};
 
 /// Whether an expression gives a truth; else it gives a term.
 fn gives_truth(condition: &Condition) -> bool
@@ -112,39 +113,19 @@ fn expression(
     ensures { IfOk result (λ e. expr_seen e ≡ expr_of (merged mode.now left.now right.now) (condition_seen condition.now)) }
 {
     match condition {
-        Condition::Variable(variable) => {
-            Box::new(alloc, merged(alloc, mode, left, right, *variable)?)
-        }
+        Condition::Variable(variable) => column(alloc, mode, left, right, *variable),
         Condition::Constant(term) => Box::new(alloc, term_const(term)?),
-        Condition::Bound(variable) => {
-            let column = merged(alloc, mode, left, right, *variable)?;
-            Box::new(alloc, known(alloc, column)?)
+        Condition::Bound(variable) => bound(alloc, mode, left, right, *variable),
+        Condition::Test(test, a) => tested(alloc, *test, term(alloc, mode, left, right, a)),
+        Condition::Take(take, a) => taken(alloc, *take, term(alloc, mode, left, right, a)),
+        Condition::Compare(compare, a, b) => {
+            let first = term(alloc, mode, left, right, a);
+            compared(alloc, *compare, first, term(alloc, mode, left, right, b))
         }
-        Condition::Test(test, a) => {
-            of_one(
-                alloc,
-                Operator::Test(*test),
-                term(alloc, mode, left, right, a),
-            )
+        Condition::SameTerm(a, b) => {
+            let first = term(alloc, mode, left, right, a);
+            same(alloc, first, term(alloc, mode, left, right, b))
         }
-        Condition::Take(take, a) => {
-            of_one(
-                alloc,
-                Operator::Take(*take),
-                term(alloc, mode, left, right, a),
-            )
-        }
-        Condition::Compare(compare, a, b) => of_two(
-            alloc,
-            Operator::Compare(*compare),
-            term(alloc, mode, left, right, a),
-            term(alloc, mode, left, right, b),
-        ),
-        Condition::SameTerm(a, b) => same(
-            alloc,
-            term(alloc, mode, left, right, a),
-            term(alloc, mode, left, right, b),
-        ),
         Condition::Not(a) => negation(alloc, truth(alloc, mode, left, right, a)),
         Condition::And(first, more) => conjunction(
             alloc,
@@ -176,6 +157,33 @@ fn truths(
         found.push(truth(alloc, mode, left, right, condition)?.into_inner())?;
     }
     Ok(found)
+}
+
+/// The column of a variable.
+fn column(
+    alloc: Global,
+    mode: &Mode,
+    left: &[Var],
+    right: &[Var],
+    variable: Var,
+) -> Result<Box<Expr>, Memory>
+    ensures { IfOk result (λ e. expr_seen e ≡ merged mode.now left.now right.now variable) }
+{
+    Box::new(alloc, merged(alloc, mode, left, right, variable)?)
+}
+
+/// Whether a variable is bound.
+fn bound(
+    alloc: Global,
+    mode: &Mode,
+    left: &[Var],
+    right: &[Var],
+    variable: Var,
+) -> Result<Box<Expr>, Memory>
+    ensures { IfOk result (λ e. expr_seen e ≡ expr.Not (IsNull (merged mode.now left.now right.now variable))) }
+{
+    let e = merged(alloc, mode, left, right, variable)?;
+    Box::new(alloc, known(alloc, e)?)
 }
 
 /// A chain of `&&`, joined from the left.
@@ -284,6 +292,29 @@ fn truth_term(alloc: Global, e: Box<Expr>) -> Result<Box<Expr>, Memory>
     let boolean = natural(alloc, SqlType::Bool)?;
     let form = Box::new(alloc, Expr::Lex(e))?;
     Box::new(alloc, Expr::MakeLit(form, boolean))
+}
+
+fn tested(alloc: Global, test: Test, a: Result<Box<Expr>, Memory>) -> Result<Box<Expr>, Memory>
+    ensures { IfOk result (λ e. IsOkAnd a (λ x. expr_seen e ≡ Sparql (Operator.Test test) (exprs (expr_seen x ∷ [])))) }
+{
+    of_one(alloc, Operator::Test(test), a)
+}
+
+fn taken(alloc: Global, take: Take, a: Result<Box<Expr>, Memory>) -> Result<Box<Expr>, Memory>
+    ensures { IfOk result (λ e. IsOkAnd a (λ x. expr_seen e ≡ Sparql (Operator.Take take) (exprs (expr_seen x ∷ [])))) }
+{
+    of_one(alloc, Operator::Take(take), a)
+}
+
+fn compared(
+    alloc: Global,
+    compare: Compare,
+    a: Result<Box<Expr>, Memory>,
+    b: Result<Box<Expr>, Memory>,
+) -> Result<Box<Expr>, Memory>
+    ensures { IfOk result (λ e. IsOkAnd a (λ x. IsOkAnd b (λ y. expr_seen e ≡ Sparql (Operator.Compare compare) (exprs (expr_seen x ∷ expr_seen y ∷ []))))) }
+{
+    of_two(alloc, Operator::Compare(compare), a, b)
 }
 
 fn of_one(

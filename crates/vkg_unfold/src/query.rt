@@ -1,6 +1,7 @@
 // The plan of an algebra, and that of a query.
 ghost use Rattle.std.specs.Prelude.{IfOk, if◌then◌else◌, IsOkAnd, ◌≡◌};
 ghost use Rattle.vkg_sparql.specs.Seen.{condition_seen, query_seen};
+ghost use Rattle.vkg_algebra.specs.Algebra.{Bgp};
 ghost use Rattle.vkg_algebra.specs.Answer.{columns, selected_variables};
 ghost use Rattle.vkg_algebra.specs.Seen.{algebra_seen};
 ghost use Rattle.vkg_algebra.specs.Translation.{algebra_of};
@@ -8,7 +9,7 @@ ghost use Rattle.vkg_algebra.specs.Visible.{visible};
 ghost use Rattle.vkg_plan.specs.Plan.{Distinct, Select};
 ghost use Rattle.vkg_plan.specs.Seen.{plan_seen};
 ghost use Rattle.vkg_unfold.specs.Conditions.{truth_expr};
-ghost use Rattle.vkg_unfold.specs.Unfolded.{start_plan, unfolded, visible_column};
+ghost use Rattle.vkg_unfold.specs.Unfolded.{bgp_plan, start_plan, unfolded, visible_column};
 
 use crate::bgp::bgp_plan;
 use crate::conditions::filter_expr;
@@ -21,7 +22,7 @@ use vkg_base::{Box, Items, Memory, Text};
 use vkg_plan::Plan;
 use vkg_row_rules::RowRule;
 use vkg_schema::Table;
-use vkg_sparql::{Condition, GraphName, Query, Selected};
+use vkg_sparql::{Condition, GraphName, Query, Selected, TriplePattern};
 
 /// The plan of an algebra in a mode. Its rows have a column for each visible variable, in the order in which they first appear, and in
 /// mode each the graph's name behind them.
@@ -48,67 +49,50 @@ fn plan_of(
     ensures { IfOk result (λ p. plan_seen p ≡ unfolded schema.now rules.now (algebra_seen algebra.now) mode.now) }
 {
     match algebra {
-        Algebra::Bgp(patterns) => {
-            let variables = visible(alloc, algebra)?;
-            Box::new(
-                alloc,
-                bgp_plan(
-                    alloc,
-                    schema,
-                    rules,
-                    mode,
-                    variables.as_slice(),
-                    patterns.as_slice(),
-                )?,
-            )
+        Algebra::Bgp(patterns) => of_patterns(alloc, schema, rules, mode, algebra, patterns),
+        Algebra::Join(a, b) => {
+            let p = plan_of(alloc, schema, rules, a, mode);
+            join_plan(alloc, mode, a, b, p, plan_of(alloc, schema, rules, b, mode))
         }
-        Algebra::Join(a, b) => join_plan(
-            alloc,
-            mode,
-            a,
-            b,
-            plan_of(alloc, schema, rules, a, mode),
-            plan_of(alloc, schema, rules, b, mode),
-        ),
-        Algebra::LeftJoin(a, b, condition) => left_plan(
-            alloc,
-            mode,
-            a,
-            b,
-            condition,
-            plan_of(alloc, schema, rules, a, mode),
-            plan_of(alloc, schema, rules, b, mode),
-        ),
-        Algebra::Union(a, b) => union_plan(
-            alloc,
-            mode,
-            a,
-            b,
-            plan_of(alloc, schema, rules, a, mode),
-            plan_of(alloc, schema, rules, b, mode),
-        ),
+        Algebra::LeftJoin(a, b, condition) => {
+            let p = plan_of(alloc, schema, rules, a, mode);
+            let q = plan_of(alloc, schema, rules, b, mode);
+            left_plan(alloc, mode, a, b, condition, p, q)
+        }
+        Algebra::Union(a, b) => {
+            let p = plan_of(alloc, schema, rules, a, mode);
+            union_plan(alloc, mode, a, b, p, plan_of(alloc, schema, rules, b, mode))
+        }
         Algebra::Filter(condition, a) => {
             filtered(alloc, condition, a, plan_of(alloc, schema, rules, a, mode))
         }
-        Algebra::Graph(GraphName::Named(iri), a) => graph_of_name(
-            alloc,
-            schema,
-            rules,
-            mode,
-            iri,
-            a,
-            in_graph(alloc, schema, rules, a, iri),
-        ),
-        Algebra::Graph(GraphName::Each(variable), a) => graph_of_each(
-            alloc,
-            schema,
-            rules,
-            mode,
-            *variable,
-            a,
-            plan_of(alloc, schema, rules, a, &Mode::Each),
-        ),
+        Algebra::Graph(GraphName::Named(iri), a) => {
+            let p = in_graph(alloc, schema, rules, a, iri);
+            graph_of_name(alloc, schema, rules, mode, iri, a, p)
+        }
+        Algebra::Graph(GraphName::Each(variable), a) => {
+            let p = plan_of(alloc, schema, rules, a, &Mode::Each);
+            graph_of_each(alloc, schema, rules, mode, *variable, a, p)
+        }
     }
+}
+
+/// The plan of an algebra that is some patterns.
+fn of_patterns(
+    alloc: Global,
+    schema: &[Table],
+    rules: &[RowRule],
+    mode: &Mode,
+    algebra: &Algebra,
+    patterns: &Items<TriplePattern>,
+) -> Result<Box<Plan>, Memory>
+    requires { algebra_seen algebra.now ≡ Bgp patterns.now }
+    ensures { IfOk result (λ p. plan_seen p ≡ bgp_plan schema.now rules.now mode.now patterns.now) }
+{
+    let variables = visible(alloc, algebra)?;
+    let patterns = patterns.as_slice();
+    let plan = bgp_plan(alloc, schema, rules, mode, variables.as_slice(), patterns)?;
+    Box::new(alloc, plan)
 }
 
 /// The plan in the graph of a name.

@@ -1,12 +1,12 @@
 // The plans of two algebras beside each other: join, left join and union (SPARQL 1.1, 18.5).
 ghost use Rattle.std.specs.Prelude.{[], filter, IfOk, IsOkAnd, length, map, OnOk, ◌++◌, ◌+◌, ◌∷◌, ◌≡◌};
 ghost use Rattle.vkg_algebra.specs.Seen.{algebra_seen, condition_seen_if_any};
-ghost use Rattle.vkg_algebra.specs.Visible.{each_once, visible};
+ghost use Rattle.vkg_algebra.specs.Visible.{each_once, has, visible};
 ghost use Rattle.vkg_expr.specs.Expr.{Col, IsNull, Same};
 ghost use Rattle.vkg_expr.specs.Seen.{expr_seen};
 ghost use Rattle.vkg_plan.specs.Seen.{plan_seen};
 ghost use Rattle.vkg_unfold.specs.Conditions.{condition_of};
-ghost use Rattle.vkg_unfold.specs.Unfolded.{agreement, column, columns_in, has, if_each, join_plan, left_column, left_plan, merged, merged_columns, or_null, right_column, union_member, union_plan, visible_column};
+ghost use Rattle.vkg_unfold.specs.Unfolded.{agreement, column, columns_in, if_each, join_plan, left_column, left_plan, merged, merged_columns, or_null, right_column, union_member, union_plan, visible_column};
 
 use crate::columns::{columns_in, has, merged, place, right_place, visible_column};
 use crate::conditions::truth_expr;

@@ -1,7 +1,7 @@
 use Rattle.std.proofs.Common.{◌≡◌, ap, subst, refl, true, false, IsUtf8}
 use Rattle.std.specs.Str.{is_utf8}
 use Rattle.std.proofs.lemmas.Str.{IsUtf8-from_is_utf8, IsUtf8-string_bytes, is_utf8-from_IsUtf8}
-use Rattle.vkg_match.proofs.Splits.{is_false}
+use Rattle.vkg_lists.proofs.Bools.{is_false}
 use Rattle.vkg_match.proofs.sources.as_text.Goals as goal
 
 pub returns-in-Ok : goal.returns-in-Ok

@@ -1,6 +1,7 @@
 use Rattle.std.proofs.Common.{◌∙◌, sym, ap, Ok, nat_lt}
 use Rattle.std.specs.Prelude.{sum_by}
-use Rattle.vkg_r2rml.specs.RuleCount.{rule_limit, rules_of_map}
+use Rattle.vkg_maps.specs.QuadRules.{rule_limit}
+use Rattle.vkg_r2rml.specs.RuleCount.{rules_of_map}
 use Rattle.vkg_r2rml.proofs.MappingLemmas.{too_many, few_enough}
 use Rattle.vkg_r2rml.proofs.mapping.within_limit.Goals as goal
 

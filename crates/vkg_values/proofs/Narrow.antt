@@ -30,7 +30,7 @@ narrow_typed false true is_integer true other false int dec rest h = refl
 narrow_typed false true is_integer false other wide int dec rest h = refl
 narrow_typed false false is_integer is_decimal other wide int dec rest h = refl
 
-narrow_known : (t : Term) → is_wide_number t ≡ false → known widest t ≡ known None t
+pub narrow_known : (t : Term) → is_wide_number t ≡ false → known widest t ≡ known None t
 narrow_known (Iri iri) h = refl
 narrow_known (Blank label) h = refl
 narrow_known (Lit text Plain) h = refl

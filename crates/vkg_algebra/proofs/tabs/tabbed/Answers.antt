@@ -1,6 +1,6 @@
 use Rattle.std.proofs.Common.{refl}
-use Rattle.vkg_rewrite.proofs.Joined.{joined_is}
-use Rattle.vkg_rewrite.proofs.tabs.tabbed.Goals as goal
+use Rattle.vkg_lists.proofs.Texts.{joined_is}
+use Rattle.vkg_algebra.proofs.tabs.tabbed.Goals as goal
 
 pub returns-in_ok-push_each_behind-in-Some : goal.returns-in_ok-push_each_behind-in-Some
 returns-in_ok-push_each_behind-in-Some c =
