@@ -10,7 +10,7 @@ is said where that is an answer of a proof file, which no longer fits the change
 import re
 import sys
 
-LINE = re.compile(r"rt: must-fail (\w+)/(\w+)\.edit: refused, as it must be: (.*)")
+LINE = re.compile(r"rt: must-fail (\w+)/(\w+)\.edit: refused, as it must be(?:: (.*))?")
 NAME = re.compile(r"`([^`]+)`")
 
 
@@ -22,11 +22,13 @@ def function_of(crate, bug):
     with open(f"crates/{crate}/{file}", encoding="utf-8") as it:
         before = it.read().partition(old)[0] + old
     names = re.findall(r"\bfn (\w+)", before)
-    return f"`{names[-1]}`" if names else "a constant"
+    return f"`{names[-1]}`" if names and "const " not in old else "a constant"
 
 
 def goal_of(said):
     """The goal that the prover names."""
+    if "control never comes here" in said:
+        return "the arm is not unreachable"
     goal = re.search(r"\(`([^`]+)`\)", said) or NAME.search(said)
     answer = ", an answer" if re.match(r"(note: )?(\./)?proofs/", said) and "/Answers" in said else ""
     return f"`{goal[1]}`{answer}" if goal else "a lemma about it"

@@ -1,5 +1,8 @@
-//! The program: the top call over the files of the system and the standard streams. It exits with the number of the
-//! status.
+//! The program `vkg`: the top call over the files of the system and the standard streams.
+//!
+//! It exits with the number of the status, and promises what `vkg_cli::vkg` does. What files and streams hold, no contract says.
+//!
+//! Stands on `vkg_cli` (the top call) and `vkg_base` (`HostStore`, `HostSink`).
 #![tactic(auto)]
 
 use std::env;
