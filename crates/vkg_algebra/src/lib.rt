@@ -25,7 +25,7 @@ pub use header_line::header;
 pub use selected::{each_once, selected_variables};
 pub use tabs::tabbed;
 pub use translation::translate;
-pub use visible_variables::visible;
+pub use visible_variables::{variables_of_patterns, visible};
 
 #[cfg(test)]
 mod tests;

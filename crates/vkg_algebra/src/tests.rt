@@ -76,59 +76,57 @@ fn write_condition(out: &mut String, condition: &Condition) -> Result<(), Fail> 
     Ok(())
 }
 
-/// The operators of an algebra, with the number of each basic graph pattern's triples.
-fn write_shape(out: &mut String, algebra: &Algebra) -> Result<(), Fail> {
+/// The name of an algebra's operator; that of a basic graph pattern tells how many triples it has.
+fn operator(algebra: &Algebra) -> &'static str {
     match algebra {
-        Algebra::Bgp(patterns) => {
-            let text = if patterns.is_empty() {
-                "Z"
-            } else if patterns.len() == 1 {
-                "Bgp1"
-            } else {
-                "Bgp2"
-            };
-            out.push_str(text)?;
-        }
-        Algebra::Join(a, b) => {
-            out.push_str("Join(")?;
-            write_shape(out, a)?;
-            out.push_str(", ")?;
-            write_shape(out, b)?;
-            out.push_str(")")?;
-        }
+        Algebra::Bgp(patterns) => match patterns.len() {
+            0 => "Z",
+            1 => "Bgp1",
+            _ => "Bgp2",
+        },
+        Algebra::Join(_, _) => "Join",
+        Algebra::LeftJoin(_, _, _) => "LeftJoin",
+        Algebra::Union(_, _) => "Union",
+        Algebra::Filter(_, _) => "Filter",
+        Algebra::Graph(_, _) => "Graph",
+    }
+}
+
+/// The operators of an algebra.
+fn write_shape(out: &mut String, algebra: &Algebra) -> Result<(), Fail> {
+    out.push_str(operator(algebra))?;
+    match algebra {
+        Algebra::Bgp(_) => return Ok(()),
+        Algebra::Join(a, b) => write_two(out, a, b)?,
+        Algebra::Union(a, b) => write_two(out, a, b)?,
         Algebra::LeftJoin(a, b, condition) => {
-            out.push_str("LeftJoin(")?;
-            write_shape(out, a)?;
-            out.push_str(", ")?;
-            write_shape(out, b)?;
+            write_two(out, a, b)?;
             out.push_str(", ")?;
             match condition {
                 Some(condition) => write_condition(out, condition)?,
                 None => out.push_str("true")?,
             }
-            out.push_str(")")?;
-        }
-        Algebra::Union(a, b) => {
-            out.push_str("Union(")?;
-            write_shape(out, a)?;
-            out.push_str(", ")?;
-            write_shape(out, b)?;
-            out.push_str(")")?;
         }
         Algebra::Filter(condition, a) => {
-            out.push_str("Filter(")?;
+            out.push_str("(")?;
             write_condition(out, condition)?;
             out.push_str(", ")?;
             write_shape(out, a)?;
-            out.push_str(")")?;
         }
         Algebra::Graph(_, a) => {
-            out.push_str("Graph(")?;
+            out.push_str("(")?;
             write_shape(out, a)?;
-            out.push_str(")")?;
         }
     }
-    Ok(())
+    Ok(out.push_str(")")?)
+}
+
+/// The operators of two algebras.
+fn write_two(out: &mut String, a: &Algebra, b: &Algebra) -> Result<(), Fail> {
+    out.push_str("(")?;
+    write_shape(out, a)?;
+    out.push_str(", ")?;
+    write_shape(out, b)
 }
 
 fn shape(alloc: Global, group: Items<Part>) -> Result<String, Fail> {

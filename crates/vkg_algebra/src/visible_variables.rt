@@ -1,6 +1,7 @@
 // The variables of an algebra (SPARQL 1.1, 18.2.1).
 ghost use Rattle.std.specs.Prelude.{◌≡◌, [], ◌∷◌, IfOk, OnOk, flat_map, nat_eq};
 ghost use Rattle.std.specs.List.{list_any};
+ghost use Rattle.vkg_algebra.specs.Algebra.{Bgp};
 ghost use Rattle.vkg_algebra.specs.Seen.{algebra_seen};
 ghost use Rattle.vkg_algebra.specs.Visible.{AddsEach, appearing, each_once, name_variables, node_variables, pattern_variables, visible as visible_of};
 
@@ -17,6 +18,18 @@ pub fn visible(alloc: Global, algebra: &Algebra) -> Result<Items<Var>, Memory>
     let mut found = Items::new(alloc);
     add_all(&mut found, algebra)?;
     Ok(found)
+}
+
+/// The variables of triple patterns, each once, in the order in which they first appear: those of a basic graph pattern.
+pub fn variables_of_patterns(
+    alloc: Global,
+    patterns: &[TriplePattern],
+) -> Result<Items<Var>, Memory>
+    ensures { IfOk result (λ vs. vs ≡ visible_of (Bgp patterns.now)) }
+{
+    let mut variables = Items::new(alloc);
+    add_patterns(&mut variables, patterns)?;
+    Ok(variables)
 }
 
 fn add_all(found: &mut Items<Var>, algebra: &Algebra) -> Result<(), Memory>

@@ -104,52 +104,55 @@ fn answer(alloc: Global, schema: &Schema, front: &str, rest: &str) -> Result<usi
     }
 }
 
+// What a mapping begins with and goes on with, and the check that fails with the number of its map.
+const FAULTS: [(&str, &str, (u8, usize)); 25] = [
+    ("", "", (21, 0)),
+    ("", "m a rr:TriplesMap", (6, 1)),
+    ("", "m logicalTable 'emp'", (6, 1)),
+    ("", "m logicalTable _t; m logicalTable _u", (6, 1)),
+    ("", "m logicalTable _t", (7, 1)),
+    (TABLE, "_t sqlQuery 'q'", (7, 1)),
+    ("", "m logicalTable _t; _t tableName '\"'", (7, 1)),
+    ("", "m logicalTable _t; _t sqlQuery 'q'", (8, 1)),
+    ("", "m logicalTable _t; _t tableName 'nope'", (9, 1)),
+    ("", "m logicalTable _t; _t tableName '\"EMP\"'", (9, 1)),
+    (TABLE, "", (10, 1)),
+    (SUBJECT, "m subject s", (10, 1)),
+    (TABLE, "m subjectMap _s", (11, 1)),
+    (SUBJECT, "_s class 'c'", (11, 1)),
+    (PARENT, "_o column 'id'", (11, 1)),
+    (
+        TABLE,
+        "m subjectMap _s; _s template 'http://e/{nope}'",
+        (12, 1),
+    ),
+    (
+        TABLE,
+        "m subjectMap _s; _s template 'http://e/{id'",
+        (13, 1),
+    ),
+    (TABLE, "m subjectMap _s; _s template '{name}:x'", (14, 1)),
+    (SUBJECT, "_s termType rr:Literal", (15, 1)),
+    (
+        PAIR,
+        "_p objectMap _o; _o column 'name'; _o language 'e_n'",
+        (16, 1),
+    ),
+    (PAIR, "", (17, 1)),
+    (SUBJECT, "m predicateObjectMap 'p'", (17, 1)),
+    (PARENT, "", (18, 1)),
+    (BOTH, "_o parentTriplesMap m", (18, 1)),
+    (
+        PAIR,
+        "_p object #999999999999999999999999999999999999999",
+        (22, 1),
+    ),
+];
+
 #[test]
 fn each_fault_has_its_map(rt: HostRuntime) -> Result<(), Fail> {
     let schema = read_schema(rt.alloc(), COMPANY.as_bytes())?;
-    for (front, rest, want) in [
-        ("", "", (21u8, 0usize)),
-        ("", "m a rr:TriplesMap", (6, 1)),
-        ("", "m logicalTable 'emp'", (6, 1)),
-        ("", "m logicalTable _t; m logicalTable _u", (6, 1)),
-        ("", "m logicalTable _t", (7, 1)),
-        (TABLE, "_t sqlQuery 'q'", (7, 1)),
-        ("", "m logicalTable _t; _t tableName '\"'", (7, 1)),
-        ("", "m logicalTable _t; _t sqlQuery 'q'", (8, 1)),
-        ("", "m logicalTable _t; _t tableName 'nope'", (9, 1)),
-        ("", "m logicalTable _t; _t tableName '\"EMP\"'", (9, 1)),
-        (TABLE, "", (10, 1)),
-        (SUBJECT, "m subject s", (10, 1)),
-        (TABLE, "m subjectMap _s", (11, 1)),
-        (SUBJECT, "_s class 'c'", (11, 1)),
-        (PARENT, "_o column 'id'", (11, 1)),
-        (
-            TABLE,
-            "m subjectMap _s; _s template 'http://e/{nope}'",
-            (12, 1),
-        ),
-        (
-            TABLE,
-            "m subjectMap _s; _s template 'http://e/{id'",
-            (13, 1),
-        ),
-        (TABLE, "m subjectMap _s; _s template '{name}:x'", (14, 1)),
-        (SUBJECT, "_s termType rr:Literal", (15, 1)),
-        (
-            PAIR,
-            "_p objectMap _o; _o column 'name'; _o language 'e_n'",
-            (16, 1),
-        ),
-        (PAIR, "", (17, 1)),
-        (SUBJECT, "m predicateObjectMap 'p'", (17, 1)),
-        (PARENT, "", (18, 1)),
-        (BOTH, "_o parentTriplesMap m", (18, 1)),
-        (
-            PAIR,
-            "_p object #999999999999999999999999999999999999999",
-            (22, 1),
-        ),
-    ] {
+    for (front, rest, want) in FAULTS {
         assert_eq!(rt;
             answer(rt.alloc(), &schema, front, rest),
             Err(want),

@@ -155,36 +155,38 @@ fn made(alloc: Global, node: &str) -> Made {
     }
 }
 
+// Nodes of plans, and their texts.
+const TEXTS_OF_NODES: [(&str, &str); 10] = [
+    ("Unit", "VALUES ()"),
+    ("Empty", "EMPTY (INT, TERM)"),
+    ("Scan", "TABLE \"a\"\"b\""),
+    (
+        "Select",
+        "SELECT * FROM (TABLE \"emp\") AS t WHERE NOT(IS_NULL(c2))",
+    ),
+    (
+        "Project",
+        "SELECT c1 AS c1, c2 AS c2 FROM (TABLE \"dept\") AS t",
+    ),
+    ("Project of none", "SELECT () FROM (VALUES ()) AS t"),
+    (
+        "Join",
+        "SELECT * FROM (TABLE \"dept\") AS t1 CROSS JOIN (TABLE \"dept\") AS t2 WHERE SAME(c1, c3)",
+    ),
+    (
+        "Left",
+        "SELECT * FROM (TABLE \"emp\") AS t1 LEFT JOIN (TABLE \"dept\") AS t2 ON SAME(c3, c4)",
+    ),
+    ("UnionAll", "(TABLE \"dept\") UNION ALL (TABLE \"dept\")"),
+    ("Distinct", "SELECT DISTINCT * FROM (VALUES ()) AS t"),
+];
+
 #[test]
 fn each_node_has_its_text(rt: HostRuntime) -> Result<(), Fail> {
-    let rows: [(&str, &str); 10] = [
-        ("Unit", "VALUES ()"),
-        ("Empty", "EMPTY (INT, TERM)"),
-        ("Scan", "TABLE \"a\"\"b\""),
-        (
-            "Select",
-            "SELECT * FROM (TABLE \"emp\") AS t WHERE NOT(IS_NULL(c2))",
-        ),
-        (
-            "Project",
-            "SELECT c1 AS c1, c2 AS c2 FROM (TABLE \"dept\") AS t",
-        ),
-        ("Project of none", "SELECT () FROM (VALUES ()) AS t"),
-        (
-            "Join",
-            "SELECT * FROM (TABLE \"dept\") AS t1 CROSS JOIN (TABLE \"dept\") AS t2 WHERE SAME(c1, c3)",
-        ),
-        (
-            "Left",
-            "SELECT * FROM (TABLE \"emp\") AS t1 LEFT JOIN (TABLE \"dept\") AS t2 ON SAME(c3, c4)",
-        ),
-        ("UnionAll", "(TABLE \"dept\") UNION ALL (TABLE \"dept\")"),
-        ("Distinct", "SELECT DISTINCT * FROM (VALUES ()) AS t"),
-    ];
     let schema = read_schema(rt.alloc(), COMPANY.as_bytes())
         .ok()
         .ok_or("a schema")?;
-    for (node, expected) in rows {
+    for (node, expected) in TEXTS_OF_NODES {
         let plan = made(rt.alloc(), node)?;
         let fits = well_typed(rt.alloc(), &plan, &schema)?;
         assert!(rt; fits, "{node}");

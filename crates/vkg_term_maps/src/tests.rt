@@ -4,6 +4,7 @@ use crate::vocabulary::{
 };
 use crate::{Graph, Place, Role, TermMapError, TermMapFault, read_term_map};
 use std::alloc::Global;
+use std::process::Abort;
 use std::test::Fail;
 use vkg_base::{Items, Memory, Text};
 use vkg_maps::{Piece, TermMap, TermType};
@@ -148,24 +149,45 @@ fn is_shown(
     Ok(line.as_str() == text)
 }
 
+/// Whether each term map, with its role and its properties, is shown as its text.
+fn are_shown(
+    rt: &impl Abort,
+    alloc: Global,
+    rows: &[(Role, &[(&'static str, Value)], &str)],
+) -> Result<(), Fail> {
+    for (role, properties, text) in rows {
+        assert!(rt; is_shown(alloc, *role, properties, text)?, "{text}");
+    }
+    Ok(())
+}
+
 #[test]
-fn term_maps(rt: HostRuntime) -> Result<(), Fail> {
+fn columns_with_their_defaults(rt: HostRuntime) -> Result<(), Fail> {
     let id = (RR_COLUMN, Value::Text("ID"));
     let name = (RR_COLUMN, Value::Text("name"));
-    let iri = (RR_TERM_TYPE, Value::Iri(RR_IRI));
-    let blank = (RR_TERM_TYPE, Value::Iri(RR_BLANK_NODE));
-    let language = (RR_LANGUAGE, Value::Text("DE-ch"));
-    let rows: [(Role, &[(&'static str, Value)], &str); 14] = [
+    let rows: [(Role, &[(&'static str, Value)], &str); 8] = [
         (Role::Subject, &[id], "column 0 IRI"),
-        (Role::Subject, &[id, blank], "column 0 blank"),
-        (Role::Object, &[id, iri], "column 0 IRI"),
+        (
+            Role::Subject,
+            &[id, (RR_TERM_TYPE, Value::Iri(RR_BLANK_NODE))],
+            "column 0 blank",
+        ),
+        (
+            Role::Object,
+            &[id, (RR_TERM_TYPE, Value::Iri(RR_IRI))],
+            "column 0 IRI",
+        ),
         (
             Role::Object,
             &[id],
             "column 0 ^^http://www.w3.org/2001/XMLSchema#integer",
         ),
         (Role::Object, &[name], "column 1 plain"),
-        (Role::Object, &[name, language], "column 1 @de-ch"),
+        (
+            Role::Object,
+            &[name, (RR_LANGUAGE, Value::Text("DE-ch"))],
+            "column 1 @de-ch",
+        ),
         (
             Role::Object,
             &[(RR_COLUMN, Value::Text("\"a\"\"B\""))],
@@ -176,6 +198,15 @@ fn term_maps(rt: HostRuntime) -> Result<(), Fail> {
             &[id, (RR_DATATYPE, Value::Iri(XSD_STRING))],
             "column 0 plain",
         ),
+    ];
+    are_shown(&rt, rt.alloc(), rows.as_slice())
+}
+
+#[test]
+fn templates_and_constants(rt: HostRuntime) -> Result<(), Fail> {
+    let blank = (RR_TERM_TYPE, Value::Iri(RR_BLANK_NODE));
+    let language = (RR_LANGUAGE, Value::Text("DE-ch"));
+    let rows: [(Role, &[(&'static str, Value)], &str); 6] = [
         (
             Role::Object,
             &[(RR_TEMPLATE, Value::Text("x/{id}"))],
@@ -210,26 +241,42 @@ fn term_maps(rt: HostRuntime) -> Result<(), Fail> {
             "\"c\"",
         ),
     ];
-    for (role, properties, text) in rows {
-        assert!(rt; is_shown(rt.alloc(), role, properties, text)?, "{text}");
+    are_shown(&rt, rt.alloc(), rows.as_slice())
+}
+
+/// Whether of each term map the check with its number fails first.
+fn are_refused(
+    rt: &impl Abort,
+    alloc: Global,
+    rows: &[(u8, Role, &[(&'static str, Value)])],
+) -> Result<(), Fail> {
+    for (number, role, properties) in rows {
+        assert_eq!(rt; check(alloc, *role, properties)?, *number);
     }
     Ok(())
 }
 
 #[test]
-fn faults(rt: HostRuntime) -> Result<(), Fail> {
+fn faults_of_one_value(rt: HostRuntime) -> Result<(), Fail> {
     let id = (RR_COLUMN, Value::Text("id"));
-    let literal = (RR_TERM_TYPE, Value::Iri(RR_LITERAL));
-    let iri = (RR_TERM_TYPE, Value::Iri(RR_IRI));
     let doubtful = (RR_TEMPLATE, Value::Text("{id}:x"));
-    let language = (RR_LANGUAGE, Value::Text("en"));
-    let rows: [(u8, Role, &[(&'static str, Value)]); 24] = [
+    let rows: [(u8, Role, &[(&'static str, Value)]); 6] = [
         (11, Role::Subject, &[]),
         (11, Role::Subject, &[id, doubtful]),
         (11, Role::Object, &[id, (RR_COLUMN, Value::Text("name"))]),
         (11, Role::Subject, &[(RR_CONSTANT, Value::Text("c"))]),
         (11, Role::Object, &[(RR_COLUMN, Value::Iri("http://e/id"))]),
         (11, Role::Object, &[(RR_TEMPLATE, Value::Tagged("{id}"))]),
+    ];
+    are_refused(&rt, rt.alloc(), rows.as_slice())
+}
+
+#[test]
+fn faults_of_columns_and_templates(rt: HostRuntime) -> Result<(), Fail> {
+    let literal = (RR_TERM_TYPE, Value::Iri(RR_LITERAL));
+    let iri = (RR_TERM_TYPE, Value::Iri(RR_IRI));
+    let doubtful = (RR_TEMPLATE, Value::Text("{id}:x"));
+    let rows: [(u8, Role, &[(&'static str, Value)]); 8] = [
         (12, Role::Object, &[(RR_COLUMN, Value::Text("nope"))]),
         (12, Role::Object, &[(RR_COLUMN, Value::Text("\"NAME\""))]),
         (12, Role::Object, &[(RR_COLUMN, Value::Text(""))]),
@@ -241,42 +288,41 @@ fn faults(rt: HostRuntime) -> Result<(), Fail> {
             &[(RR_TEMPLATE, Value::Text("{}")), literal],
         ),
         (14, Role::Subject, &[doubtful]),
-        (14, Role::Object, &[doubtful, iri, language]),
+        (
+            14,
+            Role::Object,
+            &[doubtful, iri, (RR_LANGUAGE, Value::Text("en"))],
+        ),
+    ];
+    are_refused(&rt, rt.alloc(), rows.as_slice())
+}
+
+#[test]
+fn faults_of_types_and_annotations(rt: HostRuntime) -> Result<(), Fail> {
+    let id = (RR_COLUMN, Value::Text("id"));
+    let literal = (RR_TERM_TYPE, Value::Iri(RR_LITERAL));
+    let blank = (RR_TERM_TYPE, Value::Iri(RR_BLANK_NODE));
+    let iri = (RR_TERM_TYPE, Value::Iri(RR_IRI));
+    let word = (RR_TERM_TYPE, Value::Text("Literal"));
+    let doubtful = (RR_TEMPLATE, Value::Text("{id}:x"));
+    let language = (RR_LANGUAGE, Value::Text("en"));
+    let other = (RR_LANGUAGE, Value::Text("de"));
+    let cut = (RR_LANGUAGE, Value::Text("en-"));
+    let tagged = (RR_DATATYPE, Value::Iri(RDF_LANG_STRING));
+    let plain = (RR_DATATYPE, Value::Iri(XSD_STRING));
+    let rows: [(u8, Role, &[(&'static str, Value)]); 10] = [
         (15, Role::Subject, &[doubtful, literal]),
         (15, Role::Object, &[id, literal, iri]),
-        (
-            15,
-            Role::Predicate,
-            &[id, (RR_TERM_TYPE, Value::Iri(RR_BLANK_NODE))],
-        ),
-        (
-            15,
-            Role::Object,
-            &[id, (RR_TERM_TYPE, Value::Text("Literal"))],
-        ),
+        (15, Role::Predicate, &[id, blank]),
+        (15, Role::Object, &[id, word]),
         (16, Role::Subject, &[id, language]),
-        (
-            16,
-            Role::Object,
-            &[id, language, (RR_LANGUAGE, Value::Text("de"))],
-        ),
-        (16, Role::Object, &[id, (RR_LANGUAGE, Value::Text("en-"))]),
-        (
-            16,
-            Role::Object,
-            &[id, (RR_DATATYPE, Value::Iri(RDF_LANG_STRING))],
-        ),
-        (
-            16,
-            Role::Object,
-            &[id, language, (RR_DATATYPE, Value::Iri(XSD_STRING))],
-        ),
+        (16, Role::Object, &[id, language, other]),
+        (16, Role::Object, &[id, cut]),
+        (16, Role::Object, &[id, tagged]),
+        (16, Role::Object, &[id, language, plain]),
         (22, Role::Object, &[(RR_CONSTANT, Value::Integer(WIDE))]),
     ];
-    for (number, role, properties) in rows {
-        assert_eq!(rt; check(rt.alloc(), role, properties)?, number);
-    }
-    Ok(())
+    are_refused(&rt, rt.alloc(), rows.as_slice())
 }
 
 #[test]

@@ -138,61 +138,63 @@ fn numbers_of_turtle(rt: HostRuntime) -> Result<(), Fail> {
     Ok(())
 }
 
+// Texts, and their tokens: of each its kind and its length in bytes.
+const TOKENS_OF_SPARQL: [(&str, &str); 20] = [
+    ("{ } ( ) [ ] . ; ,", " 0:1 1:1 2:1 3:1 4:1 5:1 6:1 7:1 8:1"),
+    (
+        "= != < > <= >= ! && ||",
+        " 9:1 10:2 11:1 12:1 13:2 14:2 15:1 16:2 17:2",
+    ),
+    (
+        "* / | ^ ^^ + - ?",
+        " 18:1 19:1 20:1 21:1 22:2 23:1 24:1 25:1",
+    ),
+    (
+        "<a> <> <=> <a b> <=1",
+        " 26:3 26:2 26:3 11:1 36:1 60:1 12:1 13:2 33:1",
+    ),
+    (
+        "p: p:a _:a ?a $1 ?a-b",
+        " 27:2 28:3 29:3 30:2 30:2 30:2 24:1 60:1",
+    ),
+    ("'a' @en 1 1.5 1e1", " 31:3 32:3 33:1 34:3 35:3"),
+    ("a A TRUE fAlse", " 36:1 60:1 37:4 38:5"),
+    (
+        "Base prefix SELECT distinct Reduced where",
+        " 39:4 40:6 41:6 42:8 43:7 44:5",
+    ),
+    ("optional Graph FILTER union", " 45:8 46:5 47:6 48:5"),
+    (
+        "bound sameTerm isIRI isURI isBlank isLiteral",
+        " 49:5 50:8 51:5 52:5 53:7 54:9",
+    ),
+    ("isNumeric str LANG datatype", " 55:9 56:3 57:4 58:8"),
+    (
+        "ask Construct describe from service minus values bind as",
+        " 59:3 59:9 59:8 59:4 59:7 59:5 59:6 59:4 59:2",
+    ),
+    (
+        "order limit offset group having count sum min max avg",
+        " 59:5 59:5 59:6 59:5 59:6 59:5 59:3 59:3 59:3 59:3",
+    ),
+    (
+        "sample group_concat exists not in regex if coalesce",
+        " 59:6 59:12 59:6 59:3 59:2 59:5 59:2 59:8",
+    ),
+    (
+        "langmatches strlen strstarts strends contains",
+        " 59:11 59:6 59:9 59:7 59:8",
+    ),
+    ("insert delete load clear", " 59:6 59:6 59:4 59:5"),
+    ("FILTERBOUND ?x+1 1-1", " 60:11 30:2 33:2 33:1 33:2"),
+    ("? $", "fault 2"),
+    ("a & b", "fault 2"),
+    ("'\\ud800'", "fault 0"),
+];
+
 #[test]
 fn tokens_of_sparql(rt: HostRuntime) -> Result<(), Fail> {
-    let rows = [
-        ("{ } ( ) [ ] . ; ,", " 0:1 1:1 2:1 3:1 4:1 5:1 6:1 7:1 8:1"),
-        (
-            "= != < > <= >= ! && ||",
-            " 9:1 10:2 11:1 12:1 13:2 14:2 15:1 16:2 17:2",
-        ),
-        (
-            "* / | ^ ^^ + - ?",
-            " 18:1 19:1 20:1 21:1 22:2 23:1 24:1 25:1",
-        ),
-        (
-            "<a> <> <=> <a b> <=1",
-            " 26:3 26:2 26:3 11:1 36:1 60:1 12:1 13:2 33:1",
-        ),
-        (
-            "p: p:a _:a ?a $1 ?a-b",
-            " 27:2 28:3 29:3 30:2 30:2 30:2 24:1 60:1",
-        ),
-        ("'a' @en 1 1.5 1e1", " 31:3 32:3 33:1 34:3 35:3"),
-        ("a A TRUE fAlse", " 36:1 60:1 37:4 38:5"),
-        (
-            "Base prefix SELECT distinct Reduced where",
-            " 39:4 40:6 41:6 42:8 43:7 44:5",
-        ),
-        ("optional Graph FILTER union", " 45:8 46:5 47:6 48:5"),
-        (
-            "bound sameTerm isIRI isURI isBlank isLiteral",
-            " 49:5 50:8 51:5 52:5 53:7 54:9",
-        ),
-        ("isNumeric str LANG datatype", " 55:9 56:3 57:4 58:8"),
-        (
-            "ask Construct describe from service minus values bind as",
-            " 59:3 59:9 59:8 59:4 59:7 59:5 59:6 59:4 59:2",
-        ),
-        (
-            "order limit offset group having count sum min max avg",
-            " 59:5 59:5 59:6 59:5 59:6 59:5 59:3 59:3 59:3 59:3",
-        ),
-        (
-            "sample group_concat exists not in regex if coalesce",
-            " 59:6 59:12 59:6 59:3 59:2 59:5 59:2 59:8",
-        ),
-        (
-            "langmatches strlen strstarts strends contains",
-            " 59:11 59:6 59:9 59:7 59:8",
-        ),
-        ("insert delete load clear", " 59:6 59:6 59:4 59:5"),
-        ("FILTERBOUND ?x+1 1-1", " 60:11 30:2 33:2 33:1 33:2"),
-        ("? $", "fault 2"),
-        ("a & b", "fault 2"),
-        ("'\\ud800'", "fault 0"),
-    ];
-    for (text, want) in rows.iter() {
+    for (text, want) in TOKENS_OF_SPARQL.iter() {
         let found = shown(&rt, Lang::Sparql, text)?;
         assert_eq!(rt; found.as_str(), *want, "at {text}");
     }

@@ -13,7 +13,7 @@ use crate::mode::Mode;
 use crate::named::{numbered, pattern_names, repeats, same_name};
 use crate::pattern::{names_plan, pattern_plan};
 use std::alloc::Global;
-use vkg_algebra::Var;
+use vkg_algebra::{Var, variables_of_patterns};
 use vkg_base::{Box, Items, Memory};
 use vkg_expr::Expr;
 use vkg_plan::Plan;
@@ -21,23 +21,21 @@ use vkg_row_rules::RowRule;
 use vkg_schema::Table;
 use vkg_sparql::TriplePattern;
 
-/// The plan of a basic graph pattern with these variables. The empty one has one solution, in mode each one in each graph.
+/// The plan of a basic graph pattern. The empty one has one solution, in mode each one in each graph.
 pub(crate) fn bgp_plan(
     alloc: Global,
     schema: &[Table],
     rules: &[RowRule],
     mode: &Mode,
-    variables: &[Var],
     patterns: &[TriplePattern],
 ) -> Result<Plan, Memory>
-    requires { variables.now ≡ visible (Bgp patterns.now) }
     ensures { IfOk result (λ p. plan_seen p ≡ bgp_plan schema.now rules.now mode.now patterns.now) }
 {
     match (mode, patterns) {
         (Mode::Default, []) => Ok(Plan::Unit),
         (Mode::InGraph(_), []) => Ok(Plan::Unit),
         (Mode::Each, []) => names_plan(alloc, schema, rules),
-        (_, [_, ..]) => joined(alloc, schema, rules, mode, variables, patterns),
+        (_, [_, ..]) => joined(alloc, schema, rules, mode, patterns),
     }
 }
 
@@ -47,13 +45,13 @@ fn joined(
     schema: &[Table],
     rules: &[RowRule],
     mode: &Mode,
-    variables: &[Var],
     patterns: &[TriplePattern],
 ) -> Result<Plan, Memory>
-    ensures { IfOk result (λ p. plan_seen p ≡ patterns_plan schema.now rules.now mode.now variables.now patterns.now) }
+    ensures { IfOk result (λ p. plan_seen p ≡ patterns_plan schema.now rules.now mode.now (visible (Bgp patterns.now)) patterns.now) }
 {
+    let variables = variables_of_patterns(alloc, patterns)?;
     let names = all_names(alloc, mode, patterns)?;
-    let columns = wanted(alloc, mode, variables, names.as_slice())?;
+    let columns = wanted(alloc, mode, variables.as_slice(), names.as_slice())?;
     let members = pattern_plans(alloc, schema, rules, mode, patterns)?;
     let numbered = numbered(alloc, names.as_slice())?;
     let agreement = and_of(repeats(alloc, numbered.as_slice())?);

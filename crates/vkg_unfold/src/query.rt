@@ -1,7 +1,6 @@
 // The plan of an algebra, and that of a query.
 ghost use Rattle.std.specs.Prelude.{IfOk, if◌then◌else◌, IsOkAnd, ◌≡◌};
 ghost use Rattle.vkg_sparql.specs.Seen.{condition_seen, query_seen};
-ghost use Rattle.vkg_algebra.specs.Algebra.{Bgp};
 ghost use Rattle.vkg_algebra.specs.Answer.{columns, selected_variables};
 ghost use Rattle.vkg_algebra.specs.Seen.{algebra_seen};
 ghost use Rattle.vkg_algebra.specs.Translation.{algebra_of};
@@ -49,7 +48,7 @@ fn plan_of(
     ensures { IfOk result (λ p. plan_seen p ≡ unfolded schema.now rules.now (algebra_seen algebra.now) mode.now) }
 {
     match algebra {
-        Algebra::Bgp(patterns) => of_patterns(alloc, schema, rules, mode, algebra, patterns),
+        Algebra::Bgp(patterns) => of_patterns(alloc, schema, rules, mode, patterns.as_slice()),
         Algebra::Join(a, b) => {
             let p = plan_of(alloc, schema, rules, a, mode);
             join_plan(alloc, mode, a, b, p, plan_of(alloc, schema, rules, b, mode))
@@ -77,21 +76,17 @@ fn plan_of(
     }
 }
 
-/// The plan of an algebra that is some patterns.
+/// The plan of a basic graph pattern.
 fn of_patterns(
     alloc: Global,
     schema: &[Table],
     rules: &[RowRule],
     mode: &Mode,
-    algebra: &Algebra,
-    patterns: &Items<TriplePattern>,
+    patterns: &[TriplePattern],
 ) -> Result<Box<Plan>, Memory>
-    requires { algebra_seen algebra.now ≡ Bgp patterns.now }
     ensures { IfOk result (λ p. plan_seen p ≡ bgp_plan schema.now rules.now mode.now patterns.now) }
 {
-    let variables = visible(alloc, algebra)?;
-    let patterns = patterns.as_slice();
-    let plan = bgp_plan(alloc, schema, rules, mode, variables.as_slice(), patterns)?;
+    let plan = bgp_plan(alloc, schema, rules, mode, patterns)?;
     Box::new(alloc, plan)
 }
 

@@ -20,45 +20,47 @@ fn tagged(alloc: Global, text: &str, tag: &str) -> Result<Term, Memory> {
     Ok(Term::Lit(text, Annotation::Lang(Text::new(alloc, tag)?)))
 }
 
+// Two literals, each with its datatype, and the answers of `=` and of `<`.
+const COMPARED: [(&str, &str, &str, &str, Option<bool>, Option<bool>); 12] = [
+    ("integer", "01", "integer", "1", Some(true), Some(false)),
+    ("integer", "9", "decimal", "10.0", Some(false), Some(true)),
+    ("decimal", "-0.0", "integer", "+0", Some(true), Some(false)),
+    ("integer", "x", "integer", "x", Some(true), None),
+    ("integer", "x", "integer", "1", None, None),
+    ("string", "b", "string", "a", Some(false), Some(false)),
+    ("boolean", "0", "boolean", "true", Some(false), Some(true)),
+    ("boolean", "1", "boolean", "true", Some(true), Some(false)),
+    (
+        "date",
+        "2024-02-29",
+        "date",
+        "2024-03-01",
+        Some(false),
+        Some(true),
+    ),
+    ("date", "2024-02-29Z", "date", "2024-03-01", None, None),
+    (
+        "dateTime",
+        "2024-02-29T12:00:00.50",
+        "dateTime",
+        "2024-02-29T12:00:00.5",
+        Some(true),
+        Some(false),
+    ),
+    (
+        "dateTime",
+        "2024-02-29T24:00:00",
+        "dateTime",
+        "2024-02-29T12:00:00",
+        None,
+        None,
+    ),
+];
+
 // SPARQL 1.1 Query, 17.3: the answers of `=` and of `<`.
 #[test]
 fn literals_compare_by_value(rt: HostRuntime) -> Result<(), Fail> {
-    let rows: [(&str, &str, &str, &str, Option<bool>, Option<bool>); 12] = [
-        ("integer", "01", "integer", "1", Some(true), Some(false)),
-        ("integer", "9", "decimal", "10.0", Some(false), Some(true)),
-        ("decimal", "-0.0", "integer", "+0", Some(true), Some(false)),
-        ("integer", "x", "integer", "x", Some(true), None),
-        ("integer", "x", "integer", "1", None, None),
-        ("string", "b", "string", "a", Some(false), Some(false)),
-        ("boolean", "0", "boolean", "true", Some(false), Some(true)),
-        ("boolean", "1", "boolean", "true", Some(true), Some(false)),
-        (
-            "date",
-            "2024-02-29",
-            "date",
-            "2024-03-01",
-            Some(false),
-            Some(true),
-        ),
-        ("date", "2024-02-29Z", "date", "2024-03-01", None, None),
-        (
-            "dateTime",
-            "2024-02-29T12:00:00.50",
-            "dateTime",
-            "2024-02-29T12:00:00.5",
-            Some(true),
-            Some(false),
-        ),
-        (
-            "dateTime",
-            "2024-02-29T24:00:00",
-            "dateTime",
-            "2024-02-29T12:00:00",
-            None,
-            None,
-        ),
-    ];
-    for (a_type, a, b_type, b, equal, less) in rows {
+    for (a_type, a, b_type, b, equal, less) in COMPARED {
         let a = typed(rt.alloc(), a_type, a)?;
         let b = typed(rt.alloc(), b_type, b)?;
         assert_eq!(rt; compare_terms(rt.alloc(), Compare::Equal, &a, &b)?, equal);
