@@ -31,7 +31,7 @@ projected vs s = map (lookup s) vs
 abbrev pub solution_eq : Solution → Solution → Bool
 solution_eq s t = pointwise (option_eq term_eq) s t
 
--- SPARQL 1.1, 18.2.5: the default graph is active, the selected variables are kept, and DISTINCT keeps each solution once
+-- SPARQL 1.1, 18.6: the default graph is active; 18.2.5.2 and 18.2.5.3: the selected variables are kept, and DISTINCT keeps each solution once
 abbrev pub solutions_of : Query → Dataset → List Solution
 solutions_of query dataset =
     let solutions = map (projected (selected_variables query)) (evaluate (length query.names) dataset (algebra_of query) None) in

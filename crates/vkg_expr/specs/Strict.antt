@@ -57,7 +57,7 @@ abbrev mutual
   columns_each Nil = []
   columns_each (More e es) = columns e ++ columns_each es
 
--- NULL exactly where one of its columns is
+-- made of forms alone whose value is NULL where that of a part is: columns, constants that are not NULL, and what makes texts and terms of them
 abbrev mutual
   pub is_strict : Expr → Bool
   is_strict (Col at) = true

@@ -1,4 +1,4 @@
-// Expressions that are NULL exactly where one of their columns is.
+// Expressions that are made of strict forms alone: NULL where a part is.
 ghost use Rattle.std.specs.Prelude.{◌≡◌, map};
 ghost use Rattle.vkg_expr.specs.Expr.{exprs};
 ghost use Rattle.vkg_schema.specs.Rows.{is_null as is_null_cell};
@@ -8,7 +8,7 @@ ghost use Rattle.vkg_expr.specs.Strict.{any_names_column as any_column, are_stri
 use crate::expr::Expr;
 use vkg_cells::Cell;
 
-/// Whether the expression names a column, and is NULL exactly where one of its columns is.
+/// Whether the expression is made of strict forms alone, whose value is NULL where that of a part is, and names a column.
 pub fn nulls_on_null(e: &Expr) -> bool
     ensures { result ≡ null_with_column (expr_seen e.now) }
 {

@@ -58,6 +58,6 @@ are_parted parted [] = true
 are_parted parted (Chars text ∷ ps) = are_parted (parted || has_break text) ps
 are_parted parted (Hole at k ∷ ps) = parted && are_parted false ps
 
--- between any two holes stands a break, so that the holes' texts can be told from the whole
+-- between any two holes stands a break, a character that no IRI-safe text holds
 abbrev pub is_separable : List Piece → Bool
 is_separable ps = are_parted true ps

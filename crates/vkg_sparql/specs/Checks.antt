@@ -57,8 +57,8 @@ abbrev pub first_place : Check → Environment → List Lexeme → Option ℕ
 first_place check e [] = None
 first_place check e (x ∷ xs) = if fails check e x xs then Some x.at else first_place check e xs
 
--- SPARQL 1.1, 5.1.1: filters alone end no basic graph pattern, a brace does. So a basic graph pattern is told by the last
--- brace before it.
+-- SPARQL 1.1, 5.1: a filter ends no basic graph pattern, any other pattern does, and each of those has braces. So a basic graph
+-- pattern is told by the last brace before it.
 abbrev pub with_text : List (List ℕ) → List ℕ → List (List ℕ)
 with_text texts text = if list_any (bytes_eq text) texts then texts else texts ++ text ∷ []
 

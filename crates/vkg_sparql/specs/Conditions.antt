@@ -1,4 +1,4 @@
--- SPARQL 1.1, 19.8, [110] to [121]: the expression of a filter, off its tree. `||` and `&&` join from the left; a comparison
+-- SPARQL 1.1, 19.8, [69] and [110] to [121]: the expression of a filter, off its tree. `||` and `&&` join from the left; a comparison
 -- has two sides.
 use Rattle.std.specs.Prelude.{ℕ, Bool, true, false, List, [], ◌∷◌}
 use Rattle.vkg_grammar.specs.Trees.{Tree, leaf, nothing, pair, first, second, present}

@@ -1,4 +1,4 @@
--- SPARQL 1.1, 19.8, [1] to [9], [53] to [68]: groups and the query, off its tree.
+-- SPARQL 1.1, 19.8, [1] to [9], [17], [53] to [68]: groups and the query, off its tree.
 use Rattle.std.specs.Prelude.{ℕ, Bool, true, false, List, [], ◌∷◌, ◌++◌, map}
 use Rattle.vkg_grammar.specs.Trees.{Tree, pair, first, second}
 use Rattle.vkg_sparql.specs.declared.condition.Condition.{Condition}

@@ -9,8 +9,8 @@ use Rattle.vkg_turtle.specs.Words.{between, word_of}
 use Rattle.vkg_sparql.specs.declared.lexeme.Lexeme.{Lexeme}
 use Rattle.vkg_sparql.specs.declared.names.Named.{Named}
 
--- the number of the same kind of token in Turtle (19.2 and 19.8 of SPARQL 1.1 and 6.5 of RDF 1.1 Turtle have the same
--- productions), or that of a sign
+-- the number of the same kind of token in Turtle (19.8 of SPARQL 1.1 and 6.5 of RDF 1.1 Turtle have the same forms; a sign belongs to
+-- its number, and `\u` is read within its token, as by 6.4 of Turtle, not before the grammar, as by 19.2 of SPARQL), or that of a sign
 abbrev pub turtle_kind : ℕ → ℕ
 turtle_kind kind =
     if kind == 26 then 15

@@ -46,7 +46,7 @@ kind_at ts i = slice_index_or (map (λ t. t.kind) ts) i 0
 abbrev pub fault : ℕ → ℕ → QueryFault
 fault check at = record { check = check; at = at }
 
--- own: the tokens that SPARQL 1.1 has and the profile leaves out: `(` `*` `/` `|` `^` `+` `-` `?`, a number with an exponent,
+-- own: the tokens of SPARQL 1.1 that are told as left out of the profile: `(` `*` `/` `|` `^` `+` `-` `?`, a number with an exponent,
 -- SELECT within a query, and the words of kind 59
 abbrev pub is_outside : ℕ → Bool
 is_outside kind = (kind == 2) || (nat_le 18 kind && nat_le kind 21) || (nat_le 23 kind && nat_le kind 25) || (kind == 35) || (kind == 41) || (kind == 59)

@@ -1,4 +1,4 @@
--- SPARQL 1.1, 19.8, [55] and [75] to [101]: the triple patterns of a block, off its tree, in the order in which their objects
+-- SPARQL 1.1, 19.8, [55] and [75] to [109]: the triple patterns of a block, off its tree, in the order in which their objects
 -- begin. Each part of a pattern is said by its first token; a `[` stands for its blank node (4.1.4).
 use Rattle.std.specs.Prelude.{ℕ, List, [], ◌∷◌, ◌++◌}
 use Rattle.vkg_grammar.specs.Trees.{Tree, pair, first, second}

@@ -126,8 +126,8 @@ fn read_text(alloc: Global, bytes: &[u8], base: &str) -> Result<Query, QueryErro
 /// absolute IRI, where its prologue gives no other.
 ///
 /// Faults, the first of which is named: 1, no token begins here, or the bytes are not UTF-8 from here; 3, the bracket that
-/// makes depth 65; at the first token that no query goes on with, 7 where SPARQL 1.1 has it and the profile leaves it out, and
-/// else 2, or 2 at the length of a text that ends too early; then the least of these checks, at its least place: 4, a prefix
+/// makes depth 65; at the first token that no query goes on with, 7 where it is one of the words and signs of SPARQL 1.1 that are told as
+/// left out, and else 2, or 2 at the length of a text that ends too early; then the least of these checks, at its least place: 4, a prefix
 /// that is not declared; 5, an IRI that is not absolute, also one of the prologue; 6, a blank node label in a second basic
 /// graph pattern; 7, a string with the datatype xsd:double or xsd:float; 8, a well-typed integer or decimal literal past 38
 /// digits; 9, a limit: the subject of the 129th triple pattern, the 257th variable or blank node, the 1,025th node (a `{`,

@@ -25,7 +25,7 @@ turtle_tag text =
     else if is_exactly text (codes "@base") then 1
     else 20
 
--- words that SPARQL 1.1 has and the profile leaves out
+-- own: the words of SPARQL 1.1 that are told as left out; its other words and functions are plain words
 unfoldable pub is_outside_form : List ℕ → Bool
 is_outside_form text =
     is_caseless text (codes "ask") || is_caseless text (codes "construct") || is_caseless text (codes "describe")

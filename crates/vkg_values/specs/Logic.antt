@@ -1,7 +1,7 @@
 -- Truths with a third value: an error, or what SQL calls unknown.
 use Rattle.std.specs.Prelude.{Bool, true, false, not, Option, Some, None, option_map}
 
--- SPARQL 1.1 Query, 17.2, the truth table of `!`, `&&` and `||`; none is an error
+-- SPARQL 1.1 Query, 17.2, the truth table of `&&` and `||`, and 17.3, `!`; none is an error
 abbrev pub not3 : Option Bool → Option Bool
 not3 o = option_map not o
 

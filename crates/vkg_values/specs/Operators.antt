@@ -47,7 +47,7 @@ abbrev pub is_literal : Term → Bool
 is_literal (Lit text annotation) = true
 is_literal t = false
 
--- SPARQL 1.1 Query, 17.4.1.7, RDFterm-equal: one term is equal to itself, and two literals of unknown value are an error
+-- SPARQL 1.1 Query, 17.4.1.7, RDFterm-equal: one term is equal to itself, and two literals that are not one term are an error
 abbrev pub term_equal : Term → Term → Option Bool
 term_equal a b = if term_eq a b then Some true else if is_literal a && is_literal b then None else Some false
 

@@ -1,8 +1,9 @@
 //! The values of literals, and what the operators of a query make of terms.
 //!
-//! Follows SPARQL 1.1 Query, 17, in this project's profile: numbers are xsd:integer and xsd:decimal alone, and a literal has a
-//! known value where its form is of its datatype and has no time zone. Each operator answers exactly what `specs/Operators.antt`
-//! defines; want of memory aside, none fails. An error of the standard is the answer `None`.
+//! Follows SPARQL 1.1 Query, 17, in this project's profile: known values are those of plain literals and of well-typed literals of
+//! xsd:integer, decimal, boolean, date and dateTime, the last two without a zone, and a dateTime before 24:00:00 with at most nine
+//! digits of a fraction. Each operator answers exactly what `specs/Operators.antt` defines; want of memory aside, none fails. An
+//! error of the standard is the answer `None`.
 //!
 //! Stands on vkg_terms for terms and on vkg_cells for values: the known value of a literal is a cell.
 #![tactic(auto)]

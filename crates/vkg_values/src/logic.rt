@@ -2,7 +2,7 @@
 ghost use Rattle.std.specs.Prelude.{◌≡◌};
 ghost use Rattle.vkg_values.specs.Logic.{and3, not3, or3};
 
-/// `!` (SPARQL 1.1 Query, 17.2); an error stays one.
+/// `!` (SPARQL 1.1 Query, 17.3); an error stays one.
 pub fn negation(a: Option<bool>) -> Option<bool>
     ensures { result ≡ not3 a }
 {
