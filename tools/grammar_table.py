@@ -8,7 +8,8 @@ first of which makes the texts. A production is written with `|`, `[ option ]`, 
 productions and the kinds of tokens, which may stand in quotes. `KIND@role` is a token with a role and a symbol of its own;
 `name@role` is the production with this role at each `@*` in it. `#` begins a comment.
 
-Nothing rests on this tool: that the printed claims hold together is proved where they are used (`IsCertified` of vkg_grammar).
+That the printed claims hold together is proved where they are used (`IsCertified` of vkg_grammar). The printed rules and roles become part
+of the language's definition: they are to be read.
 """
 import re
 import sys
