@@ -7,7 +7,7 @@ use Rattle.vkg_schema.specs.Company.{company}
 use Rattle.vkg_schema.specs.Rows.{Row, Database}
 use Rattle.vkg_tables.specs.Seen.{Seen}
 
--- the schema as a text (SQL 92, 11.3 to 11.9)
+-- the schema as a text (SQL-92, 11.3 to 11.8)
 abbrev pub company_text : List ℕ
 company_text = codes "CREATE TABLE dept (id INTEGER PRIMARY KEY, title VARCHAR(20)); CREATE TABLE emp (id INTEGER PRIMARY KEY, name VARCHAR(20), dept INTEGER REFERENCES dept);"
 

@@ -13,7 +13,7 @@ use Rattle.vkg_lists.specs.Places.{lesser, least_of, place_if}
 abbrev pub same_name : Name → Name → Bool
 same_name a b = str_eq_ignore_ascii_case a.text b.text
 
--- SQL 92, 5.2: a delimited name matches exactly, an undelimited one whatever its case
+-- own, after SQL-92, 5.2, which folds undelimited names to capitals: a delimited name matches exactly, an undelimited one whatever its case
 abbrev pub text_matches : List ℕ → Bool → List ℕ → Bool
 text_matches text delimited declared = if delimited then bytes_eq text declared else str_eq_ignore_ascii_case text declared
 

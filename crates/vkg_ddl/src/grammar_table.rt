@@ -1,7 +1,7 @@
 use crate::role::Role;
 use vkg_grammar::Rule;
 
-/// The grammar of the DDL: SQL 92, 11.3 to 11.9, in part.
+/// The grammar of the DDL: SQL-92, 11.3 to 11.8, in part.
 pub const DDL: [Rule; 103] = [
     Rule::Repeated(102),
     Rule::Token(0),

@@ -1,6 +1,6 @@
 //! The text of a schema: the tables as they are written, and what is wrong with them.
 //!
-//! Follows a part of SQL-92: definitions of tables with their columns, keys and foreign keys (11.3 to 11.9). `read_written`
+//! Follows a part of SQL-92: definitions of tables with their columns, keys and foreign keys (11.3 to 11.8). `read_written`
 //! gives the tables that the one derivation of a text says, or where the text fails; `first_fault` gives the first check, S03
 //! to S14, that fails of them, and its least place.
 //!

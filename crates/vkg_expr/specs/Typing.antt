@@ -59,7 +59,7 @@ abbrev pub lexical_kind : Option SqlType → Option SqlType
 lexical_kind None = None
 lexical_kind (Some k) = giving kind.Text (not (same_kind kind.Term k))
 
--- SQL 92, 8.2: the two values are comparable
+-- SQL-92, 8.2: the two values are comparable
 abbrev pub equality_kind : Option SqlType → Option SqlType → Option SqlType
 equality_kind (Some k) (Some l) = giving kind.Bool (same_family k l)
 equality_kind k l = None

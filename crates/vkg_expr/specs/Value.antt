@@ -45,7 +45,7 @@ abbrev pub concat_of : List Cell → Option (List ℕ)
 concat_of [] = Some []
 concat_of (c ∷ cs) = joined (text_of c) (concat_of cs)
 
--- SQL 92, 6.9, COALESCE: the first cell that is not NULL
+-- SQL-92, 6.9, COALESCE: the first cell that is not NULL
 abbrev pub coalesced : List Cell → Cell
 coalesced cs = unwrap_or (find (λ c. not (is_null c)) cs) cell.Null
 

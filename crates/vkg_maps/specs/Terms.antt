@@ -44,7 +44,7 @@ against base sort.Iri text = if is_absolute text then text else base ++ text
 against base sort.Blank text = text
 against base (sort.Literal annotation) text = text
 
--- R2RML, 10.3: the form of an ill-typed literal is a data error
+-- R2RML, 10.3: the form of an ill-typed literal is a data error; own: so is a number of more than 38 digits
 abbrev pub literal : List ℕ → Annotation → Made
 literal text (Typed datatype) =
     if is_well_typed datatype text then (if is_too_wide datatype text then Err TooWide else Ok (Some (Lit text (Typed datatype))))

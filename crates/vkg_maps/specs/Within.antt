@@ -68,6 +68,6 @@ pub record IsMapWithin (schema : List Table) (maps : List TriplesMap) (m : Tripl
   pub graphs : AllByRecursion (IsOver (kinds_at schema m.table)) m.graphs
   pub predicate_objects : AllByRecursion (IsPairWithin schema maps m) m.predicate_objects
 
--- R2RML, 4.1: each table and column that is named is there, and each parent
+-- R2RML, 5.1, 7.2, 7.3 and 8: each table and column that is named is there, and each parent
 abbrev pub IsWithin : List Table → Mapping → Type 0
 IsWithin schema mapping = AllByRecursion (IsMapWithin schema mapping.maps) mapping.maps

@@ -4,7 +4,7 @@ ghost use Rattle.vkg_maps.specs.DataFaults.{check_of};
 /// Why a term map makes no term of a row: a data error (R2RML, 4.3).
 #[derive(Clone, Copy, Debug, Drop, PartialEq, Eq)]
 pub enum TermFault {
-    /// The text is no absolute IRI (R2RML, 7.4).
+    /// The text is no absolute IRI (R2RML, 11.2).
     NotIri,
     /// The form is not of the datatype's lexical space (R2RML, 10.3).
     IllTyped,

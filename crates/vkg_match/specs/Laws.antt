@@ -45,6 +45,6 @@ abbrev pub is_met : Verdict → Row → Bool
 is_met Never row = false
 is_met (All es) row = list_all (λ c. holds c row) es
 
--- SQL 92, 8.2: the equality of the two terms is true exactly where the verdict is met; so it is not where a hole is NULL
+-- SQL-92, 8.2: the equality of the two terms is true exactly where the verdict is met; so it is not where a hole is NULL
 abbrev pub IsExact : TermExpr → TermExpr → Verdict → Type 0
 IsExact e f v = HoldsTexts e → HoldsTexts f → (row : Row) → FitsHoles row e → FitsHoles row f → holds (Same (term_expr e) (term_expr f)) row ≡ is_met v row

@@ -1,6 +1,6 @@
 //! Plans over the tables of a schema: their columns, and the rows they stand for.
 //!
-//! A plan is an expression of relational algebra over bags, with SQL's three-valued conditions (SQL 92, 7 and 8). `well_typed`
+//! A plan is an expression of relational algebra over bags, with SQL's three-valued conditions (SQL-92, 7 and 8). `well_typed`
 //! decides whether a plan is one over a schema; a `CheckedPlan` is, and stays so. `specs/Rows.antt` defines a plan's rows over a
 //! database by comprehension; their order does not count.
 //!

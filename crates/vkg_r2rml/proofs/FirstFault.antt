@@ -108,7 +108,7 @@ module _ (triples : List Triple) (schema : List Table) (base : List ℕ) where
   err_is f g e = cc
 
   by_rules : (made : List TriplesMap) (b : Bool) (f : MapFault) → read ≡ Ok made → nat_lt rule_limit (length (quad_rules (record { base = base; maps = made }))) ≡ b → cond {A = Result Mapping MapFault} b (Err (fault 22 0)) (Ok (record { base = base; maps = made })) ≡ Err f → IsFaultOf triples schema base f
-  by_rules made true f r t e = subst (IsFaultOf triples schema base) (err_is {A = Mapping} (fault 22 0) f e) (many_rules made (faultless made r) (ltb-true rule_limit (length (quad_rules (record { base = base; maps = made }))) t))
+  by_rules made true f r t e = subst (IsFaultOf triples schema base) (err_is {A = Mapping} (fault 22 0) f e) (many_rules made (faultless made r) r (ltb-true rule_limit (length (quad_rules (record { base = base; maps = made }))) t))
   by_rules made false f r t e = absurd (ok_err {A = Mapping} _ f e)
 
   by_read : (r : Result (List TriplesMap) MapFault) (f : MapFault) → read ≡ r → length maps ≤ map_limit → of_maps base r ≡ Err f → IsFaultOf triples schema base f

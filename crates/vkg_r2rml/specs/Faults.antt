@@ -20,9 +20,9 @@ use Rattle.vkg_r2rml.specs.declared.map_error.MapError.{MapError}
 use Rattle.vkg_r2rml.specs.declared.map_error.MapError.TheVariants.{Fault, Memory}
 use Rattle.vkg_r2rml.specs.Checked.{Checked, both, all_of, exactly_one, at_least_one, resource}
 use Rattle.vkg_r2rml.specs.ReferencingMap.{no_term_map, parent_of, table_of_parent, columns_of, column_if_known, side, comparable, same_table}
-use Rattle.vkg_r2rml.specs.TriplesMap.{term_map, class}
+use Rattle.vkg_r2rml.specs.TriplesMap.{term_map, class, triples_map}
 use Rattle.vkg_r2rml.specs.TriplesMaps.{triples_maps}
-use Rattle.vkg_r2rml.specs.Mapping.{fault, map_limit}
+use Rattle.vkg_r2rml.specs.Mapping.{fault, in_order, map_limit}
 
 -- ---- which check fails, of parts that are looked at one by one
 
@@ -151,13 +151,17 @@ pub record IsLeastFault (triples : List Triple) (schema : List Table) (base : Li
 abbrev pub IsFaultless : List Triple → List Table → List ℕ → List MapNode → Type 0
 IsFaultless triples schema base maps = (f : MapFault) → IsMapFault triples schema base maps f → ⊥
 
+-- what the triples maps of a graph say, one after another
+abbrev pub AreTriplesMaps : List Triple → List Table → List ℕ → List TriplesMap → Type 0
+AreTriplesMaps triples schema base maps = in_order 1 (map (triples_map triples schema base (triples_maps triples schema)) (triples_maps triples schema)) ≡ Ok maps
+
 -- The fault of a graph: it has no triples map (M21) or too many (M22), or else the least on a triples map, or else there are
 -- too many quad rules (M22).
 pub data IsFaultOf (triples : List Triple) (schema : List Table) (base : List ℕ) : MapFault → Type 0 where
   no_map : triples_maps triples schema ≡ [] → IsFaultOf triples schema base (fault 21 0)
   many_maps : map_limit < length (triples_maps triples schema) → IsFaultOf triples schema base (fault 22 0)
   least : {f : MapFault} → length (triples_maps triples schema) ≤ map_limit → IsLeastFault triples schema base (triples_maps triples schema) f → IsFaultOf triples schema base f
-  many_rules : (maps : List TriplesMap) → IsFaultless triples schema base (triples_maps triples schema) → rule_limit < length (quad_rules (record { base = base; maps = maps })) → IsFaultOf triples schema base (fault 22 0)
+  many_rules : (maps : List TriplesMap) → IsFaultless triples schema base (triples_maps triples schema) → AreTriplesMaps triples schema base maps → rule_limit < length (quad_rules (record { base = base; maps = maps })) → IsFaultOf triples schema base (fault 22 0)
 
 -- want of memory is free
 abbrev pub IsLeast : List Triple → List Table → List ℕ → MapError → Type 0

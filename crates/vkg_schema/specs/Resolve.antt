@@ -18,7 +18,7 @@ use Rattle.vkg_schema.specs.declared.table.Reference.{Reference}
 abbrev pub is_primary : List WrittenKey → WrittenColumn → Bool
 is_primary keys c = list_any (λ k. k.primary && list_any (λ n. matches n c.name) k.columns) keys
 
--- SQL 92, 11.7: a column of the primary key is NOT NULL
+-- SQL-92, 11.7: a column of the primary key is NOT NULL
 abbrev pub column_at : List WrittenKey → WrittenColumn → Column
 column_at keys c = record { name = c.name.text; kind = column_kind c; not_null = c.not_null || is_primary keys c }
 

@@ -67,7 +67,7 @@ fn read_text(alloc: Global, bytes: &[u8]) -> Result<Schema, SchemaError>
     Ok(Schema::new(tables))
 }
 
-/// Reads a schema: `CREATE TABLE` statements of SQL 92, 11.3 to 11.9, in part. One byte order mark at the front is
+/// Reads a schema: `CREATE TABLE` statements of SQL-92, 11.3 to 11.8, in part. One byte order mark at the front is
 /// passed over. Each table has a name of its own.
 pub fn read_schema(alloc: Global, bytes: &[u8]) -> Result<Schema, SchemaError>
     ensures ok { IfOk result (IsSchemaOf bytes.now) }

@@ -1,4 +1,4 @@
--- The text of a plan over a schema, as a statement in the manner of SQL 92.
+-- The text of a plan over a schema, as a statement in the manner of SQL-92.
 use Rattle.std.specs.Prelude.{ℕ, suc, Bool, true, false, List, [], ◌∷◌, ◌++◌, map, flat_map, Option, Some, None, chars, codes, decimal, encode_utf8, ◌==◌, if◌then◌else◌}
 use Rattle.vkg_terms.specs.declared.term.Annotation.{Annotation}
 use Rattle.vkg_terms.specs.declared.term.Annotation.TheVariants.{Plain, Lang, Typed}
@@ -21,11 +21,11 @@ use Rattle.vkg_expr.specs.Expr as expr
 use Rattle.vkg_plan.specs.Kinds.{Tables}
 use Rattle.vkg_plan.specs.Plan.{Plan, Plans, Unit, Empty, Scan, Select, Project, Join, Left, UnionAll, Distinct, Nil, More}
 
--- SQL 92, 5.2 and 5.3: each character, and this one twice
+-- SQL-92, 5.2 and 5.3: each character, and this one twice
 abbrev pub doubled : ℕ → ℕ → List ℕ
 doubled sign c = if c == sign then c ∷ c ∷ [] else encode_utf8 c
 
--- SQL 92, 5.3, character string literal: a quote (39) within is doubled
+-- SQL-92, 5.3, character string literal: a quote (39) within is doubled
 abbrev pub quoted : List ℕ → List ℕ
 quoted text = codes "'" ++ flat_map (doubled 39) (chars text) ++ codes "'"
 
@@ -119,7 +119,7 @@ abbrev mutual
   expr_texts expr.Nil = []
   expr_texts (expr.More e es) = expr_text e ∷ expr_texts es
 
--- SQL 92, 5.2, delimited identifier: a quote (34) within is doubled
+-- SQL-92, 5.2, delimited identifier: a quote (34) within is doubled
 abbrev pub table_text : Tables → ℕ → List ℕ
 table_text schema table =
     codes "TABLE \"" ++ flat_map (doubled 34) (chars (table_name schema table)) ++ codes "\""

@@ -1,7 +1,7 @@
-//! The text of a plan over a schema, in the manner of SQL 92.
+//! The text of a plan over a schema, in the manner of SQL-92.
 //!
 //! `sql_text` gives exactly the text that `specs/Text.antt` defines: a name or a text within quotes has each of its quotes
-//! doubled (SQL 92, 5.2 and 5.3), columns are named `c1`, `c2` and so on, and a node's members `t1`, `t2` and so on. `laws`
+//! doubled (SQL-92, 5.2 and 5.3), columns are named `c1`, `c2` and so on, and a node's members `t1`, `t2` and so on. `laws`
 //! ensures that no two well-typed plans over one schema share a text.
 //!
 //! Stands on vkg_plan for plans, vkg_schema for the names of tables, vkg_terms for the texts of terms, and vkg_lists.

@@ -71,7 +71,7 @@ pub fn push_quoted(out: &mut String, text: &str) -> Result<(), Memory>
     Ok(())
 }
 
-/// A character string literal (SQL 92, 5.3).
+/// A character string literal (SQL-92, 5.3).
 pub fn quoted(alloc: Global, text: &str) -> Result<Text, Memory>
     ensures { IfOk result (λ t. t ≡ quoted_text text.now) }
 {

@@ -9,7 +9,7 @@ use Rattle.vkg_tables.specs.declared.fault.TableFault.{TableFault}
 abbrev pub with_itself : List ℕ → List (ℕ × ℕ)
 with_itself columns = map (λ c. (c, c)) columns
 
--- SQL 92, 4.10.2: the row agrees with an earlier one on the whole key; NULL agrees with nothing
+-- SQL-92, 4.10.2: the row agrees with an earlier one on the whole key; NULL agrees with nothing
 abbrev pub repeats : List ℕ → List Row → Row → Bool
 repeats key before row = list_any (agree (with_itself key) row) before
 

@@ -127,7 +127,7 @@ impl Database {
         pushed
     }
 
-    /// That no two rows of a table agree on a whole key (SQL 92, 4.10.2).
+    /// That no two rows of a table agree on a whole key (SQL-92, 4.10.2).
     pub fn check_keys(&self, alloc: Global) -> Result<(), TableError>
         ensures ok { OnOk result (key_fault self.now.schema self.now.tables ≡ None) }
         ensures fault { IfErr result (Tells (key_fault self.now.schema self.now.tables)) }
@@ -139,7 +139,7 @@ impl Database {
         }
     }
 
-    /// That each row without NULL in a foreign key has a row that it refers to (SQL 92, 4.10.2). Where no key is repeated
+    /// That each row without NULL in a foreign key has a row that it refers to (SQL-92, 4.10.2). Where no key is repeated
     /// either, the database meets its schema.
     pub fn check_references(&self, alloc: Global) -> Result<(), TableError>
         ensures ok { OnOk result (reference_fault self.now.schema self.now.tables ≡ None) }

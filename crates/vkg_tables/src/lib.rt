@@ -3,7 +3,7 @@
 //! A table file is CSV (RFC 4180) as the crate `csv` reads it, with a header that names every column once, in any order. A
 //! field becomes the cell of its column's kind; `\N` is NULL, and so is an empty field of every kind but text. `load_table`
 //! gives exactly the rows of the file or its first fault, `check_keys` and `check_references` the first row that breaks a key
-//! or a foreign key (SQL 92, 4.10.2), and after both the database meets its schema. Their cost is near linear in the rows.
+//! or a foreign key (SQL-92, 4.10.2), and after both the database meets its schema. Their cost is near linear in the rows.
 //!
 //! It stands on vkg_base, vkg_cells and vkg_schema, on `csv`, and on `indexmap` for the sets of keys.
 #![tactic(auto)]

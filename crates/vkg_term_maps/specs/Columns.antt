@@ -4,7 +4,7 @@ use Rattle.std.specs.Borrow.{Bor}
 use Rattle.std.specs.Str.{bytes_eq, str_eq_ignore_ascii_case}
 use Rattle.vkg_schema.specs.declared.table.Column.{Column}
 
--- SQL 92, 5.2, delimited identifier: a quote (34) within is doubled
+-- SQL-92, 5.2, delimited identifier: a quote (34) within is doubled
 abbrev pub doubled : ℕ → List ℕ
 doubled b = if b == 34 then 34 ∷ 34 ∷ [] else b ∷ []
 
@@ -12,8 +12,8 @@ doubled b = if b == 34 then 34 ∷ 34 ∷ [] else b ∷ []
 abbrev pub quoted : List ℕ → List ℕ
 quoted name = flat_map doubled name ++ 34 ∷ []
 
--- R2RML, 5, SQL identifier, and SQL 92, 5.2: what begins with a quote is a delimited identifier and means the name that is
--- written so; another text that is not empty means a name whatever its case
+-- R2RML, 5, SQL identifier, and SQL-92, 5.2: what begins with a quote is a delimited identifier and means the name that is
+-- written so; own: another text that is not empty means a name whatever its case
 abbrev pub means : List ℕ → List ℕ → Bool
 means [] name = false
 means (b ∷ bs) name = if b == 34 then bytes_eq bs (quoted name) else str_eq_ignore_ascii_case (b ∷ bs) name

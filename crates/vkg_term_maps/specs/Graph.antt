@@ -1,4 +1,4 @@
--- The triples of a mapping graph (R2RML, 5), by their subjects and properties.
+-- The triples of a mapping graph (R2RML, 4.1), by their subjects and properties.
 use Rattle.std.specs.Prelude.{ℕ, ◌&&◌, List, filter_map, Option, Some, None, if◌then◌else◌}
 use Rattle.vkg_terms.specs.declared.term.Term.{Term}
 use Rattle.vkg_terms.specs.declared.term.Term.TheVariants.{Iri}

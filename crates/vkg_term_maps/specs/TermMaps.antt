@@ -60,10 +60,15 @@ values triples node name = counted (objects triples node (rr name))
 
 -- ---- R2RML, 7: constant-valued, column-valued, template-valued
 
+-- RDF 1.1 Concepts, 3.3: a literal of rdf:langString has a tag, so one without is none
+abbrev pub lacks_tag : Annotation → Bool
+lacks_tag (Typed datatype) = bytes_eq datatype rdf_lang_string
+lacks_tag annotation = false
+
 -- R2RML, 7.1: a constant is an IRI, of an object map also a literal
 abbrev pub constant : Role → Term → Option Kind
 constant role (term.Iri iri) = Some (kind.Constant (term.Iri iri))
-constant Object (term.Lit text annotation) = Some (kind.Constant (term.Lit text annotation))
+constant Object (term.Lit text annotation) = if lacks_tag annotation then None else Some (kind.Constant (term.Lit text annotation))
 constant role t = None
 
 abbrev pub text_of : Term → Option (List ℕ)
@@ -128,7 +133,7 @@ sort_of role literal Several = None
 
 -- ---- R2RML, 7.5 and 7.6: language tags and datatypes
 
--- RDF 1.1 Concepts, 3.3: tags are compared in lower case
+-- RDF 1.1 Concepts, 3.3: a tag may be kept in lower case
 abbrev pub tagged : List ℕ → Option Annotation
 tagged tag = if is_language_tag tag then Some (Lang (map to_ascii_lowercase tag)) else None
 

@@ -1,4 +1,4 @@
--- The R2RML vocabulary (R2RML, 5).
+-- The R2RML vocabulary (R2RML, 4.1).
 use Rattle.std.specs.Prelude.{ℕ, List, ◌++◌, codes}
 use Rattle.vkg_term_maps.specs.declared.place.Role.{Role}
 use Rattle.vkg_term_maps.specs.declared.place.Role.TheVariants.{Subject, Predicate, Object, Graph}

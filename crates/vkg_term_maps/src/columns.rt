@@ -4,7 +4,7 @@ ghost use Rattle.vkg_term_maps.specs.Columns.{IsBehind, column_of as column_of_t
 
 use vkg_schema::Column;
 
-/// The place of the column that a text names: a delimited name (SQL 92, 5.2) matches exactly, another whatever its case.
+/// The place of the column that a text names: a delimited name (SQL-92, 5.2) matches exactly, another, by this project's choice, whatever its case.
 pub fn column_of(columns: &[Column], text: &str) -> Option<usize>
     ensures { result ≡ column_of_text columns.now text.now }
 {

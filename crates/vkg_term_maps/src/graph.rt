@@ -18,7 +18,7 @@ use vkg_base::{Groups, Items, Memory};
 use vkg_terms::Term;
 use vkg_turtle::Triple;
 
-/// The triples of a mapping document (R2RML, 5, mapping graph), found by their subjects. It is seen as their list.
+/// The triples of a mapping document (R2RML, 4.1, mapping graph), found by their subjects. It is seen as their list.
 #[derive(Drop)]
 pub struct Graph<'a> {
     triples: &'a [Triple],

@@ -1,10 +1,10 @@
-ghost use Rattle.std.specs.Prelude.{◌≡◌, IfOk, option_map};
-ghost use Rattle.vkg_term_maps.specs.TermMaps.{constant as constant_of, kind_at, kind_of as kind_of_values, text_of as text_of_term};
+ghost use Rattle.std.specs.Prelude.{◌≡◌, if◌then◌else◌, IfOk, option_map};
+ghost use Rattle.vkg_term_maps.specs.TermMaps.{constant as constant_of, kind_at, kind_of as kind_of_values, lacks_tag as lacks_tag_in, text_of as text_of_term};
 
 use crate::graph::Graph;
 use crate::place::Role;
 use crate::values::Values;
-use crate::vocabulary::{RR_COLUMN, RR_CONSTANT, RR_TEMPLATE};
+use crate::vocabulary::{RDF_LANG_STRING, RR_COLUMN, RR_CONSTANT, RR_TEMPLATE};
 use std::alloc::Global;
 use vkg_base::{Memory, Text};
 use vkg_terms::{Annotation, Term};
@@ -58,16 +58,33 @@ fn column_or_template(columns: Values, templates: Values) -> Option<Kind>
     }
 }
 
-/// A constant-valued term map (R2RML, 7.1): of an IRI, in an object map also of a literal.
+/// A constant-valued term map (R2RML, 7.1): of an IRI, in an object map also of a literal of RDF.
 pub(crate) fn constant(role: Role, term: Term) -> Option<Kind>
     ensures { result ≡ constant_of role term }
 {
     match (role, term) {
         (_, Term::Iri(iri)) => Some(Kind::Constant(Term::Iri(iri))),
-        (Role::Object, Term::Lit(text, annotation)) => {
-            Some(Kind::Constant(Term::Lit(text, annotation)))
-        }
+        (Role::Object, Term::Lit(text, annotation)) => literal_constant(text, annotation),
         _ => None,
+    }
+}
+
+/// A literal, unless it is of rdf:langString and has no tag (RDF 1.1 Concepts, 3.3).
+fn literal_constant(text: Text, annotation: Annotation) -> Option<Kind>
+    ensures { result ≡ (if lacks_tag_in annotation then None else Some (Kind.Constant (Term.Lit text annotation))) }
+{
+    if lacks_tag(&annotation) {
+        return None;
+    }
+    Some(Kind::Constant(Term::Lit(text, annotation)))
+}
+
+fn lacks_tag(annotation: &Annotation) -> bool
+    ensures { result ≡ lacks_tag_in annotation.now }
+{
+    match annotation {
+        Annotation::Typed(datatype) => datatype.iri().as_str() == RDF_LANG_STRING,
+        _ => false,
     }
 }
 

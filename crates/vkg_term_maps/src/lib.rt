@@ -1,6 +1,6 @@
 //! The term maps of an R2RML mapping graph.
 //!
-//! Follows R2RML (W3C Recommendation of 2012): the mapping graph (5), term maps (7) and the natural datatypes of columns
+//! Follows R2RML (W3C Recommendation of 2012): the mapping graph (4.1), term maps (7) and the natural datatypes of columns
 //! (10). `Graph` holds the triples of a mapping document and finds them by their subjects. `read_term_map` answers the
 //! term map that stands at a place, its names resolved to columns and its defaults filled in, or the first of the checks
 //! on term maps that fails there. The definitions in `specs/` say which it is.

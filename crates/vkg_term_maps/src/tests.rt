@@ -27,6 +27,8 @@ enum Value {
     Text(&'static str),
     Tagged(&'static str),
     Integer(&'static str),
+    /// A literal of rdf:langString without a tag.
+    Untagged(&'static str),
 }
 
 fn term(alloc: Global, value: Value) -> Result<Term, Memory> {
@@ -39,6 +41,10 @@ fn term(alloc: Global, value: Value) -> Result<Term, Memory> {
         }
         Value::Integer(text) => {
             let datatype = Text::new(alloc, XSD_INTEGER)?;
+            Ok(Term::Lit(Text::new(alloc, text)?, Annotation::typed(datatype)))
+        }
+        Value::Untagged(text) => {
+            let datatype = Text::new(alloc, RDF_LANG_STRING)?;
             Ok(Term::Lit(Text::new(alloc, text)?, Annotation::typed(datatype)))
         }
     }
@@ -260,13 +266,14 @@ fn are_refused(
 fn faults_of_one_value(rt: HostRuntime) -> Result<(), Fail> {
     let id = (RR_COLUMN, Value::Text("id"));
     let doubtful = (RR_TEMPLATE, Value::Text("{id}:x"));
-    let rows: [(u8, Role, &[(&'static str, Value)]); 6] = [
+    let rows: [(u8, Role, &[(&'static str, Value)]); 7] = [
         (11, Role::Subject, &[]),
         (11, Role::Subject, &[id, doubtful]),
         (11, Role::Object, &[id, (RR_COLUMN, Value::Text("name"))]),
         (11, Role::Subject, &[(RR_CONSTANT, Value::Text("c"))]),
         (11, Role::Object, &[(RR_COLUMN, Value::Iri("http://e/id"))]),
         (11, Role::Object, &[(RR_TEMPLATE, Value::Tagged("{id}"))]),
+        (11, Role::Object, &[(RR_CONSTANT, Value::Untagged("c"))]),
     ];
     are_refused(&rt, rt.alloc(), rows.as_slice())
 }

@@ -1,4 +1,4 @@
-//! The names of the R2RML vocabulary (R2RML, 5 and appendix A) that term maps are written with.
+//! The names of the R2RML vocabulary (R2RML, 4.1 and appendix B) that term maps are written with.
 
 pub const RR_SUBJECT: &str = "http://www.w3.org/ns/r2rml#subject";
 

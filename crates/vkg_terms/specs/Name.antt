@@ -13,7 +13,7 @@ closes some [] = false
 closes some (b ∷ []) = (b == 34) && some
 closes some (b ∷ c ∷ bs) = if b == 34 then (c == 34) && closes true bs else closes true (c ∷ bs)
 
--- R2RML, 5, SQL identifier: what begins with a quote is a whole delimited identifier, every other text that is not empty a name
+-- R2RML, 5, SQL identifier: what begins with a quote is a whole delimited identifier; own: every other text that is not empty is a name
 abbrev pub is_name : List ℕ → Bool
 is_name [] = false
 is_name (b ∷ bs) = if b == 34 then closes false bs else true

@@ -29,7 +29,7 @@ abbrev pub name_in : List ℕ → Word
 name_in token = Name (before_first (λ b. b == 58) token) (local_meant (after_first (λ b. b == 58) token))
 
 -- RDF 1.1 Turtle, 6.5: what a token says, by its kind and its bytes. 9 is `a`, 11 and 12 are `true` and `false`, 15 IRIREF,
--- 16 PNAME_NS, 17 PNAME_LN, 18 BLANK_NODE_LABEL, 19 a string, 20 LANGTAG, which has no case (RDF 1.1 Concepts, 3.3), 21 INTEGER,
+-- 16 PNAME_NS, 17 PNAME_LN, 18 BLANK_NODE_LABEL, 19 a string, 20 LANGTAG, kept in lower case (RDF 1.1 Concepts, 3.3), 21 INTEGER,
 -- 22 DECIMAL, 23 DOUBLE
 abbrev pub word_of : ℕ → List ℕ → Word
 word_of kind token =

@@ -36,7 +36,7 @@ FitsGraph ks (Some g) = FitsTerm ks g
 abbrev pub IsTable : Tables → ℕ → Type 0
 IsTable schema table = table_kinds schema table ≡ Some (kinds_at schema table)
 
--- SQL 92, 8.2: the columns of a join condition are there and comparable
+-- SQL-92, 8.2: the columns of a join condition are there and comparable
 abbrev pub FitsCondition : Kinds → Kinds → ℕ × ℕ → Type 0
 FitsCondition ks ls c = equality_kind (slice_get ks c.0) (slice_get ls c.1) ≡ Some kind.Bool
 
