@@ -71,7 +71,7 @@ fn deliver<O: Sink, E: Sink>(made: Result<Lines, Stop>, out: &mut O, err: &mut E
     }
 }
 
-/// Writes each line, with its line feed, in one write.
+/// Writes each line, with its line feed.
 fn write_each<O: Sink>(lines: &[&'static str], out: &mut O) -> Result<(), WriteFault>
     ensures ok { OnOk result (Took (O.state out.old) (O.state out.new) (flat_map (λ line. line.now) lines.now)) }
     ensures fault { OnErr result (Broke (O.state out.old) (O.state out.new) (flat_map (λ line. line.now) lines.now)) }

@@ -94,8 +94,8 @@ pub(crate) fn parse_by(
 ///
 /// Asked of grammars that are LL(1) (`check_ll1`, or a certificate). `TooDeep` names the first token behind which more
 /// brackets are open than the grammar allows, whatever the rules say; in a text without one, `Dead` names the first token
-/// up to and with which the tokens begin no text; `Ended` says that they begin a text and are none. A bracket is open from
-/// its opener to the next closer of any kind; a closer without an opener closes none.
+/// up to and with which the tokens begin no text; `Ended` says that they begin a text and are none. A closer
+/// of any kind closes one open bracket, and none where none is open.
 pub fn parse(alloc: Global, grammar: &Grammar, tokens: &[Token]) -> Result<Vec<Note>, ParseFault>
     requires ll1 { IsLL1 grammar.now.rules }
     requires kinds { AreBelow grammar.now.kinds tokens.now }

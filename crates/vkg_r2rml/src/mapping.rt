@@ -18,8 +18,8 @@ use vkg_turtle::Triple;
 
 const MAP_LIMIT: usize = 1024;
 
-/// The mapping that the triples of a graph are (R2RML, 6), over a schema and under a base, which is an absolute IRI. It is
-/// asked of triples of which none stands twice. The fault is that of the least triples map, and there the least check.
+/// The mapping that the triples of a graph are (R2RML, 6), over a schema and under a base, which is an absolute IRI. Each
+/// triple stands there once where `read_turtle` gave them; the clauses hold for all. The fault is that of the least triples map, and there the least check.
 pub fn read_mapping(
     alloc: Global,
     triples: &[Triple],

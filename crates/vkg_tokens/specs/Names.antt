@@ -35,7 +35,9 @@ in_local c = if is_name_part c || (c == 0x3a) then Some Local else if c == 0x2e 
 abbrev pub in_blank : ℕ → Option Name
 in_blank c = if is_name_part c then Some Blank else if c == 0x2e then Some BlankDot else None
 
--- what was read with one more character
+-- PNAME_NS `PN_PREFIX? ':'`, PNAME_LN `PNAME_NS PN_LOCAL`, PN_PREFIX `PN_CHARS_BASE ((PN_CHARS | '.')* PN_CHARS)?`, PN_LOCAL
+-- `(PN_CHARS_U | ':' | [0-9] | PLX) ((PN_CHARS | '.' | ':' | PLX)* (PN_CHARS | ':' | PLX))?`, BLANK_NODE_LABEL
+-- `'_:' (PN_CHARS_U | [0-9]) ((PN_CHARS | '.')* PN_CHARS)?`: what was read with one more character
 abbrev pub name_step : Name → ℕ → Option Name
 name_step Word c = if is_word_letter c then Some Word else in_prefix c
 name_step Prefix c = in_prefix c

@@ -34,7 +34,8 @@ in_fraction c = if is_ascii_digit c then Some Fraction else exponent_begin c
 abbrev pub in_exponent : ℕ → Option Number
 in_exponent c = if (c == 0x2b) || (c == 0x2d) then Some ExponentSign else digit_or_none ExponentDigits c
 
--- what was read with one more character; a fraction needs a digit, but before an exponent a dot alone will do
+-- INTEGER `[+-]? [0-9]+`, DECIMAL `[+-]? [0-9]* '.' [0-9]+`, DOUBLE `[+-]? ([0-9]+ '.' [0-9]* EXPONENT | '.' [0-9]+ EXPONENT | [0-9]+ EXPONENT)`,
+-- EXPONENT `[eE] [+-]? [0-9]+`: what was read with one more character
 abbrev pub number_step : Number → ℕ → Option Number
 number_step Plus c = behind_sign c
 number_step Minus c = behind_sign c

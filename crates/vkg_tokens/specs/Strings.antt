@@ -24,7 +24,8 @@ behind_digit of point = if point.left == 0 then Inside of 0 else Digits of point
 abbrev pub behind_backslash : Quotes → ℕ → Option Quoted
 behind_backslash of c = if is_escaped_letter c then Some (Inside of 0) else option_map (Digits of) (code_point_begin c)
 
--- two quotes are the empty string, three open a long one
+-- A quote of one kind, then characters, ECHAR and UCHAR but for that quote, `\`, LF and CR, then that quote; or three of them, then
+-- `(('"' | '""')? ([^"\] | ECHAR | UCHAR))*`, then three. Two quotes are the empty string, three open a long one.
 abbrev pub quoted_step : Quoted → ℕ → Option Quoted
 quoted_step (Opened mark) c = if c == mark then Some (Emptied mark) else in_quotes (record { mark = mark; is_long = false }) 0 c
 quoted_step (Emptied mark) c = if c == mark then Some (Inside (record { mark = mark; is_long = true }) 0) else None

@@ -44,7 +44,7 @@ meant Outside c = if c == 92 then [] else c ∷ []
 meant Backslash c = if (c == 117) || (c == 85) then [] else escaped c ∷ []
 meant (Digits left code) c = if nat_lt 1 left then [] else character (with_digit code c) ∷ []
 
--- the characters that these stand for
+-- ECHAR `'\' [tbnrf"'\]`, UCHAR `'\u' HEX HEX HEX HEX | '\U'` and eight HEX: the characters that these stand for, one after another
 abbrev pub unescaped : Escape → List ℕ → List ℕ
 unescaped e [] = []
 unescaped e (c ∷ cs) = meant e c ++ unescaped (behind e c) cs
