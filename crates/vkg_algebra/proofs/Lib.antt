@@ -1,3 +1,4 @@
+pub mod CardLemmas
 pub mod Data
 pub mod InstanceLemmas
 pub mod LawfulLemmas

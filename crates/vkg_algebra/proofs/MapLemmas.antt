@@ -99,7 +99,7 @@ module _ (holds : Solution → Bool) (ls rs : List Solution) where
       let in_join = Contains-join ls rs j.first j.second j.of_first j.of_second ((says_compatible j.first j.second).1 j.agree) in
       Contains-filter holds (join ls rs) m (subst (Contains (join ls rs)) (sym j.is) in_join) j.passes
 
-  alone_of : (m : Solution) → Contains (difference holds ls rs) m → IsAlone holds ls rs m
+  pub alone_of : (m : Solution) → Contains (difference holds ls rs) m → IsAlone holds ls rs m
   alone_of m c =
       let kept = Contains-from_filter (λ l. list_all (λ r. not (compatible l r && holds (merge l r))) rs) ls m c in
       record {
@@ -107,7 +107,7 @@ module _ (holds : Solution → Bool) (ls rs : List Solution) where
         fails = λ r d a h. not_both (compatible m r) (holds (merge m r)) (each_of_all (λ r. not (compatible m r && holds (merge m r))) rs kept.1 r d) ((says_compatible m r).1 a) h;
       }
 
-  of_alone : (m : Solution) → IsAlone holds ls rs m → Contains (difference holds ls rs) m
+  pub of_alone : (m : Solution) → IsAlone holds ls rs m → Contains (difference holds ls rs) m
   of_alone m a = Contains-filter (λ l. list_all (λ r. not (compatible l r && holds (merge l r))) rs) ls m a.of_first
       (all_of_each (λ r. not (compatible m r && holds (merge m r))) rs (λ r c. both_not (compatible m r) (holds (merge m r)) (λ e h. a.fails r c ((says_compatible m r).0 e) h)))
 

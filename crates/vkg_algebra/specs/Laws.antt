@@ -1,6 +1,6 @@
 -- What the definitions say, in the words of the standard.
-use Rattle.std.specs.Prelude.{◌≡◌, ◌↔◌, ◌⊎◌, ℕ, ◌<◌, Bool, IsTrue, IsSome, List, [], ◌∷◌, ◌++◌, flat_map, length, Contains, Option, Some, None}
-use Rattle.std.specs.List.{IsDistinct}
+use Rattle.std.specs.Prelude.{◌≡◌, ◌↔◌, ◌⊎◌, ℕ, ◌<◌, ◌+◌, Bool, ◌&&◌, IsTrue, IsSome, List, [], ◌∷◌, ◌++◌, flat_map, length, Contains, Option, Some, None, if◌then◌else◌}
+use Rattle.std.specs.List.{IsDistinct, count_by, sum_by}
 use Rattle.std.specs.Option.{option_or}
 use Rattle.vkg_terms.specs.declared.term.Term.{Term}
 use Rattle.vkg_terms.specs.NQuads.{Quad}
@@ -40,6 +40,22 @@ pub record IsAlone (holds : Solution → Bool) (ls rs : List Solution) (m : Solu
 -- SPARQL 1.1, 18.5, LeftJoin
 abbrev pub IsLeftJoin : (Solution → Bool) → List Solution → List Solution → Type 0
 IsLeftJoin holds ls rs = (m : Solution) → Contains (left_join holds ls rs) m ↔ (IsJoined holds ls rs m ⊎ IsAlone holds ls rs m)
+
+-- SPARQL 1.1, 18.5, card[Ω](μ): how often a map is there
+abbrev pub card : List Solution → Solution → ℕ
+card ms m = count_by (solution_eq m) ms
+
+-- SPARQL 1.1, 18.5, card[Join(Ω1, Ω2)](μ): how many pairs of a map of each are compatible and merge to this one
+abbrev pub join_card : List Solution → List Solution → Solution → ℕ
+join_card ls rs m = sum_by (λ l. count_by (λ r. compatible l r && solution_eq m (merge l r)) rs) ls
+
+-- SPARQL 1.1, 18.5, card[LeftJoin(Ω1, Ω2, expr)](μ) = card[Filter(expr, Join(Ω1, Ω2))](μ) + card[Diff(Ω1, Ω2, expr)](μ):
+-- the first is card[Join(Ω1, Ω2)](μ) if the map passes, the second card[Ω1](μ) if it is of the Diff, and each is 0 if not
+pub record HasCardinality (holds : Solution → Bool) (ls rs : List Solution) (m : Solution) : Type 0 where
+  pub alone : ℕ
+  pub total : card (left_join holds ls rs) m ≡ (if holds m then join_card ls rs m else 0) + alone
+  pub stays : IsAlone holds ls rs m → alone ≡ card ls m
+  pub goes : (IsAlone holds ls rs m → ⊥) → alone ≡ 0
 
 -- what a place of a pattern is under a map
 abbrev pub node_term : Solution → Node → Option Term

@@ -3,7 +3,7 @@ ghost use Rattle.std.specs.Prelude.{ℕ, Bool, List, Option};
 ghost use Rattle.vkg_terms.specs.declared.term.Term.{Term};
 ghost use Rattle.vkg_sparql.specs.declared.pattern.TriplePattern.{TriplePattern};
 ghost use Rattle.vkg_algebra.specs.Evaluation.{Dataset};
-ghost use Rattle.vkg_algebra.specs.Laws.{AreBelow, HasInstances, IsLeftJoin, KeepsMaps};
+ghost use Rattle.vkg_algebra.specs.Laws.{AreBelow, HasCardinality, HasInstances, IsLeftJoin, KeepsMaps};
 ghost use Rattle.vkg_algebra.specs.Solutions.{Solution};
 
 /// Compatible solution mappings and their merge (SPARQL 1.1, 18.3).
@@ -11,9 +11,10 @@ pub fn maps()
     ensures { (l r : Solution) → KeepsMaps l r }
 {}
 
-/// The members of a LeftJoin (SPARQL 1.1, 18.5).
+/// The members of a LeftJoin, and how often each of them is there (SPARQL 1.1, 18.5).
 pub fn left_joins()
-    ensures { (holds : Solution → Bool) (ls rs : List Solution) → IsLeftJoin holds ls rs }
+    ensures members { (holds : Solution → Bool) (ls rs : List Solution) → IsLeftJoin holds ls rs }
+    ensures bag { (holds : Solution → Bool) (ls rs : List Solution) (m : Solution) → HasCardinality holds ls rs m }
 {}
 
 /// The solutions of a basic graph pattern before its labels are dropped (SPARQL 1.1, 18.3.1): every map under which each
