@@ -2,6 +2,7 @@ pub mod CardLemmas
 pub mod Data
 pub mod InstanceLemmas
 pub mod LawfulLemmas
+pub mod LineLemmas
 pub mod MapLemmas
 pub mod PatternLemmas
 pub mod Rows

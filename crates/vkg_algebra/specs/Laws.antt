@@ -4,6 +4,7 @@ use Rattle.std.specs.List.{IsDistinct, count_by, sum_by}
 use Rattle.std.specs.Option.{option_or}
 use Rattle.vkg_terms.specs.declared.term.Term.{Term}
 use Rattle.vkg_terms.specs.NQuads.{Quad}
+use Rattle.vkg_terms.specs.Writable.{IsWritable}
 use Rattle.vkg_maps.specs.Dataset.{quad_eq}
 use Rattle.vkg_sparql.specs.declared.pattern.Node.{Node}
 use Rattle.vkg_sparql.specs.declared.pattern.Node.TheVariants as node
@@ -92,3 +93,7 @@ pub record HasInstances (n : ℕ) (ps : List TriplePattern) (d : Dataset) (g : O
 -- the numbers of the patterns are below n
 abbrev pub AreBelow : ℕ → List TriplePattern → Type 0
 AreBelow n ps = (v : ℕ) → Contains (flat_map pattern_numbers ps) v → v < n
+
+-- RDF 1.1 N-Quads, 4: every term that is bound holds only what may stand in it
+abbrev pub BindsWritable : Solution → Type 0
+BindsWritable s = (v : ℕ) (t : Term) → lookup s v ≡ Some t → IsWritable t

@@ -1,9 +1,10 @@
 //! Laws of the definitions, in the words of the standard. These functions compute nothing; what they ensure is the law.
-ghost use Rattle.std.specs.Prelude.{ℕ, Bool, List, Option};
+ghost use Rattle.std.specs.Prelude.{◌≡◌, ℕ, Bool, List, length, Contains, Option};
 ghost use Rattle.vkg_terms.specs.declared.term.Term.{Term};
 ghost use Rattle.vkg_sparql.specs.declared.pattern.TriplePattern.{TriplePattern};
+ghost use Rattle.vkg_algebra.specs.Answer.{solution_line};
 ghost use Rattle.vkg_algebra.specs.Evaluation.{Dataset};
-ghost use Rattle.vkg_algebra.specs.Laws.{AreBelow, HasCardinality, HasInstances, IsLeftJoin, KeepsMaps};
+ghost use Rattle.vkg_algebra.specs.Laws.{AreBelow, BindsWritable, HasCardinality, HasInstances, IsLeftJoin, KeepsMaps};
 ghost use Rattle.vkg_algebra.specs.Solutions.{Solution};
 
 /// Compatible solution mappings and their merge (SPARQL 1.1, 18.3).
@@ -21,4 +22,11 @@ pub fn left_joins()
 /// pattern is a triple of the graph, and over a set of quads each of them once.
 pub fn basic_graph_patterns()
     ensures { (n : ℕ) (ps : List TriplePattern) (d : Dataset) (g : Option Term) → AreBelow n ps → HasInstances n ps d g }
+{}
+
+/// One line is one solution (SPARQL 1.1 Query Results CSV and TSV Formats, 4): where the terms that are bound are writable, no
+/// two solutions of as many variables have one line, and no line holds a line feed (10).
+pub fn solution_lines()
+    ensures one_to_one { (s t : Solution) → length s ≡ length t → BindsWritable s → BindsWritable t → solution_line s ≡ solution_line t → s ≡ t }
+    ensures one_line { (s : Solution) → BindsWritable s → Contains (solution_line s) 10 → ⊥ }
 {}

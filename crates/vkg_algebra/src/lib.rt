@@ -4,7 +4,7 @@
 //! expression, the solutions of a basic graph pattern, the evaluation of an algebra over a dataset, the translation of a
 //! query, and its answer. `translate` answers exactly the algebra that the translation defines, `visible` its variables by
 //! first appearance, and `header` the first line of an answer. The functions of `laws` ensure, in the words of the standard,
-//! what compatible mappings, a left join and the instances of a basic graph pattern are.
+//! what compatible mappings, a left join and the instances of a basic graph pattern are, and that one line is one solution.
 //!
 //! Stands on `vkg_lists` (rows as maps, sets), `vkg_base` (lists and boxes), `vkg_terms` and `vkg_values` (terms and the
 //! operators on them), `vkg_maps` (quads of a dataset) and `vkg_sparql` (queries).

@@ -219,4 +219,5 @@ fn laws_compute_nothing() {
     laws::maps();
     laws::left_joins();
     laws::basic_graph_patterns();
+    laws::solution_lines();
 }
