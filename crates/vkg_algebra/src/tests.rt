@@ -76,7 +76,8 @@ fn write_condition(out: &mut String, condition: &Condition) -> Result<(), Fail> 
     Ok(())
 }
 
-/// The name of an algebra's operator; that of a basic graph pattern tells how many triples it has.
+/// The name of an algebra's operator, and an opening bracket where it has parts; that of a basic graph pattern tells how many
+/// triples it has.
 fn operator(algebra: &Algebra) -> &'static str {
     match algebra {
         Algebra::Bgp(patterns) => match patterns.len() {
@@ -84,11 +85,11 @@ fn operator(algebra: &Algebra) -> &'static str {
             1 => "Bgp1",
             _ => "Bgp2",
         },
-        Algebra::Join(_, _) => "Join",
-        Algebra::LeftJoin(_, _, _) => "LeftJoin",
-        Algebra::Union(_, _) => "Union",
-        Algebra::Filter(_, _) => "Filter",
-        Algebra::Graph(_, _) => "Graph",
+        Algebra::Join(_, _) => "Join(",
+        Algebra::LeftJoin(_, _, _) => "LeftJoin(",
+        Algebra::Union(_, _) => "Union(",
+        Algebra::Filter(_, _) => "Filter(",
+        Algebra::Graph(_, _) => "Graph(",
     }
 }
 
@@ -97,36 +98,40 @@ fn write_shape(out: &mut String, algebra: &Algebra) -> Result<(), Fail> {
     out.push_str(operator(algebra))?;
     match algebra {
         Algebra::Bgp(_) => return Ok(()),
-        Algebra::Join(a, b) => write_two(out, a, b)?,
-        Algebra::Union(a, b) => write_two(out, a, b)?,
-        Algebra::LeftJoin(a, b, condition) => {
-            write_two(out, a, b)?;
+        Algebra::Join(a, b) => {
+            write_shape(out, a)?;
             out.push_str(", ")?;
-            match condition {
-                Some(condition) => write_condition(out, condition)?,
-                None => out.push_str("true")?,
-            }
+            write_shape(out, b)?;
+        }
+        Algebra::LeftJoin(a, b, condition) => {
+            write_shape(out, a)?;
+            out.push_str(", ")?;
+            write_shape(out, b)?;
+            write_optional(out, condition)?;
+        }
+        Algebra::Union(a, b) => {
+            write_shape(out, a)?;
+            out.push_str(", ")?;
+            write_shape(out, b)?;
         }
         Algebra::Filter(condition, a) => {
-            out.push_str("(")?;
             write_condition(out, condition)?;
             out.push_str(", ")?;
             write_shape(out, a)?;
         }
-        Algebra::Graph(_, a) => {
-            out.push_str("(")?;
-            write_shape(out, a)?;
-        }
+        Algebra::Graph(_, a) => write_shape(out, a)?,
     }
-    Ok(out.push_str(")")?)
+    out.push_str(")")?;
+    Ok(())
 }
 
-/// The operators of two algebras.
-fn write_two(out: &mut String, a: &Algebra, b: &Algebra) -> Result<(), Fail> {
-    out.push_str("(")?;
-    write_shape(out, a)?;
+/// The condition of a left join; none stands for true.
+fn write_optional(out: &mut String, condition: &Option<Box<Condition>>) -> Result<(), Fail> {
     out.push_str(", ")?;
-    write_shape(out, b)
+    match condition {
+        Some(condition) => write_condition(out, condition),
+        None => Ok(out.push_str("true")?),
+    }
 }
 
 fn shape(alloc: Global, group: Items<Part>) -> Result<String, Fail> {
