@@ -1,6 +1,5 @@
 pub mod Agreement
 pub mod Columns
-pub mod Conjuncts
 pub mod Entries
 pub mod GraphExists
 pub mod GraphNames

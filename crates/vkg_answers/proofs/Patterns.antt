@@ -30,6 +30,7 @@ use Rattle.vkg_algebra.specs.Visible.{has, node_variables, pattern_variables, vi
 use Rattle.vkg_expr.specs.Expr.{Expr, Col}
 use Rattle.vkg_expr.specs.Value.{value_of, term_of, holds}
 use Rattle.vkg_expr.specs.Logic.{and_of}
+use Rattle.vkg_expr.proofs.Conjuncts.{holds-and_of}
 use Rattle.vkg_plan.specs.Kinds.{Tables}
 use Rattle.vkg_plan.specs.Plan.{Join, Project, plans}
 use Rattle.vkg_plan.specs.Rows.{rows_of, rows_of_each, product}
@@ -40,7 +41,6 @@ use Rattle.vkg_unfold.specs.declared.mode.Mode.TheVariants.{Default, InGraph, Ea
 use Rattle.vkg_unfold.specs.StandsFor.{upto_from, IsIn, belongs, hidden_is, solution_of, solutions_of, term_in}
 use Rattle.vkg_unfold.specs.FineRows.{IsNarrow}
 use Rattle.vkg_unfold.proofs.AlgebraColumns.{name_test}
-use Rattle.vkg_answers.proofs.Conjuncts.{holds-and_of}
 use Rattle.vkg_answers.proofs.Reading.{AreBelow, IsTermCell, is_term_cell, read_project, has-append, has-each_once}
 use Rattle.vkg_answers.proofs.Modes.{IsRowOf, cell_at-after, hidden_found}
 use Rattle.vkg_answers.proofs.Steps.{Stands, projected, project_rows, IsGraphCell}

@@ -26,6 +26,7 @@ use Rattle.vkg_expr.specs.Value.{value_of, term_cell, truth_of, truth_cell, hold
 use Rattle.vkg_expr.specs.Logic.{and_of}
 use Rattle.vkg_expr.specs.declared.term_expr.TermExpr.TheVariants as term_form
 use Rattle.vkg_expr.proofs.ReadBack.{term_back}
+use Rattle.vkg_expr.proofs.Conjuncts.{holds-and_of}
 use Rattle.vkg_plan.specs.Kinds.{Tables}
 use Rattle.vkg_plan.specs.Plan.{Plan, Project, plans}
 use Rattle.vkg_plan.specs.Rows.{rows_of, rows_of_each, pairs, one_row}
@@ -37,7 +38,6 @@ use Rattle.vkg_unfold.specs.declared.mode.Mode.{Mode}
 use Rattle.vkg_unfold.specs.declared.mode.Mode.TheVariants.{Default, InGraph, Each}
 use Rattle.vkg_unfold.specs.FineRows.{NeverDefault}
 use Rattle.vkg_unfold.specs.StandsFor.{IsIn}
-use Rattle.vkg_answers.proofs.Conjuncts.{holds-and_of}
 use Rattle.vkg_answers.proofs.Agreement.{list_all-append}
 use Rattle.vkg_answers.proofs.Steps.{product-two, project_rows}
 use Rattle.vkg_answers.proofs.Entries.{is_same}

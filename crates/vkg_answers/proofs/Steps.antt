@@ -23,6 +23,7 @@ use Rattle.vkg_algebra.specs.Values as algebra
 use Rattle.vkg_expr.specs.Expr.{Expr, Col}
 use Rattle.vkg_expr.specs.Value.{value_of, term_cell, holds}
 use Rattle.vkg_expr.specs.Logic.{and_of}
+use Rattle.vkg_expr.proofs.Conjuncts.{values_are}
 use Rattle.vkg_plan.specs.Kinds.{Tables}
 use Rattle.vkg_plan.specs.Plan.{Plan, Project}
 use Rattle.vkg_plan.specs.Rows.{is_alone, pairs, product, left_pairs, rows_of}
@@ -33,7 +34,6 @@ use Rattle.vkg_unfold.specs.Unfolded.{merged, agreement, if_each, visible_column
 use Rattle.vkg_unfold.specs.StandsFor.{IsIn, belongs, term_in, solution_of, solutions_of, upto_from}
 use Rattle.vkg_unfold.specs.FineRows.{IsNarrow}
 use Rattle.vkg_answers.proofs.Joins.{Each as Every, bag_join, join_rows, left_rows, merge-map}
-use Rattle.vkg_answers.proofs.Conjuncts.{values_are}
 use Rattle.vkg_answers.proofs.Values.{IsNarrowCondition, IsNarrowIfAny, means, truth_meant}
 use Rattle.vkg_answers.proofs.Reading.{AreBelow, AreTermCells, IsTermCell, read_typed, has_union, term_merged, read_merged, solution-merged, merged_typed, nulls_typed, nulls_none, none_right, lookup-solution, cells-map, cells-cons, cells-nil, length-project, narrow_or}
 use Rattle.vkg_answers.proofs.Agreement.{agreements, agreements-compatible}

@@ -1,6 +1,7 @@
 pub mod Texts
 pub mod KindLists
 pub mod ReadBack
+pub mod Conjuncts
 pub mod ValueFits
 pub mod Weights
 pub mod TypedParts

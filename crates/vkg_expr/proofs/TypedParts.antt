@@ -278,10 +278,10 @@ seen-Same a b = ap expr_seen (sym (rolls-Same a b)) ∙ fold-roll-Expr Expr expr
 seen-Concat : (xs : List ExprValue) → expr_seen (value.Concat xs) ≡ Concat (exprs (map expr_seen xs))
 seen-Concat xs = ap expr_seen (sym (rolls-Concat xs)) ∙ fold-roll-Expr Expr expr_step (Expr-F.Concat xs)
 
-seen-And : (xs : List ExprValue) → expr_seen (value.And xs) ≡ And (exprs (map expr_seen xs))
+pub seen-And : (xs : List ExprValue) → expr_seen (value.And xs) ≡ And (exprs (map expr_seen xs))
 seen-And xs = ap expr_seen (sym (rolls-And xs)) ∙ fold-roll-Expr Expr expr_step (Expr-F.And xs)
 
-seen-Or : (xs : List ExprValue) → expr_seen (value.Or xs) ≡ Or (exprs (map expr_seen xs))
+pub seen-Or : (xs : List ExprValue) → expr_seen (value.Or xs) ≡ Or (exprs (map expr_seen xs))
 seen-Or xs = ap expr_seen (sym (rolls-Or xs)) ∙ fold-roll-Expr Expr expr_step (Expr-F.Or xs)
 
 seen-Coalesce : (xs : List ExprValue) → expr_seen (value.Coalesce xs) ≡ Coalesce (exprs (map expr_seen xs))

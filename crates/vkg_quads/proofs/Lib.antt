@@ -1,5 +1,4 @@
 pub mod Targets
-pub mod Groups
 pub mod DumpLaws
 pub mod Partners
 mod Examples

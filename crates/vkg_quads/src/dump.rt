@@ -3,17 +3,17 @@ ghost use Rattle.std.specs.Prelude.{◌≡◌, ◌++◌, ◌∷◌, [], ℕ, Lis
 ghost use Rattle.std.specs.Option.{option_copied};
 ghost use Rattle.vkg_terms.specs.NQuads.{line};
 ghost use Rattle.vkg_schema.specs.Rows.{agree as rows_agree};
+ghost use Rattle.vkg_index.specs.Keys.{has_key};
 ghost use Rattle.vkg_maps.specs.Dataset.{quad_of, quads_of_rule, dataset};
 ghost use Rattle.vkg_quads.specs.Dump.{IsDump, dump};
 ghost use Rattle.vkg_base.specs.Groups.{group};
-ghost use Rattle.vkg_quads.specs.Keys.{has_key};
 
-use crate::index::{grouped, key_of};
 use crate::quad::line_of_rows;
 use crate::rule_list::rules;
 use std::alloc::Global;
 use vkg_base::{Groups, Items, Lines, Memory};
 use vkg_cells::Cell;
+use vkg_index::{grouped, key_of};
 use vkg_maps::{Mapping, QuadRule};
 use vkg_schema::agree;
 use vkg_tables::Database;

@@ -5,11 +5,10 @@
 //! gives the quad rules. The definitions stand in `vkg_maps`; the pairs of rows of a join are found through an index of the
 //! parent's rows, so that the work is about that of the rows and lines.
 //!
-//! Stands on `vkg_maps` (mappings and what they stand for) and `vkg_tables` (the database).
+//! Stands on `vkg_maps` (mappings and what they stand for), `vkg_tables` (the database) and `vkg_index` (rows by their keys).
 #![tactic(auto)]
 
 mod dump;
-mod index;
 mod made;
 mod quad;
 mod rule_list;

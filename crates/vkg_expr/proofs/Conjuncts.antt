@@ -8,7 +8,7 @@ use Rattle.vkg_schema.specs.Rows.{Row, is_known_true}
 use Rattle.vkg_values.specs.Logic.{and3}
 use Rattle.vkg_expr.specs.Expr.{Expr, Exprs, And, Nil, More, exprs, each}
 use Rattle.vkg_expr.specs.Value.{truth_of, value_of, values_of, holds, all_of}
-use Rattle.vkg_expr.specs.Logic.{and_of}
+use Rattle.vkg_expr.specs.Logic.{and_of, conjuncts}
 use Rattle.vkg_expr.proofs.ReadBack.{truth_back}
 
 sure-and3 : (p q : Option Bool) → is_known_true (and3 p q) ≡ (is_known_true p && is_known_true q)
@@ -26,12 +26,16 @@ each_holds : (row : Row) (es : Exprs) → list_all (λ c. is_known_true (truth_o
 each_holds row Nil = refl
 each_holds row (More e es) = ap (λ b. holds e row && b) (each_holds row es)
 
-each_exprs : (es : List Expr) → each (exprs es) ≡ es
+pub each_exprs : (es : List Expr) → each (exprs es) ≡ es
 each_exprs [] = refl
 each_exprs (e ∷ es) = ap (λ fs. e ∷ fs) (each_exprs es)
 
-holds-And : (row : Row) (es : Exprs) → holds (And es) row ≡ list_all (λ c. holds c row) (each es)
+pub holds-And : (row : Row) (es : Exprs) → holds (And es) row ≡ list_all (λ c. holds c row) (each es)
 holds-And row es = ap is_known_true (truth_back (all_of (values_of es row))) ∙ sure-fold (Some true) (values_of es row) ∙ each_holds row es
+
+pub holds-conjuncts : (c : Expr) (row : Row) → holds c row ≡ list_all (λ e. holds e row) (conjuncts c)
+holds-conjuncts (And es) row = holds-And row es
+holds-conjuncts c row = sym (and-true (holds c row))
 
 pub holds-and_of : (row : Row) (cs : List Expr) → holds (and_of cs) row ≡ list_all (λ c. holds c row) cs
 holds-and_of row [] = refl
