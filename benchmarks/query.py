@@ -2,10 +2,10 @@
 """Times `vkg query` on the generated company of dump.py, by the direct mapping, and prints one line a query and size: solutions,
 processor seconds, peak memory.
 
-usage: benchmarks/query.py [N ..]     (default: 1000 10000; build the program first, with ./vkg dump --help; VKG names another program)
+usage: benchmarks/query.py [N ..]     (default: 1000 10000 100000; build the program first, with ./vkg dump --help; VKG names another program)
 
-`names` asks for the name of each employee: one scan. `departments` asks for the department of each employee who has one, and its
-title: a join of two patterns, which the plain engine makes of all pairs of rows, so it is run for 1,000 employees at the most.
+`names` asks for the name of each employee: one pattern. `departments` asks for the title of the department of each employee who has one: a
+join of three patterns. `optional` asks for that of all employees, if they have one.
 """
 import os
 import subprocess
@@ -14,8 +14,9 @@ import tempfile
 
 import dump
 
-QUERIES = [('names', 'SELECT ?n { ?e <http://e/emp#name> ?n }', None),
-           ('departments', 'SELECT ?n ?t { ?e <http://e/emp#name> ?n . ?e <http://e/emp#ref-dept> ?d . ?d <http://e/dept#title> ?t }', 100)]
+QUERIES = [('names', 'SELECT ?n { ?e <http://e/emp#name> ?n }'),
+           ('departments', 'SELECT ?n ?t { ?e <http://e/emp#name> ?n . ?e <http://e/emp#ref-dept> ?d . ?d <http://e/dept#title> ?t }'),
+           ('optional', 'SELECT ?n ?t { ?e <http://e/emp#name> ?n OPTIONAL { ?e <http://e/emp#ref-dept> ?d . ?d <http://e/dept#title> ?t } }')]
 
 
 def run_once(folder, query):
@@ -32,9 +33,8 @@ def run_once(folder, query):
 
 
 def main():
-    for name, query, most in QUERIES:
-        for rows in [int(word) for word in sys.argv[1:]] or [1000, 10000]:
-            rows = min(rows, most or rows)
+    for name, query in QUERIES:
+        for rows in [int(word) for word in sys.argv[1:]] or [1000, 10000, 100000]:
             with tempfile.TemporaryDirectory() as folder:
                 dump.write_company(folder, rows)
                 runs = [run_once(folder, query) for _ in range(3)]

@@ -1,5 +1,10 @@
+pub mod CellLemmas
+pub mod DistinctLemmas
+pub mod IndexLemmas
+pub mod LeftLemmas
+pub mod LinkLemmas
+pub mod LinkedLemmas
 pub mod Nulls
-pub mod PairLemmas
 pub mod RunLaws
 pub mod TableKinds
 pub mod TypedRows

@@ -1,39 +1,83 @@
 // Each row once.
-ghost use Rattle.std.specs.Prelude.{◌≡◌, ◌∷◌, IfOk, not};
-ghost use Rattle.std.specs.List.{filter};
+ghost use Rattle.std.specs.Prelude.{◌≡◌, ◌++◌, ◌∷◌, [], ℕ, List, IfOk, OnOk, Some, false, filter, filter_map, slice_get, string_bytes, if◌then◌else◌};
+ghost use Rattle.std.specs.List.{list_any};
+ghost use Rattle.std.specs.Option.{option_map_or};
+ghost use Rattle.vkg_base.specs.Groups.{group};
+ghost use Rattle.vkg_index.specs.Keys.{has_text, row_text};
 ghost use Rattle.vkg_lists.specs.Sets.{distinct};
 ghost use Rattle.vkg_plan.specs.Rows.{one_cell, one_row};
 
 use crate::nodes::copy_row;
 use std::alloc::Global;
-use vkg_base::{Items, Memory};
+use std::collections::HashMap;
+use vkg_base::{Groups, Items, Memory, put};
 use vkg_cells::Cell;
+use vkg_index::text_of_row;
 
-/// Each row once, where it first stands; NULL is equal to NULL here.
+/// Each row once, where it first stands; NULL is equal to NULL here. A row is compared with the earlier ones of its text alone.
 pub fn once_each(alloc: Global, rows: &[Items<Cell>]) -> Result<Items<Items<Cell>>, Memory>
     ensures { IfOk result (λ out. out ≡ distinct one_row rows.now) }
 {
     let mut out = Items::new(alloc);
-    let mut i = rows.len();
-    while i > 0 {
-        i -= 1;
-        out = before(alloc, rows[i].as_slice(), out.as_slice())?;
+    let mut index = HashMap::new(alloc);
+    for (k, row) in rows.iter().enumerate() {
+        add_new(alloc, &mut out, &mut index, rows, k, row.as_slice())?;
     }
     Ok(out)
 }
 
-/// The row, and then the others.
-fn before(alloc: Global, row: &[Cell], rows: &[Items<Cell>]) -> Result<Items<Items<Cell>>, Memory>
-    ensures { IfOk result (λ out. out ≡ row.now ∷ filter (λ s. not (one_row row.now s)) rows.now) }
+/// Adds a row to those that are kept, and its number to the index of these, if it is none of them.
+fn add_new(
+    alloc: Global,
+    out: &mut Items<Items<Cell>>,
+    index: &mut Groups,
+    rows: &[Items<Cell>],
+    k: usize,
+    row: &[Cell],
+) -> Result<(), Memory>
+    requires place { slice_get rows.now k ≡ Some row.now }
+    requires index { (q : List ℕ) → filter_map (slice_get rows.now) (group index.old q) ≡ filter (has_text q) out.old }
+    ensures out { OnOk result (out.new ≡ out.old ++ (if list_any (λ s. one_row s row.now) out.old then [] else row.now ∷ [])) }
+    ensures index { OnOk result ((q : List ℕ) → filter_map (slice_get rows.now) (group index.new q) ≡ filter (has_text q) out.new) }
 {
-    let mut out = Items::new(alloc);
+    let text = text_of_row(alloc, row)?;
+    if is_there(index, rows, text.as_str(), row) {
+        return Ok(());
+    }
     out.push(copy_row(alloc, row)?)?;
-    for other in rows {
-        if !same_rows(row, other.as_slice()) {
-            out.push(copy_row(alloc, other.as_slice())?)?;
+    put(index, text, k)?;
+    Ok(())
+}
+
+/// Whether the row is one of those that the index has at the text.
+fn is_there(index: &Groups, rows: &[Items<Cell>], text: &str, row: &[Cell]) -> bool
+    ensures { result ≡ list_any (λ s. one_row s row.now) (filter_map (slice_get rows.now) (group index.now text.now)) }
+{
+    match index.get(text) {
+        None => false,
+        Some(numbers) => is_any(rows, numbers.as_slice(), row),
+    }
+}
+
+/// Whether the row is one of the numbered ones.
+fn is_any(rows: &[Items<Cell>], numbers: &[usize], row: &[Cell]) -> bool
+    ensures { result ≡ list_any (λ s. one_row s row.now) (filter_map (slice_get rows.now) numbers.now) }
+{
+    for n in numbers {
+        if is_at(rows, *n, row) {
+            return true;
         }
     }
-    Ok(out)
+    false
+}
+
+fn is_at(rows: &[Items<Cell>], n: usize, row: &[Cell]) -> bool
+    ensures { result ≡ option_map_or (λ s. one_row s row.now) (slice_get rows.now n) false }
+{
+    match rows.get(n) {
+        None => false,
+        Some(other) => same_rows(other.as_slice(), row),
+    }
 }
 
 fn same_rows(a: &[Cell], b: &[Cell]) -> bool

@@ -69,7 +69,7 @@ pub fn select(alloc: Global, c: &Expr, rows: &[Items<Cell>]) -> Result<Items<Ite
 
 /// Whether a condition is true on a row.
 #[tactic(auto, using(crate::proofs::TypedRows::conditions))]
-pub fn holds(alloc: Global, c: &Expr, row: &[Cell]) -> Result<bool, Memory>
+fn holds(alloc: Global, c: &Expr, row: &[Cell]) -> Result<bool, Memory>
     requires { IsCondition (expr_seen c.now) row.now }
     ensures { IfOk result (λ b. b ≡ holds_on (expr_seen c.now) row.now) }
 {

@@ -10,11 +10,13 @@ use vkg_schema::read_schema;
 use vkg_tables::Database;
 
 const COMPANY: &str =
-    "CREATE TABLE dept (id INTEGER PRIMARY KEY, title VARCHAR(20)); CREATE TABLE emp (id INTEGER PRIMARY KEY, name VARCHAR(20), dept INTEGER REFERENCES dept);";
+    "CREATE TABLE dept (id INTEGER PRIMARY KEY, title VARCHAR(20)); CREATE TABLE emp (id INTEGER PRIMARY KEY, name VARCHAR(20), dept INTEGER REFERENCES dept); CREATE TABLE pay (level DECIMAL(4, 1) PRIMARY KEY, amount INTEGER);";
 
 const DEPT: &[u8] = b"id,title\n1,Ore\n2,\\N\n";
 
 const EMP: &[u8] = b"id,name,dept\n7,Ann,1\n8,Bo,\\N\n9,Ann,1\n";
+
+const PAY: &[u8] = b"level,amount\n1.0,10\n2.5,20\n";
 
 type Made = Result<Plan, Memory>;
 
@@ -23,12 +25,14 @@ type MadeExpr = Result<Expr, Memory>;
 fn company(rt: &impl Abort, alloc: Global) -> Database {
     let schema = read_schema(alloc, COMPANY.as_bytes()).expect(rt, "a schema");
     let mut database = Database::new(alloc, &schema).expect(rt, "a database");
-    assert!(rt; database.schema().tables().len() == 2);
+    assert!(rt; database.schema().tables().len() == 3);
     database
         .load_table(alloc, 0, DEPT)
         .expect(rt, "departments");
-    assert!(rt; database.schema().tables().len() == 2);
+    assert!(rt; database.schema().tables().len() == 3);
     database.load_table(alloc, 1, EMP).expect(rt, "employees");
+    assert!(rt; database.schema().tables().len() == 3);
+    database.load_table(alloc, 2, PAY).expect(rt, "pay");
     database
 }
 
@@ -39,6 +43,15 @@ fn same(alloc: Global, a: usize, b: usize) -> MadeExpr {
 
 fn null_test(alloc: Global, at: usize) -> MadeExpr {
     Ok(Expr::IsNull(Box::new(alloc, Expr::Col(at))?))
+}
+
+// The columns are the same, or one is NULL.
+fn same_or_null(alloc: Global, a: usize, b: usize) -> MadeExpr {
+    let mut choices = Items::new(alloc);
+    choices.push(null_test(alloc, a)?)?;
+    choices.push(null_test(alloc, b)?)?;
+    choices.push(same(alloc, a, b)?)?;
+    Ok(Expr::Or(choices))
 }
 
 fn select(alloc: Global, c: MadeExpr, p: Made) -> Made {
@@ -69,9 +82,22 @@ fn scans(alloc: Global, first: usize, second: usize) -> Result<Items<Plan>, Memo
     Ok(ps)
 }
 
-fn join(alloc: Global) -> Made {
-    let ps = scans(alloc, 1, 0)?;
-    Ok(Plan::Join(ps, same(alloc, 2, 3)?))
+fn join(ps: Result<Items<Plan>, Memory>, c: MadeExpr) -> Made {
+    Ok(Plan::Join(ps?, c?))
+}
+
+fn three_scans(alloc: Global) -> Result<Items<Plan>, Memory> {
+    let mut ps = scans(alloc, 0, 0)?;
+    ps.push(Plan::Scan(1))?;
+    Ok(ps)
+}
+
+// The first two by no columns, and the third by one of each.
+fn links_to_both(alloc: Global) -> MadeExpr {
+    let mut conjuncts = Items::new(alloc);
+    conjuncts.push(same(alloc, 6, 0)?)?;
+    conjuncts.push(same(alloc, 2, 6)?)?;
+    Ok(Expr::And(conjuncts))
 }
 
 fn union(alloc: Global) -> Made {
@@ -90,12 +116,27 @@ fn made(alloc: Global, node: &str) -> Made {
         "Select" => select(alloc, null_test(alloc, 2), Ok(Plan::Scan(1))),
         "Select of unknown" => select(alloc, same(alloc, 2, 2), Ok(Plan::Scan(1))),
         "Project" => project(alloc, 1, Ok(Plan::Scan(1))),
-        "Join" => join(alloc),
+        "Join" => join(scans(alloc, 1, 0), same(alloc, 2, 3)),
+        "Join of NULL and NULL" => join(scans(alloc, 0, 0), same(alloc, 3, 1)),
+        "Join of Int and Dec" => join(scans(alloc, 0, 2), same(alloc, 0, 2)),
+        "Join of three" => join(three_scans(alloc), links_to_both(alloc)),
         "Left" => left(
             alloc,
             Ok(Plan::Scan(1)),
             Ok(Plan::Scan(0)),
             same(alloc, 2, 3),
+        ),
+        "Left or NULL" => left(
+            alloc,
+            Ok(Plan::Scan(1)),
+            Ok(Plan::Scan(0)),
+            same_or_null(alloc, 2, 3),
+        ),
+        "Left or NULL without NULL" => left(
+            alloc,
+            Ok(Plan::Scan(0)),
+            Ok(Plan::Scan(2)),
+            same_or_null(alloc, 0, 2),
         ),
         "UnionAll" => union(alloc),
         _ => distinct(alloc, union(alloc)),
@@ -153,7 +194,7 @@ fn shown(
 
 #[test]
 fn each_node_has_its_rows(rt: HostRuntime) -> Result<(), Fail> {
-    let table: [(&str, &str); 10] = [
+    let table: [(&str, &str); 15] = [
         ("Unit", ";"),
         ("Empty", ""),
         ("Scan", "1,Ore;2,NULL;"),
@@ -161,7 +202,15 @@ fn each_node_has_its_rows(rt: HostRuntime) -> Result<(), Fail> {
         ("Select of unknown", "7,Ann,1;9,Ann,1;"),
         ("Project", "Ann;Ann;Bo;"),
         ("Join", "7,Ann,1,1,Ore;9,Ann,1,1,Ore;"),
+        ("Join of NULL and NULL", "1,Ore,1,Ore;"),
+        ("Join of Int and Dec", "1,Ore,1,10;"),
+        ("Join of three", "1,Ore,1,Ore,7,Ann,1;1,Ore,1,Ore,9,Ann,1;"),
         ("Left", "7,Ann,1,1,Ore;8,Bo,NULL,NULL,NULL;9,Ann,1,1,Ore;"),
+        (
+            "Left or NULL",
+            "7,Ann,1,1,Ore;8,Bo,NULL,1,Ore;8,Bo,NULL,2,NULL;9,Ann,1,1,Ore;",
+        ),
+        ("Left or NULL without NULL", "1,Ore,1,10;2,NULL,NULL,NULL;"),
         ("UnionAll", "1,Ore;1,Ore;2,NULL;2,NULL;"),
         ("Distinct", "1,Ore;2,NULL;"),
     ];
