@@ -1,0 +1,33 @@
+"""Queries as they are written (SPARQL 1.1 Query, 19.8), in the profile of docs/DIAGNOSTICS.md (Q07)."""
+from collections import namedtuple
+from dataclasses import dataclass
+
+# An expression is a variable, a term, or a call: `name` is `||`, `&&`, `!`, BOUND, SAMETERM or one of these, in capitals.
+COMPARISONS = ("=", "!=", "<", ">", "<=", ">=")
+TESTS = ("ISIRI", "ISURI", "ISBLANK", "ISLITERAL", "ISNUMERIC")
+ACCESSORS = ("STR", "LANG", "DATATYPE")
+
+Var = namedtuple("Var", "name")
+Call = namedtuple("Call", "name arguments")
+
+# A group is a list of elements (rules 53 to 68). A triple pattern is a tuple of three variables and terms, in which blank nodes
+# stand for variables that are not seen (4.1.4).
+TriplesBlock = namedtuple("TriplesBlock", "patterns")
+OptionalElement = namedtuple("OptionalElement", "group")
+GraphElement = namedtuple("GraphElement", "name group")
+UnionElement = namedtuple("UnionElement", "groups")  # one group, or several with UNION between them
+FilterElement = namedtuple("FilterElement", "condition")
+
+
+@dataclass
+class Query:
+    """A query: the selected variables (None for `*`), whether each solution comes once, the group, and its variables in order."""
+
+    selected: list[str] | None
+    is_distinct: bool
+    group: list
+    visible: list[str]
+
+    def header(self):
+        """The variables of the answer, each once: those selected, or all that are visible in the group (18.2.1)."""
+        return self.visible if self.selected is None else list(dict.fromkeys(self.selected))

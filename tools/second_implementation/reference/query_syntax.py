@@ -1,0 +1,229 @@
+"""Reads queries by the grammar of SPARQL 1.1 Query, 19.8, or tells their first fault Q01 to Q08 (docs/DIAGNOSTICS.md).
+
+The limits of Q09 are not looked at: no random query comes near them.
+"""
+from reference.datatypes import is_wide_number
+from reference.queries import (ACCESSORS, COMPARISONS, TESTS, Call, FilterElement, GraphElement, OptionalElement, Query,
+                               TriplesBlock, UnionElement, Var)
+from reference.rdf import RDF_TYPE, XSD, Term
+from reference.refusal import Refused, refuse_first
+from reference.tokens import Token, check_depth, cut, decoded
+from reference.triples_syntax import BASE_CHARS, CLASSES, SKIPPED, TriplesCursor
+
+SIGNS = [
+    ("SIGN", r"\^\^|!=|<=|>=|&&|\|\||[{}()\[\].;,=<>!*/|^+?-]"),
+    ("VAR", f"[?$][{BASE_CHARS}_0-9][{BASE_CHARS}_0-9\u00b7\u0300-\u036f\u203f-\u2040]*"),
+]
+WORDS = [*"BASE PREFIX SELECT DISTINCT REDUCED WHERE OPTIONAL GRAPH FILTER UNION BOUND SAMETERM".split(), *TESTS, *ACCESSORS]
+
+# The words and signs of Q07; some (SELECT, `*`, `(`) are outside the profile in other places than those where they are taken.
+OUTSIDE_WORDS = (
+    "ASK CONSTRUCT DESCRIBE SELECT FROM SERVICE MINUS VALUES BIND AS ORDER LIMIT OFFSET GROUP HAVING COUNT SUM MIN MAX AVG "
+    "SAMPLE GROUP_CONCAT EXISTS NOT IN REGEX IF COALESCE LANGMATCHES STRLEN STRSTARTS STRENDS CONTAINS INSERT DELETE LOAD CLEAR"
+).split()
+OUTSIDE_SIGNS = "( / | ^ * + - ?".split()
+
+
+def with_keyword(token):
+    """A token, as a keyword where it is a word that the profile takes; all but `a` are in any case (19.8)."""
+    if token.kind != "WORD":
+        return token
+    if token.text == "a":
+        return token._replace(kind="KEYWORD")
+    if token.text.lower() in ("true", "false"):
+        return Token("KEYWORD", token.text.lower(), token.at)
+    return Token("KEYWORD", token.text.upper(), token.at) if token.text.upper() in WORDS else token
+
+
+class QueryCursor(TriplesCursor):
+    """Reads a query; `visible` gathers the variables of patterns and of GRAPH by first appearance (18.2.1)."""
+
+    NUMBER_KINDS = ("INTEGER", "DECIMAL")
+
+    def __init__(self, tokens, base):
+        super().__init__(tokens, "Q", base)
+        self.visible, self.braces, self.labels = [], 0, {}
+
+    def refuse(self):
+        """Refuses the next token, as outside the profile where it is one that SPARQL has and the profile has not."""
+        token = self.next
+        is_word = token.kind in ("WORD", "KEYWORD") and token.text.upper() in OUTSIDE_WORDS
+        is_sign = token.kind == "SIGN" and token.text in OUTSIDE_SIGNS
+        raise Refused("Q07" if is_word or is_sign or token.kind == "DOUBLE" else "Q02", token.at)
+
+    def query(self):
+        """Reads the whole query (rules 1 to 9 and 17)."""
+        while self.sees("BASE", "PREFIX"):
+            self.declaration(self.expect("BASE", "PREFIX").text == "PREFIX")
+        self.expect("SELECT")
+        is_distinct = self.takes("DISTINCT")
+        if not is_distinct:
+            self.takes("REDUCED")
+        selected = None if self.takes("*") else self.selection()
+        self.takes("WHERE")
+        group = self.group()
+        self.take("END")
+        return Query(selected, is_distinct, group, self.visible)
+
+    def selection(self):
+        """Reads the selected variables."""
+        names = [self.take("VAR").text[1:]]
+        while self.sees_kind("VAR"):
+            names.append(self.take("VAR").text[1:])
+        return names
+
+    # ---- groups (rules 53 to 68) ----
+
+    def group(self):
+        """Reads a group: blocks of triples, and other elements between them."""
+        elements = []
+        self.brace("{")
+        self.block(elements)
+        while not self.sees("}"):
+            elements.append(self.element())
+            self.takes(".")
+            self.block(elements)
+        self.brace("}")
+        return elements
+
+    def brace(self, sign):
+        """Reads a brace; for labels, a basic graph pattern is told by the last brace before it (5.1.1; docs/DECISIONS.md)."""
+        self.expect(sign)
+        self.braces += 1
+
+    def element(self):
+        """Reads OPTIONAL, GRAPH, FILTER, or groups with UNION between them."""
+        if self.takes("OPTIONAL"):
+            return OptionalElement(self.group())
+        if self.takes("GRAPH"):
+            name = self.variable() if self.sees_kind("VAR") else self.iri()
+            return GraphElement(name, self.group())
+        if self.takes("FILTER"):
+            return FilterElement(self.bracketed() if self.sees("(") else self.call())
+        groups = [self.group()]
+        while self.takes("UNION"):
+            groups.append(self.group())
+        return UnionElement(groups)
+
+    def block(self, elements):
+        """Reads triples, if there are any (rule 55)."""
+        self.triples = []
+        while self.sees_node() or self.sees("["):
+            self.triples_of_a_subject()
+            if not self.takes("."):
+                break
+        if self.triples:
+            elements.append(TriplesBlock([pattern for pattern, _ in self.triples]))
+
+    # ---- variables and terms (rules 106 to 138) ----
+
+    def sees_node(self):
+        """Whether a variable or a term comes next."""
+        return self.sees_kind("VAR", "BLANK", "STRING", *self.NUMBER_KINDS) or self.sees_iri() or self.sees("true", "false")
+
+    def subject(self):
+        """Reads a variable or a term."""
+        if self.sees_kind("VAR"):
+            return self.variable()
+        if self.sees_kind("BLANK"):
+            return self.label()
+        return self.iri() if self.sees_iri() else self.literal()
+
+    object = subject
+
+    def sees_verb(self):
+        """Whether a verb comes next."""
+        return self.sees_kind("VAR") or self.sees("a") or self.sees_iri()
+
+    def verb(self):
+        """Reads a verb."""
+        if self.takes("a"):
+            return RDF_TYPE
+        return self.variable() if self.sees_kind("VAR") else self.iri()
+
+    def variable(self):
+        """Reads a variable of a pattern or of GRAPH."""
+        name = self.take("VAR").text[1:]
+        if name not in self.visible:
+            self.visible.append(name)
+        return Var(name)
+
+    def label(self):
+        """Reads a blank node; its label in two basic graph patterns is a fault (5.1.1)."""
+        token = self.take("BLANK")
+        if self.labels.setdefault(token.text, self.braces) != self.braces:
+            self.faults.append(("Q06", token.at))
+        return Term("blank", token.text)
+
+    def literal(self):
+        """Reads a literal; one of a type that the profile does not know and a number that is too wide are faults."""
+        at = self.next.at
+        found = super().literal()
+        if found.datatype in (XSD + "double", XSD + "float"):
+            self.faults.append(("Q07", at))
+        if is_wide_number(found.text, found.datatype):
+            self.faults.append(("Q08", at))
+        return found
+
+    # ---- expressions (rules 110 to 121) ----
+
+    def bracketed(self):
+        """Reads an expression in brackets (BrackettedExpression)."""
+        self.expect("(")
+        found = self.expression()
+        self.expect(")")
+        return found
+
+    def expression(self):
+        """Reads an Expression, that is a ConditionalOrExpression."""
+        return self.chain("||", lambda: self.chain("&&", self.comparison))
+
+    def chain(self, sign, member):
+        """Reads members with a sign between them, which are joined from the left."""
+        found = member()
+        while self.takes(sign):
+            found = Call(sign, (found, member()))
+        return found
+
+    def comparison(self):
+        """Reads a RelationalExpression."""
+        left = self.unary()
+        if not self.sees(*COMPARISONS):
+            return left
+        return Call(self.expect(*COMPARISONS).text, (left, self.unary()))
+
+    def unary(self):
+        """Reads a UnaryExpression."""
+        return Call("!", (self.primary(),)) if self.takes("!") else self.primary()
+
+    def primary(self):
+        """Reads a PrimaryExpression."""
+        if self.sees("("):
+            return self.bracketed()
+        if self.sees_kind("VAR"):
+            return Var(self.take("VAR").text[1:])
+        if self.sees_iri():
+            return self.iri()
+        is_literal = self.sees_kind("STRING", *self.NUMBER_KINDS) or self.sees("true", "false")
+        return self.literal() if is_literal else self.call()
+
+    def call(self):
+        """Reads a BuiltInCall."""
+        name = self.expect("BOUND", "SAMETERM", *TESTS, *ACCESSORS).text
+        self.expect("(")
+        arguments = [Var(self.take("VAR").text[1:]) if name == "BOUND" else self.expression()]
+        if name == "SAMETERM":
+            self.expect(",")
+            arguments.append(self.expression())
+        self.expect(")")
+        return Call(name, tuple(arguments))
+
+
+def read_query(data, base):
+    """The query that a file's bytes are; refused at its first fault."""
+    tokens = [with_keyword(token) for token in cut(decoded(data, "Q01"), CLASSES + SIGNS, SKIPPED, "Q01")]
+    check_depth(tokens, "Q03")
+    cursor = QueryCursor(tokens, base)
+    query = cursor.query()
+    refuse_first(cursor.faults)
+    return query
