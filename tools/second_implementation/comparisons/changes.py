@@ -61,7 +61,7 @@ def apart(words):
     while rest:
         name, sign, value = rest.pop(0).partition("=")
         if not sign:
-            if not rest or rest[0].startswith("-"):
+            if not rest or rest[0].startswith("-") and rest[0] != "-":
                 return None
             value = rest.pop(0)
         found += [name, value]
