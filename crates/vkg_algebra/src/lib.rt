@@ -26,6 +26,3 @@ pub use selected::{each_once, selected_variables};
 pub use tabs::tabbed;
 pub use translation::translate;
 pub use visible_variables::{variables_of_patterns, visible};
-
-#[cfg(test)]
-mod tests;

@@ -30,7 +30,7 @@ use Rattle.vkg_expr.specs.declared.term_expr.TermExpr.{TermExpr}
 use Rattle.vkg_plan.specs.Kinds.{Tables}
 use Rattle.vkg_plan.specs.Rows.{rows_of, one_row}
 use Rattle.vkg_row_rules.specs.declared.row_rule.RowRule.{RowRule}
-use Rattle.vkg_row_rules.specs.RowDataset.{rule_rows, term_at, graph_at, quads_of, dataset_of}
+use Rattle.vkg_row_rules.specs.RowDataset.{rule_rows, term_at, graph_at, quads_of, all_quads, dataset_of}
 use Rattle.vkg_unfold.specs.Unfolded.{default_graph, graph_test, rule_member, not_null, names_plan, exists_plan, bgp_plan, graph_terms}
 use Rattle.vkg_unfold.specs.declared.mode.Mode.{Mode}
 use Rattle.vkg_unfold.specs.declared.mode.Mode.TheVariants.{Default, InGraph, Each}
@@ -124,14 +124,11 @@ graph_term (Some t) i e = of (term_eq t default_graph) e
     of false f = cc
 
 module _ (schema : Tables) (rules : List RowRule) (db : Database) (fine : (rule : RowRule) → Contains rules rule → (row : Row) → Contains (rule_rows schema db rule.table rule.join) row → IsFineRow rule row) where
-  abbrev quads : List Quad
-  quads = flat_map (quads_of schema db) rules
-
   -- THE NUMBERS IN THE NAMES
   pub names_narrow : (i : Term) → Contains (graph_names (dataset_of schema rules db)) i → IsNarrow (Some i)
   names_narrow i c =
       let x = from_names (dataset_of schema rules db) i (Contains-from_distinct term_eq (filter_map (λ q. q.graph) (dataset_of schema rules db)) i c) in
-      let y = Contains-from_flat_map (quads_of schema db) rules x.0 (Contains-from_distinct quad_eq quads x.0 x.1) in
+      let y = Contains-from_flat_map (quads_of schema db) rules x.0 (Contains-from_distinct quad_eq (all_quads schema rules db) x.0 x.1) in
       let z = Contains-from_flat_map (λ row. option_to_list (quad_at y.0 row)) (rule_rows schema db y.0.table y.0.join) x.0 (subst (λ l. Contains l x.0) (filter_map_is_flat_map (quad_at y.0) (rule_rows schema db y.0.table y.0.join)) y.2) in
       let e = quad_graph (graph_at y.0.graph z.0) (term_at y.0.subject z.0) (term_at y.0.predicate z.0) (term_at y.0.object z.0) x.0 (in_option (quad_at y.0 z.0) x.0 z.2) ∙ ap Some x.2 in
       of y.0.graph z.0 e (fine y.0 y.1 z.0 z.1).graph
@@ -182,24 +179,24 @@ module _ (schema : Tables) (rules : List RowRule) (db : Database) (fine : (rule 
             ∙ ap (λ b. is_some (term_at rule.subject row) && (is_some (term_at rule.predicate row) && (is_some (term_at rule.object row) && b))) (passes row k (Some test) e))
             ∙ sym (piece row))
 
-    exists_member : some_there (filter in_it quads) ≡ list_any (term_eq (Iri i)) (graph_names (dataset_of schema rules db))
-    exists_member = same_truth (some_there (filter in_it quads)) (list_any (term_eq (Iri i)) (graph_names (dataset_of schema rules db)))
+    exists_member : some_there (filter in_it (all_quads schema rules db)) ≡ list_any (term_eq (Iri i)) (graph_names (dataset_of schema rules db))
+    exists_member = same_truth (some_there (filter in_it (all_quads schema rules db))) (list_any (term_eq (Iri i)) (graph_names (dataset_of schema rules db)))
         (λ h.
-        let x = there_some (filter in_it quads) h in
-        let y = Contains-from_filter in_it quads x.0 x.1 in
+        let x = there_some (filter in_it (all_quads schema rules db)) h in
+        let y = Contains-from_filter in_it (all_quads schema rules db) x.0 x.1 in
         (Decides-list_any terms_apart (graph_names (dataset_of schema rules db)) (Iri i)).1
-        (Contains-distinct terms_apart (filter_map (λ q. q.graph) (dataset_of schema rules db)) (Iri i) (to_names (dataset_of schema rules db) (Iri i) x.0 (Contains-distinct quads_apart quads x.0 y.0) (graph_same x.0.graph (Some (Iri i)) y.1))))
+        (Contains-distinct terms_apart (filter_map (λ q. q.graph) (dataset_of schema rules db)) (Iri i) (to_names (dataset_of schema rules db) (Iri i) x.0 (Contains-distinct quads_apart (all_quads schema rules db) x.0 y.0) (graph_same x.0.graph (Some (Iri i)) y.1))))
         (λ h.
         let c = (Decides-list_any terms_apart (graph_names (dataset_of schema rules db)) (Iri i)).0 h in
         let x = from_names (dataset_of schema rules db) (Iri i) (Contains-from_distinct term_eq (filter_map (λ q. q.graph) (dataset_of schema rules db)) (Iri i) c) in
-        some_from (filter in_it quads) x.0 (Contains-filter in_it quads x.0 (Contains-from_distinct quad_eq quads x.0 x.1) (ap (λ g. graph_eq g (Some (Iri i))) x.2 ∙ eq_itself terms_apart (Iri i))))
+        some_from (filter in_it (all_quads schema rules db)) x.0 (Contains-filter in_it (all_quads schema rules db) x.0 (Contains-from_distinct quad_eq (all_quads schema rules db) x.0 x.1) (ap (λ g. graph_eq g (Some (Iri i))) x.2 ∙ eq_itself terms_apart (Iri i))))
 
     pub exists_are : rows_of schema (exists_plan schema rules i) db ≡ (if list_any (term_eq (Iri i)) (graph_names (dataset_of schema rules db)) then [] ∷ [] else [])
     exists_are =
         union_rows schema db 0 (λ rule. rule_member schema rule [] [] (graph_test (InGraph i) rule.graph)) rules
         ∙ ap (distinct one_row) (flat_map_agree_on (λ rule. rows_or_none schema db (rule_member schema rule [] [] (graph_test (InGraph i) rule.graph))) (λ rule. map empty_row (filter in_it (quads_of schema db rule))) rules exists_rule
         ∙ sym (map-flat_map empty_row (λ rule. filter in_it (quads_of schema db rule)) rules) ∙ ap (map empty_row) (sym (filter-flat_map in_it (quads_of schema db) rules)))
-        ∙ one_empty (filter in_it quads)
+        ∙ one_empty (filter in_it (all_quads schema rules db))
         ∙ ap (λ b. if b then [] ∷ [] else no_row) exists_member
 
 -- THE EMPTY PATTERN

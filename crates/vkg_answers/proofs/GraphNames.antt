@@ -28,7 +28,7 @@ use Rattle.vkg_plan.specs.Kinds.{Tables}
 use Rattle.vkg_plan.specs.Rows.{rows_of, one_row}
 use Rattle.vkg_match.specs.Verdict.{Verdict, Never, All, verdict_of}
 use Rattle.vkg_row_rules.specs.declared.row_rule.RowRule.{RowRule}
-use Rattle.vkg_row_rules.specs.RowDataset.{rule_rows, term_at, graph_at, quads_of, dataset_of}
+use Rattle.vkg_row_rules.specs.RowDataset.{rule_rows, term_at, graph_at, quads_of, all_quads, dataset_of}
 use Rattle.vkg_unfold.specs.Unfolded.{default_graph, graph_test, unless_never, rule_member, graph_exprs, not_null, names_plan, graph_terms}
 use Rattle.vkg_unfold.specs.declared.mode.Mode.TheVariants.{Each}
 use Rattle.vkg_unfold.specs.FineRows.{NeverDefault, IsFineRow}
@@ -95,16 +95,13 @@ test_is e row Never = refl
 test_is e row (All es) = ap (λ b. b && true) (not_same_const_is e default_graph row)
 
 module _ (schema : Tables) (rules : List RowRule) (db : Database) (fine : (rule : RowRule) → Contains rules rule → (row : Row) → Contains (rule_rows schema db rule.table rule.join) row → IsFineRow rule row) where
-  abbrev quads : List Quad
-  quads = flat_map (quads_of schema db) rules
-
   -- the names of a rule's quads
   abbrev names_of : RowRule → List Term
   names_of rule = flat_map (λ row. names_at (quad_at rule row)) (rule_rows schema db rule.table rule.join)
 
-  all_names : filter_map (λ q. q.graph) quads ≡ flat_map names_of rules
+  all_names : filter_map (λ q. q.graph) (all_quads schema rules db) ≡ flat_map names_of rules
   all_names =
-      filter_map_is_flat_map (λ q. q.graph) quads
+      filter_map_is_flat_map (λ q. q.graph) (all_quads schema rules db)
       ∙ flat_map-flat_map (λ q. option_to_list q.graph) (quads_of schema db) rules
       ∙ flat_map_agree_on (λ rule. flat_map (λ q. option_to_list q.graph) (quads_of schema db rule)) names_of rules (λ rule c.
       ap (flat_map (λ q. option_to_list q.graph)) (filter_map_is_flat_map (quad_at rule) (rule_rows schema db rule.table rule.join))
@@ -150,10 +147,10 @@ module _ (schema : Tables) (rules : List RowRule) (db : Database) (fine : (rule 
       (union_rows schema db 1 (λ rule. rule_member schema rule (graph_exprs rule) [] (graph_test Each rule.graph)) rules
       ∙ ap (distinct one_row) (flat_map_agree_on (λ rule. rows_or_none schema db (rule_member schema rule (graph_exprs rule) [] (graph_test Each rule.graph))) (λ rule. map name_row (names_of rule)) rules names_rule
       ∙ sym (map-flat_map name_row names_of rules) ∙ ap (map name_row) (sym all_names))
-      ∙ distinct-map term_eq one_row name_row (λ x y. and-true (term_eq x y)) (filter_map (λ q. q.graph) quads)))
+      ∙ distinct-map term_eq one_row name_row (λ x y. and-true (term_eq x y)) (filter_map (λ q. q.graph) (all_quads schema rules db))))
       (bag_map name_row (bag_distinct_members terms_apart same_names))
     where
-      same_names : HasSameMembers (filter_map (λ q. q.graph) quads) (filter_map (λ q. q.graph) (dataset_of schema rules db))
-      same_names = subst (λ xs. HasSameMembers xs (filter_map (λ q. q.graph) (dataset_of schema rules db))) (sym (filter_map_is_flat_map (λ q. q.graph) quads))
-          (subst (HasSameMembers (flat_map (λ q. option_to_list q.graph) quads)) (sym (filter_map_is_flat_map (λ q. q.graph) (dataset_of schema rules db)))
-          (members_flat_map (λ q. option_to_list q.graph) (λ q. option_to_list q.graph) (HasSameMembers-distinct quads_apart quads) (λ q. members_refl)))
+      same_names : HasSameMembers (filter_map (λ q. q.graph) (all_quads schema rules db)) (filter_map (λ q. q.graph) (dataset_of schema rules db))
+      same_names = subst (λ xs. HasSameMembers xs (filter_map (λ q. q.graph) (dataset_of schema rules db))) (sym (filter_map_is_flat_map (λ q. q.graph) (all_quads schema rules db)))
+          (subst (HasSameMembers (flat_map (λ q. option_to_list q.graph) (all_quads schema rules db))) (sym (filter_map_is_flat_map (λ q. q.graph) (dataset_of schema rules db)))
+          (members_flat_map (λ q. option_to_list q.graph) (λ q. option_to_list q.graph) (HasSameMembers-distinct quads_apart (all_quads schema rules db)) (λ q. members_refl)))

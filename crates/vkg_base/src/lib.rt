@@ -39,6 +39,3 @@ pub use sink::{Failed, Sink, WriteFault};
 pub use status::Status;
 pub use store::{LoadFault, Store};
 pub use text::Text;
-
-#[cfg(test)]
-mod tests;

@@ -32,6 +32,3 @@ pub use stops::{Fault, Stop, Usage};
 pub use top::vkg;
 pub use vkg_rewrite::{result_lines, rewrite};
 pub use words::{Command, DumpOptions, QueryOptions, Request, SqlOptions, read_request};
-
-#[cfg(test)]
-mod tests;

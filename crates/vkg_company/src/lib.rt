@@ -10,8 +10,6 @@ mod count;
 mod generating;
 mod rows;
 mod schema;
-#[cfg(test)]
-mod tests;
 
 pub use count::count_of;
 pub use generating::generate;

@@ -13,7 +13,7 @@ use Rattle.vkg_cells.specs.declared.cell.Cell.TheVariants as cell
 use Rattle.vkg_cells.specs.Field.{cell_of_field}
 use Rattle.vkg_cells.specs.Moment.{day_of_text, clock_of_text}
 use Rattle.vkg_schema.specs.declared.table.Table.{Table}
-use Rattle.vkg_schema.specs.Company.{company, dept}
+use Rattle.vkg_schema.specs.Company.{base, company, dept}
 use Rattle.vkg_schema.specs.Rows.{Database, equal_at, is_known}
 use Rattle.vkg_schema.specs.Meets.{MeetsSchema, FitsColumn, IsWellFormed}
 use Rattle.vkg_maps.specs.DataFaults.{data_faults}
@@ -21,7 +21,7 @@ use Rattle.vkg_maps.specs.Dataset.{quads}
 use Rattle.vkg_direct.specs.declared.direct_error.DirectError.TheVariants.{NoPrimaryKey}
 use Rattle.vkg_direct.specs.DirectGraph.{direct_graph}
 use Rattle.vkg_direct.specs.DirectMapping.{direct, direct_result}
-use Rattle.vkg_maps.proofs.Company.{text, db, base, i_text, a_text}
+use Rattle.vkg_maps.proofs.Company.{text, db, i_text, a_text}
 
 -- what the examples compute with
 unfoldable opened : Unit {0}

@@ -12,8 +12,6 @@ mod iris;
 pub mod laws;
 mod mapping;
 mod rule_limit;
-#[cfg(test)]
-mod tests;
 mod triples_map;
 
 pub use direct_error::DirectError;

@@ -19,6 +19,3 @@ mod running;
 
 pub use rows::Rows;
 pub use running::run;
-
-#[cfg(test)]
-mod tests;

@@ -25,6 +25,3 @@ pub use row::Row;
 pub use strict::nulls_on_null;
 pub use term_expr::{Piece, Sort, TermExpr};
 pub use typing::{typed, typed_each};
-
-#[cfg(test)]
-mod tests;

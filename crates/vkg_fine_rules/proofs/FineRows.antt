@@ -1,5 +1,5 @@
 -- Each row of each rule of a mapping is fine.
-use Rattle.std.proofs.Common.{◌≡◌, ℕ, List, [], ◌++◌, length, sym, subst}
+use Rattle.std.proofs.Common.{◌≡◌, ℕ, [], ◌++◌, length, sym, subst}
 use Rattle.std.specs.Prelude.{Option, Some, None, option_map, Contains}
 use Rattle.vkg_lists.proofs.Members.{Contains-from_map, each_from_recursion}
 use Rattle.vkg_schema.specs.Meets.{IsWellFormed, MeetsSchema}
@@ -27,37 +27,34 @@ use Rattle.vkg_fine_rules.proofs.Narrow.{narrow_term}
 use Rattle.vkg_fine_rules.proofs.Never.{never_default}
 
 module _ (schema : Tables) (mapping : Mapping) (db : Database) (well : IsWellFormed schema) (within : IsWithin schema mapping) (texts : HoldTexts (row_rules schema mapping)) (meets : MeetsSchema schema db) (faultless : data_faults mapping db ≡ []) where
-  abbrev base : List ℕ
-  base = mapping.base
-
-  narrow_graph : (table : ℕ) (g : Option TermMap) (row child : Row) → OfGraph (IsFine base schema db table) g → GraphIs base schema db (kinds_at schema table) g row child → IsNarrowGraph (option_map (row_term base (kinds_at schema table)) g) row
+  narrow_graph : (table : ℕ) (g : Option TermMap) (row child : Row) → OfGraph (IsFine mapping.base schema db table) g → GraphIs mapping.base schema db (kinds_at schema table) g row child → IsNarrowGraph (option_map (row_term mapping.base (kinds_at schema table)) g) row
   narrow_graph table None row child h e = tt
-  narrow_graph table (Some g) row child h e = subst IsNarrow (sym e) (narrow_term base g child h.over.narrow)
+  narrow_graph table (Some g) row child h e = subst IsNarrow (sym e) (narrow_term mapping.base g child h.over.narrow)
 
-  never : (table : ℕ) (g : Option TermMap) (child more : Row) → length (kinds_at schema table) ≡ length child → FitsKinds (kinds_at schema table) child → OfGraph (IsFine base schema db table) g →
-      GraphHoldsTexts (option_map (row_term base (kinds_at schema table)) g) → NeverDefault (option_map (row_term base (kinds_at schema table)) g) (child ++ more)
+  never : (table : ℕ) (g : Option TermMap) (child more : Row) → length (kinds_at schema table) ≡ length child → FitsKinds (kinds_at schema table) child → OfGraph (IsFine mapping.base schema db table) g →
+      GraphHoldsTexts (option_map (row_term mapping.base (kinds_at schema table)) g) → NeverDefault (option_map (row_term mapping.base (kinds_at schema table)) g) (child ++ more)
   never table None child more w f h t = tt
   never table (Some g) child more w f h t =
       let ks = kinds_at schema table in
-      never_default (row_term base ks g) t (child ++ more) (fits_holes ks child more w f base g h.over)
+      never_default (row_term mapping.base ks g) t (child ++ more) (fits_holes ks child more w f mapping.base g h.over)
 
-  fine : (q : QuadRule) → Contains (quad_rules mapping) q → RuleHoldsTexts (row_rule base schema q) → (row : Row) → Contains (rule_rows schema db q.table q.join) row → IsFineRow (row_rule base schema q) row
+  fine : (q : QuadRule) → Contains (quad_rules mapping) q → RuleHoldsTexts (row_rule mapping.base schema q) → (row : Row) → Contains (rule_rows schema db q.table q.join) row → IsFineRow (row_rule mapping.base schema q) row
   fine q c t row r =
       let sound = rule_sound schema mapping db within meets faultless q c in
-      let p = row_parts base schema db q sound row r in
+      let p = row_parts mapping.base schema db q sound row r in
       record {
-        subject = subst IsNarrow (sym p.subject) (narrow_term base q.subject p.child sound.terms.subject.over.narrow);
-        predicate = subst IsNarrow (sym p.predicate) (narrow_term base q.predicate p.child sound.terms.predicate.over.narrow);
-        object = subst IsNarrow (sym p.object) (narrow_term base q.object p.other sound.terms.object.over.narrow);
+        subject = subst IsNarrow (sym p.subject) (narrow_term mapping.base q.subject p.child sound.terms.subject.over.narrow);
+        predicate = subst IsNarrow (sym p.predicate) (narrow_term mapping.base q.predicate p.child sound.terms.predicate.over.narrow);
+        object = subst IsNarrow (sym p.object) (narrow_term mapping.base q.object p.other sound.terms.object.over.narrow);
         graph = narrow_graph q.table q.graph row p.child sound.terms.graph p.graph;
-        never = subst (NeverDefault (option_map (row_term base (kinds_at schema q.table)) q.graph)) (sym p.whole)
+        never = subst (NeverDefault (option_map (row_term mapping.base (kinds_at schema q.table)) q.graph)) (sym p.whole)
             (never q.table q.graph p.child p.behind_child (sound.width p.child p.of_child) (fits_rows schema db well meets q.table p.child p.of_child) sound.terms.graph t.graph);
       }
 
   all_fine : Meets schema (row_rules schema mapping) db
   all_fine rule c row r =
-      let q = Contains-from_map (row_rule base schema) (quad_rules mapping) rule c in
-      let t : RuleHoldsTexts (row_rule base schema q.0) = each_from_recursion RuleHoldsTexts (row_rules schema mapping) texts (row_rule base schema q.0) (subst (Contains (row_rules schema mapping)) (sym q.2) c) in
+      let q = Contains-from_map (row_rule mapping.base schema) (quad_rules mapping) rule c in
+      let t : RuleHoldsTexts (row_rule mapping.base schema q.0) = each_from_recursion RuleHoldsTexts (row_rules schema mapping) texts (row_rule mapping.base schema q.0) (subst (Contains (row_rules schema mapping)) (sym q.2) c) in
       subst (λ (x : RowRule). IsFineRow x row) q.2 (fine q.0 q.1 t row (subst (λ (x : RowRule). Contains (rule_rows schema db x.table x.join) row) (sym q.2) r))
 
 pub has_fine_rows : (schema : Tables) (mapping : Mapping) (db : Database) → HasFineRows schema mapping db

@@ -131,9 +131,6 @@ conditions_fit ks ls [] h = tt
 conditions_fit ks ls (c ∷ cs) h = (condition_fits ks ls c h.0, conditions_fit ks ls cs h.1)
 
 module _ (schema : Tables) (mapping : Mapping) (well : IsWellFormed schema) (within : IsWithin schema mapping) where
-  abbrev base : List ℕ
-  base = mapping.base
-
   abbrev Over : ℕ → TermMap → Type 0
   Over table t = IsOver (kinds_at schema table) t
 
@@ -144,25 +141,25 @@ module _ (schema : Tables) (mapping : Mapping) (well : IsWellFormed schema) (wit
   join_fits table None h = tt
   join_fits table (Some join) h = (table_there schema join.table h.0, conditions_fit (kinds_at schema table) (kinds_at schema join.table) join.conditions h.1)
 
-  object_fits : (table : ℕ) (join : Option Join) (t : TermMap) → Over (object_table table join) t → FitsTerm (rule_kinds schema table join) (object_term base schema (kinds_at schema table) join t)
-  object_fits table None t h = term_fits (kinds_at schema table) (none table) base t h
-  object_fits table (Some join) t h = term_behind (kinds_at schema table) (kinds_at schema join.table) (row_term base (kinds_at schema join.table) t) (term_fits (kinds_at schema join.table) (none join.table) base t h)
+  object_fits : (table : ℕ) (join : Option Join) (t : TermMap) → Over (object_table table join) t → FitsTerm (rule_kinds schema table join) (object_term mapping.base schema (kinds_at schema table) join t)
+  object_fits table None t h = term_fits (kinds_at schema table) (none table) mapping.base t h
+  object_fits table (Some join) t h = term_behind (kinds_at schema table) (kinds_at schema join.table) (row_term mapping.base (kinds_at schema join.table) t) (term_fits (kinds_at schema join.table) (none join.table) mapping.base t h)
 
-  rule_fits : (q : QuadRule) → OfRule Over schema q → IsFitting schema (row_rule base schema q)
+  rule_fits : (q : QuadRule) → OfRule Over schema q → IsFitting schema (row_rule mapping.base schema q)
   rule_fits q h = record {
     table = table_there schema q.table h.table;
     join = join_fits q.table q.join h.joined;
-    subject = term_fits (kinds_at schema q.table) (none q.table) base q.subject h.subject;
-    predicate = term_fits (kinds_at schema q.table) (none q.table) base q.predicate h.predicate;
+    subject = term_fits (kinds_at schema q.table) (none q.table) mapping.base q.subject h.subject;
+    predicate = term_fits (kinds_at schema q.table) (none q.table) mapping.base q.predicate h.predicate;
     object = object_fits q.table q.join q.object h.object;
-    graph = graph_fits (kinds_at schema q.table) (none q.table) base q.graph h.graph;
+    graph = graph_fits (kinds_at schema q.table) (none q.table) mapping.base q.graph h.graph;
   }
 
   all_fit : AreFitting schema (row_rules schema mapping)
   all_fit = recursion_from_each (IsFitting schema) (row_rules schema mapping) each
     where
       each : (rule : RowRule) → Contains (row_rules schema mapping) rule → IsFitting schema rule
-      each rule c = let q = Contains-from_map (row_rule base schema) (quad_rules mapping) rule c in subst (IsFitting schema) q.2 (rule_fits q.0 (rules_within schema mapping within q.0 q.1))
+      each rule c = let q = Contains-from_map (row_rule mapping.base schema) (quad_rules mapping) rule c in subst (IsFitting schema) q.2 (rule_fits q.0 (rules_within schema mapping within q.0 q.1))
 
 pub has_fitting_rules : (schema : Tables) (mapping : Mapping) → HasFittingRules schema mapping
 has_fitting_rules schema mapping well within = all_fit schema mapping well within

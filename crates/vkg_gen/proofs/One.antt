@@ -6,7 +6,8 @@ use Rattle.vkg_sparql.specs.declared.query.Query.{Query}
 use Rattle.vkg_sparql.specs.Reading.{IsQuery}
 use Rattle.vkg_sparql.specs.Seen.{query_seen}
 use Rattle.vkg_algebra.specs.Answer.{answer}
-use Rattle.vkg_gen.specs.Report.{CountsSolutions, IsDetermined, base, company_dataset, counted_line}
+use Rattle.vkg_schema.specs.Company.{base}
+use Rattle.vkg_gen.specs.Report.{CountsSolutions, IsDetermined, company_dataset, counted_line}
 use Rattle.vkg_gen.proofs.ThreeQueries.{depts_same, distinct_same, names_same}
 
 same_count : (text : List ℕ) (quads : List Quad) (m n : ℕ) → ((q r : Query) → IsQuery text base q → IsQuery text base r → q ≡ r) → CountsSolutions text quads m → CountsSolutions text quads n → m ≡ n

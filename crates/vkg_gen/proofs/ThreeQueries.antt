@@ -22,7 +22,8 @@ use Rattle.vkg_sparql.specs.Checks.{fails}
 use Rattle.vkg_sparql.specs.Literals.{meaning_of}
 use Rattle.vkg_sparql.specs.Reading.{IsQuery, fault_of, query_of, read, sparql, sparql_tokens}
 use Rattle.vkg_company.proofs.Derivation.{derives, found, notes_or, tokens_or}
-use Rattle.vkg_gen.specs.Report.{base, names_text, distinct_text, depts_text}
+use Rattle.vkg_schema.specs.Company.{base}
+use Rattle.vkg_gen.specs.Report.{names_text, distinct_text, depts_text}
 use Rattle.vkg_gen.specs.Readable.{IsFaultless}
 use Rattle.vkg_gen.proofs.QueryTexts.{no_query_fault, one_query, shallow, tree_found}
 

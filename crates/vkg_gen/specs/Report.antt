@@ -9,11 +9,8 @@ use Rattle.vkg_sparql.specs.declared.query.Query.{Query}
 use Rattle.vkg_sparql.specs.Reading.{IsQuery}
 use Rattle.vkg_sparql.specs.Seen.{query_seen}
 use Rattle.vkg_algebra.specs.Answer.{answer}
-use Rattle.vkg_schema.specs.Company.{company}
+use Rattle.vkg_schema.specs.Company.{base, company}
 use Rattle.vkg_company.specs.Company.{company_rows}
-
-abbrev pub base : List ℕ
-base = codes "http://e/"
 
 -- the names of all employees
 abbrev pub names_text : List ℕ

@@ -10,8 +10,6 @@
 mod counts;
 mod laws;
 mod lines;
-#[cfg(test)]
-mod tests;
 
 pub use laws::is_determined;
 pub use lines::report;

@@ -30,6 +30,3 @@ pub use note::{Act, Note, role_in};
 pub use parsing::{ParseFault, parse, start_of};
 pub use rule::Rule;
 pub use tree::{Parsed, parse_tree};
-
-#[cfg(test)]
-mod tests;

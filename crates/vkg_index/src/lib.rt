@@ -12,6 +12,3 @@ mod keys;
 
 pub use index::grouped;
 pub use keys::{key_of, text_of_row};
-
-#[cfg(test)]
-mod tests;

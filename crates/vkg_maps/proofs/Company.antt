@@ -21,9 +21,6 @@ emp_rows = (int (codes "7") ∷ text (codes "Ann") ∷ int (codes "1") ∷ [])
 abbrev pub db : Database
 db = dept_rows ∷ emp_rows ∷ []
 
-abbrev pub base : List ℕ
-base = codes "http://e/"
-
 -- the IRIs of N-Quads lines that stand in them
 abbrev pub i_text : List ℕ
 i_text = codes "<http://www.w3.org/2001/XMLSchema#integer>"

@@ -21,6 +21,3 @@ pub use answer::Verdict;
 pub use breaks::separable;
 pub use exprs::pieces_expr;
 pub use terms::verdict;
-
-#[cfg(test)]
-mod tests;

@@ -33,6 +33,3 @@ pub use lines::solution_lines;
 pub use quad::Quad;
 pub use reader::{ReadFault, read_quads};
 pub use solution::Solution;
-
-#[cfg(test)]
-mod tests;

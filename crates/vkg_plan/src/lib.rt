@@ -16,6 +16,3 @@ pub use checked::CheckedPlan;
 pub use columns::column_kinds;
 pub use kinds::{plan_kinds, well_typed};
 pub use plan::{Plan, copy_plan_box, copy_plans};
-
-#[cfg(test)]
-mod tests;

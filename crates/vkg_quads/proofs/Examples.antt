@@ -7,6 +7,7 @@ use Rattle.vkg_terms.specs.declared.term.Term.TheVariants.{Iri}
 use Rattle.vkg_terms.specs.declared.term.Annotation.TheVariants.{Plain, Typed}
 use Rattle.vkg_terms.specs.Vocabulary.{xsd}
 use Rattle.vkg_cells.specs.declared.cell.Cell.TheVariants as cell
+use Rattle.vkg_schema.specs.Company.{base}
 use Rattle.vkg_schema.specs.Rows.{equal_at, is_known}
 use Rattle.vkg_maps.specs.declared.mapping.Mapping.{Mapping}
 use Rattle.vkg_maps.specs.declared.mapping.PredicateObjectMap.{PredicateObjectMap}
@@ -20,7 +21,7 @@ use Rattle.vkg_maps.specs.declared.data_fault.TermFault.TheVariants.{NotIri, Ill
 use Rattle.vkg_maps.specs.DataFaults.{least_data_fault}
 use Rattle.vkg_maps.specs.Dataset.{dataset}
 use Rattle.vkg_quads.specs.Dump.{dump}
-use Rattle.vkg_maps.proofs.Company.{int, text, db, base, i_text, a_text}
+use Rattle.vkg_maps.proofs.Company.{int, text, db, i_text, a_text}
 
 -- what the examples compute with
 unfoldable opened : Unit {0}

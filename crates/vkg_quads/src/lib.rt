@@ -18,6 +18,3 @@ pub use dump::dump_lines;
 pub use made::{Made, made_term};
 pub use rule_list::rules;
 pub use scan::scan_data;
-
-#[cfg(test)]
-mod tests;

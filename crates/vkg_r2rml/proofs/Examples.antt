@@ -8,6 +8,7 @@ use Rattle.vkg_cells.specs.declared.cell.SqlType.TheVariants as kind
 use Rattle.vkg_turtle.specs.declared.triple.Triple.{Triple}
 use Rattle.vkg_schema.specs.declared.table.Table.{Table}
 use Rattle.vkg_schema.specs.declared.table.Column.{Column}
+use Rattle.vkg_schema.specs.Company.{base}
 use Rattle.vkg_maps.specs.declared.mapping.TriplesMap.{TriplesMap}
 use Rattle.vkg_maps.specs.declared.mapping.ObjectMap.TheVariants as object
 use Rattle.vkg_maps.specs.declared.term_map.TermMap.{TermMap}
@@ -28,14 +29,8 @@ schema =
     table (codes "dept") (column (codes "id") kind.Int ∷ column (codes "title") kind.Text ∷ [])
     ∷ table (codes "emp") (column (codes "id") kind.Int ∷ column (codes "name") kind.Text ∷ column (codes "dept") kind.Int ∷ []) ∷ []
 
-abbrev base : List ℕ
-base = codes "http://e/"
-
 abbrev node : List ℕ → Term
 node label = Blank label
-
-abbrev plain : List ℕ → Term
-plain text = Lit text Plain
 
 abbrev is : Term → List ℕ → Term → Triple
 is s p o = record { subject = s; predicate = Iri (rr p); object = o; at = 0 }
@@ -44,9 +39,9 @@ is s p o = record { subject = s; predicate = Iri (rr p); object = o; at = 0 }
 abbrev map_over : List ℕ → List ℕ → List ℕ → List Triple
 map_over m name template =
     is (node m) (codes "logicalTable") (node (m ++ codes "t"))
-    ∷ is (node (m ++ codes "t")) (codes "tableName") (plain name)
+    ∷ is (node (m ++ codes "t")) (codes "tableName") (Lit name Plain)
     ∷ is (node m) (codes "subjectMap") (node (m ++ codes "s"))
-    ∷ is (node (m ++ codes "s")) (codes "template") (plain template) ∷ []
+    ∷ is (node (m ++ codes "s")) (codes "template") (Lit template Plain) ∷ []
 
 -- map 1 over emp, whose objects are the subjects of map 2 over dept
 abbrev graph : List Triple → List Triple
@@ -60,8 +55,8 @@ graph conditions =
 abbrev condition : List ℕ → List ℕ → List Triple
 condition child parent =
     is (node (codes "o")) (codes "joinCondition") (node (codes "j"))
-    ∷ is (node (codes "j")) (codes "child") (plain child)
-    ∷ is (node (codes "j")) (codes "parent") (plain parent) ∷ []
+    ∷ is (node (codes "j")) (codes "child") (Lit child Plain)
+    ∷ is (node (codes "j")) (codes "parent") (Lit parent Plain) ∷ []
 
 abbrev subject : List ℕ → TermMap
 subject text = from.Template (Fixed text ∷ Hole 0 ∷ []) sort.Iri

@@ -24,8 +24,6 @@ mod referencing_map;
 mod rule_limit;
 mod subject_map;
 mod term_maps;
-#[cfg(test)]
-mod tests;
 mod triples_map;
 mod vocabulary;
 

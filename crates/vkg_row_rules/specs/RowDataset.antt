@@ -39,6 +39,10 @@ quads_of schema db rule =
     filter_map (λ row. quad_from (term_at rule.subject row) (term_at rule.predicate row) (term_at rule.object row) (graph_at rule.graph row))
     (rule_rows schema db rule.table rule.join)
 
+-- the quads of all rules, one after another
+abbrev pub all_quads : Tables → List RowRule → Database → List Quad
+all_quads schema rules db = flat_map (quads_of schema db) rules
+
 -- the set of the quads of all rules
 abbrev pub dataset_of : Tables → List RowRule → Database → List Quad
-dataset_of schema rules db = distinct quad_eq (flat_map (quads_of schema db) rules)
+dataset_of schema rules db = distinct quad_eq (all_quads schema rules db)

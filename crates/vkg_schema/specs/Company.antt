@@ -1,5 +1,5 @@
 -- The schema of the example company: departments, and employees who may have one.
-use Rattle.std.specs.Prelude.{true, false, List, [], ◌∷◌, codes}
+use Rattle.std.specs.Prelude.{ℕ, true, false, List, [], ◌∷◌, codes}
 use Rattle.vkg_cells.specs.declared.cell.SqlType.TheVariants as kind
 use Rattle.vkg_schema.specs.declared.table.Table.{Table}
 use Rattle.vkg_schema.specs.declared.table.Column.{Column}
@@ -33,3 +33,7 @@ emp = record {
 -- the schema
 abbrev pub company : List Table
 company = dept ∷ emp ∷ []
+
+-- the base IRI of its examples, and of the report that is generated of such a company
+abbrev pub base : List ℕ
+base = codes "http://e/"

@@ -40,6 +40,3 @@ pub use names::{Named, Names};
 pub use pattern::{GraphName, Node, TriplePattern, copy_patterns};
 pub use query::{Part, Query, Selected};
 pub use reading::{is_determined, read_query};
-
-#[cfg(test)]
-mod tests;

@@ -16,6 +16,3 @@ mod nodes;
 mod plan_texts;
 
 pub use plan_texts::sql_text;
-
-#[cfg(test)]
-mod tests;

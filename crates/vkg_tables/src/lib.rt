@@ -16,8 +16,6 @@ mod header;
 mod keys;
 mod load;
 mod records;
-#[cfg(test)]
-mod tests;
 
 pub use database::Database;
 pub use fault::{TableError, TableFault};

@@ -26,6 +26,3 @@ pub use error::{TermMapError, TermMapFault};
 pub use graph::Graph;
 pub use place::{Place, Role};
 pub use reading::read_term_map;
-
-#[cfg(test)]
-mod tests;

@@ -27,6 +27,3 @@ pub use prefixes::Prefixes;
 pub use reading::{TurtleError, TurtleFault, is_determined, read_turtle};
 pub use role::Role;
 pub use triple::Triple;
-
-#[cfg(test)]
-mod tests;

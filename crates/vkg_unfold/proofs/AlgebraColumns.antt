@@ -143,16 +143,13 @@ graph_place Each p ps = (
 
 wanted_places : (mode : Mode) (p : TriplePattern) (ps : List TriplePattern) → AllByRecursion (HasPlace (flat_map (pattern_names mode) (p ∷ ps))) (map Some (visible (Bgp (p ∷ ps))) ++ if_each mode None)
 wanted_places mode p ps =
-    All-append (HasPlace names) (map Some vs) (if_each mode None)
-    (All-map (λ v. Contains names (Some v)) (HasPlace names) Some (λ v k. name_place names (Some v) k) vs
-    (recursion_from_each (λ v. Contains names (Some v)) vs (λ v c. bgp_named mode (p ∷ ps) v (Contains-from_distinct nat_eq (flat_map pattern_variables (p ∷ ps)) v c))))
+    All-append (HasPlace names) (map Some (visible (Bgp (p ∷ ps)))) (if_each mode None)
+    (All-map (λ v. Contains names (Some v)) (HasPlace names) Some (λ v k. name_place names (Some v) k) (visible (Bgp (p ∷ ps)))
+    (recursion_from_each (λ v. Contains names (Some v)) (visible (Bgp (p ∷ ps))) (λ v c. bgp_named mode (p ∷ ps) v (Contains-from_distinct nat_eq (flat_map pattern_variables (p ∷ ps)) v c))))
     (graph_place mode p ps)
   where
     names : List Name
     names = flat_map (pattern_names mode) (p ∷ ps)
-
-    vs : List ℕ
-    vs = visible (Bgp (p ∷ ps))
 
 wanted_length : (mode : Mode) (vs : List ℕ) → length (map Some vs ++ if_each {X = Name} mode None) ≡ columns_in mode vs
 wanted_length Default vs = ap length (append-nil (map Some vs)) ∙ length-map vs Some

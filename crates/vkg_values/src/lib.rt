@@ -21,6 +21,3 @@ pub use logic::{conjunction, disjunction, negation};
 pub use operator::{Compare, Take, Test};
 pub use term_tests::{take_of, test_of};
 pub use truth::effective_truth;
-
-#[cfg(test)]
-mod tests;

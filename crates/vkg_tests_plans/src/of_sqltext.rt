@@ -1,0 +1,183 @@
+use crate::made::{Made, MadeExpr, iri_of, left, null_test, same, scans, select, text};
+use std::alloc::Global;
+use std::test::Fail;
+use vkg_base::{Box, Items, Memory, Text};
+use vkg_cells::{Cell, SqlType};
+use vkg_expr::{Expr, Operator};
+use vkg_plan::{CheckedPlan, Plan, well_typed};
+use vkg_schema::{Schema, read_schema};
+use vkg_sqltext::sql_text;
+use vkg_terms::{Annotation, Term};
+use vkg_values::Compare;
+
+const COMPANY: &str =
+    "CREATE TABLE dept (id INTEGER PRIMARY KEY, title VARCHAR(20)); CREATE TABLE emp (id INTEGER PRIMARY KEY, name VARCHAR(20), dept INTEGER REFERENCES dept); CREATE TABLE \"a\"\"b\" (id INTEGER);";
+
+fn term(alloc: Global, iri: &str) -> MadeExpr {
+    Ok(Expr::Const(Cell::Term(Term::Iri(Text::new(alloc, iri)?)), SqlType::Term))
+}
+
+fn lit(alloc: Global, annotation: Result<Annotation, Memory>) -> MadeExpr {
+    let e = Box::new(alloc, Expr::Col(1))?;
+    Ok(Expr::MakeLit(e, annotation?))
+}
+
+fn tagged(alloc: Global, tag: &str) -> Result<Annotation, Memory> {
+    Ok(Annotation::Lang(Text::new(alloc, tag)?))
+}
+
+fn of_datatype(alloc: Global, iri: &str) -> Result<Annotation, Memory> {
+    Ok(Annotation::typed(Text::new(alloc, iri)?))
+}
+
+fn not_null(alloc: Global, at: usize) -> MadeExpr {
+    let inner = null_test(alloc, at)?;
+    Ok(Expr::Not(Box::new(alloc, inner)?))
+}
+
+fn columns(alloc: Global, count: usize) -> Result<Items<Expr>, Memory> {
+    let mut columns = Items::new(alloc);
+    for i in 0..count {
+        columns.push(Expr::Col(i))?;
+    }
+    Ok(columns)
+}
+
+fn made_expr(alloc: Global, form: &str) -> MadeExpr {
+    match form {
+        "Col" => Ok(Expr::Col(9)),
+        "NULL" => Ok(Expr::Const(Cell::Null, SqlType::Bin)),
+        "truth" => Ok(Expr::Const(Cell::Bool(true), SqlType::Bool)),
+        "text" => text(alloc, "it's"),
+        "term" => term(alloc, "http://e/x"),
+        "tag" => lit(alloc, tagged(alloc, "en")),
+        "datatype" => lit(alloc, of_datatype(alloc, "http://e/d")),
+        "plain" => lit(alloc, Ok(Annotation::Plain)),
+        "IriOf" => iri_of(alloc, "http://e/", text(alloc, "x")),
+        "Not" => not_null(alloc, 1),
+        "Same" => same(alloc, 0, 1),
+        "And" => Ok(Expr::And(columns(alloc, 0)?)),
+        "Or" => Ok(Expr::Or(columns(alloc, 1)?)),
+        "Coalesce" => Ok(Expr::Coalesce(columns(alloc, 3)?)),
+        _ => Ok(Expr::Sparql(Operator::Compare(Compare::LessOrEqual), columns(alloc, 2)?)),
+    }
+}
+
+// Forms of expressions, a kind that all columns have, and their texts.
+const TEXTS_OF_FORMS: [(&str, SqlType, &str); 15] = [
+    ("Col", SqlType::Int, "c10"),
+    ("NULL", SqlType::Int, "CAST(NULL AS BIN)"),
+    ("truth", SqlType::Int, "TRUE"),
+    ("text", SqlType::Int, "'it''s'"),
+    ("term", SqlType::Int, "TERM '<http://e/x>'"),
+    ("tag", SqlType::Text, "LIT(c2, '@en')"),
+    ("datatype", SqlType::Text, "LIT(c2, '^^http://e/d')"),
+    ("plain", SqlType::Text, "LIT(c2)"),
+    ("IriOf", SqlType::Int, "IRI_OF('http://e/', 'x')"),
+    ("Not", SqlType::Int, "NOT(IS_NULL(c2))"),
+    ("Same", SqlType::Int, "SAME(c1, c2)"),
+    ("And", SqlType::Int, "AND()"),
+    ("Or", SqlType::Bool, "OR(c1)"),
+    ("Coalesce", SqlType::Int, "COALESCE(c1, c2, c3)"),
+    ("Sparql", SqlType::Term, "LE(c1, c2)"),
+];
+
+// The plan of an expression over no rows, of ten columns of a kind.
+fn only(alloc: Global, form: &str, kind: SqlType) -> Made {
+    let mut es = Items::new(alloc);
+    es.push(made_expr(alloc, form)?)?;
+    let kinds = Items::from_slice(alloc, &[kind; 10])?;
+    project(alloc, Ok(es), Ok(Plan::Empty(kinds)))
+}
+
+// The text of a plan, if it is well typed.
+fn shown(alloc: Global, schema: &Schema, plan: Plan) -> Result<Option<String>, Memory> {
+    if !well_typed(alloc, &plan, schema)? {
+        return Ok(None);
+    }
+    let plan = CheckedPlan::new(plan, schema);
+    Ok(Some(sql_text(alloc, &plan, schema)?))
+}
+
+#[test]
+fn each_form_has_its_text(rt: HostRuntime) -> Result<(), Fail> {
+    let schema = read_schema(rt.alloc(), COMPANY.as_bytes())
+        .ok()
+        .ok_or("a schema")?;
+    for (form, kind, expected) in TEXTS_OF_FORMS {
+        let plan = only(rt.alloc(), form, kind)?;
+        let text = shown(rt.alloc(), &schema, plan)?.ok_or("ill typed")?;
+        let front = format!(in rt.alloc(); "SELECT {expected} AS c1 FROM (EMPTY (")?;
+        assert!(rt; text.as_str().starts_with(front.as_str()), "{form}");
+    }
+    Ok(())
+}
+
+fn project(alloc: Global, es: Result<Items<Expr>, Memory>, p: Made) -> Made {
+    let es = es?;
+    Ok(Plan::Project(es, Box::new(alloc, p?)?))
+}
+
+fn join(alloc: Global) -> Made {
+    let ps = scans(alloc, 0, 0)?;
+    Ok(Plan::Join(ps, same(alloc, 0, 2)?))
+}
+
+fn made(alloc: Global, node: &str) -> Made {
+    match node {
+        "Unit" => Ok(Plan::Unit),
+        "Empty" => Ok(Plan::Empty(Items::from_slice(alloc, &[SqlType::Int, SqlType::Term])?)),
+        "Scan" => Ok(Plan::Scan(2)),
+        "Select" => select(alloc, not_null(alloc, 1), Ok(Plan::Scan(1))),
+        "Project" => project(alloc, columns(alloc, 2), Ok(Plan::Scan(0))),
+        "Project of none" => project(alloc, columns(alloc, 0), Ok(Plan::Unit)),
+        "Join" => join(alloc),
+        "Left" => left(
+            alloc,
+            Ok(Plan::Scan(1)),
+            Ok(Plan::Scan(0)),
+            same(alloc, 2, 3),
+        ),
+        "UnionAll" => Ok(Plan::UnionAll(scans(alloc, 0, 0)?)),
+        _ => Ok(Plan::Distinct(Box::new(alloc, Plan::Unit)?)),
+    }
+}
+
+// Nodes of plans, and their texts.
+const TEXTS_OF_NODES: [(&str, &str); 10] = [
+    ("Unit", "VALUES ()"),
+    ("Empty", "EMPTY (INT, TERM)"),
+    ("Scan", "TABLE \"a\"\"b\""),
+    (
+        "Select",
+        "SELECT * FROM (TABLE \"emp\") AS t WHERE NOT(IS_NULL(c2))",
+    ),
+    (
+        "Project",
+        "SELECT c1 AS c1, c2 AS c2 FROM (TABLE \"dept\") AS t",
+    ),
+    ("Project of none", "SELECT () FROM (VALUES ()) AS t"),
+    (
+        "Join",
+        "SELECT * FROM (TABLE \"dept\") AS t1 CROSS JOIN (TABLE \"dept\") AS t2 WHERE SAME(c1, c3)",
+    ),
+    (
+        "Left",
+        "SELECT * FROM (TABLE \"emp\") AS t1 LEFT JOIN (TABLE \"dept\") AS t2 ON SAME(c3, c4)",
+    ),
+    ("UnionAll", "(TABLE \"dept\") UNION ALL (TABLE \"dept\")"),
+    ("Distinct", "SELECT DISTINCT * FROM (VALUES ()) AS t"),
+];
+
+#[test]
+fn each_node_has_its_text(rt: HostRuntime) -> Result<(), Fail> {
+    let schema = read_schema(rt.alloc(), COMPANY.as_bytes())
+        .ok()
+        .ok_or("a schema")?;
+    for (node, expected) in TEXTS_OF_NODES {
+        let plan = made(rt.alloc(), node)?;
+        let text = shown(rt.alloc(), &schema, plan)?.ok_or("ill typed")?;
+        assert_eq!(rt; text.as_str(), expected, "{node}");
+    }
+    Ok(())
+}

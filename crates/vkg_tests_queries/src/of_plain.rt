@@ -1,0 +1,81 @@
+use crate::written::written;
+use std::alloc::Global;
+use std::test::Fail;
+use vkg_plain::{ReadFault, Solution, answer, read_quads, solution_lines};
+use vkg_sparql::{Query, read_query};
+
+const DATASET: &str = "<http://e/1> <http://e/name> \"Ann\" .
+<http://e/1> <http://e/says> \"a \\\"b\\\"\\n\"@en .
+<http://e/2> <http://e/name> \"Bo\" .
+<http://e/2> <http://e/name> \"Bo\" <http://e/g> .
+_:b <http://e/age> \"7\"^^<http://www.w3.org/2001/XMLSchema#integer> _:g .
+";
+
+fn query_of(alloc: Global, text: &str) -> Result<Query, Fail> {
+    let query = read_query(alloc, text.as_bytes(), "http://e/").ok();
+    Ok(query.ok_or("no query")?)
+}
+
+/// The lines of the answer to a query over the dataset.
+fn answer_to(alloc: Global, text: &str) -> Result<String, Fail> {
+    let query = query_of(alloc, text)?;
+    answer_text(alloc, &query)
+}
+
+fn answer_text(alloc: Global, query: &Query) -> Result<String, Fail> {
+    let quads = read_quads(alloc, DATASET)?;
+    let rows = answer(alloc, query, quads.as_slice())?;
+    rows_text(alloc, query, rows.as_slice())
+}
+
+fn rows_text(alloc: Global, query: &Query, rows: &[Solution]) -> Result<String, Fail> {
+    let lines = solution_lines(alloc, query, rows)?;
+    let text = String::from_utf8(written(alloc, &lines)?).ok();
+    Ok(text.ok_or("no text")?)
+}
+
+#[test]
+fn quads_are_read_as_they_are_written(rt: HostRuntime) -> Result<(), Fail> {
+    assert_eq!(rt; read_quads(rt.alloc(), DATASET)?.len(), 5);
+    let spaced = read_quads(rt.alloc(), "<http://e/1>  <http://e/p> \"a\" .\n").err();
+    assert_eq!(rt; spaced, Some(ReadFault::NoQuads));
+    let unended = read_quads(rt.alloc(), "<http://e/1> <http://e/p> \"a\n").err();
+    assert_eq!(rt; unended, Some(ReadFault::NoQuads));
+    Ok(())
+}
+
+#[test]
+fn what_does_not_match_stays_without(rt: HostRuntime) -> Result<(), Fail> {
+    let text = answer_to(
+        rt.alloc(),
+        "SELECT ?n ?w { ?x <name> ?n OPTIONAL { ?x <says> ?w } }",
+    )?;
+    assert_eq!(rt;
+        text.as_str(),
+        "?n\t?w\n\"Ann\"\t\"a \\\"b\\\"\\n\"@en\n\"Bo\"\t\n"
+    );
+    Ok(())
+}
+
+#[test]
+fn graphs_have_their_own_solutions(rt: HostRuntime) -> Result<(), Fail> {
+    let text = answer_to(
+        rt.alloc(),
+        "SELECT ?g ?o { GRAPH ?g { [] ?p ?o FILTER(?o = \"Bo\" || ?o < 8) } }",
+    )?;
+    assert_eq!(rt;
+        text.as_str(),
+        "?g\t?o\n<http://e/g>\t\"Bo\"\n_:g\t\"7\"^^<http://www.w3.org/2001/XMLSchema#integer>\n"
+    );
+    Ok(())
+}
+
+#[test]
+fn each_is_kept_once(rt: HostRuntime) -> Result<(), Fail> {
+    let text = answer_to(
+        rt.alloc(),
+        "SELECT DISTINCT ?n { { ?x <name> ?n } UNION { GRAPH <g> { ?x <name> ?n } } }",
+    )?;
+    assert_eq!(rt; text.as_str(), "?n\n\"Ann\"\n\"Bo\"\n");
+    Ok(())
+}

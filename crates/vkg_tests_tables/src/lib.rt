@@ -1,0 +1,22 @@
+//! The tests of the crates of tables and quads.
+//!
+//! One module for each crate under test, over public functions alone, which it knows by their contracts. No library and no
+//! program calls anything here: the gate proves each test as it does any function, and runs it. The tests stand apart from
+//! the libraries since a crate with tests is proved twice, with them and without.
+//!
+//! - `vkg_tables`: CSV files loaded, each fault with its place, keys and references.
+//! - `vkg_direct`: the direct mapping of a schema, or its fault.
+//! - `vkg_company`: the generated company.
+//! - `vkg_quads`: the terms that term maps make or refuse, and the rules of a mapping.
+#![tactic(auto)]
+
+#[cfg(test)]
+mod fields;
+#[cfg(test)]
+mod of_company;
+#[cfg(test)]
+mod of_direct;
+#[cfg(test)]
+mod of_quads;
+#[cfg(test)]
+mod of_tables;

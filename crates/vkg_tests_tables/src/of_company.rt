@@ -1,0 +1,71 @@
+use crate::fields::field;
+use std::alloc::Global;
+use std::test::Fail;
+use vkg_base::Items;
+use vkg_cells::Cell;
+use vkg_company::{count_of, generate};
+
+/// The rows as a table's file has them.
+fn file(alloc: Global, rows: &[Items<Cell>]) -> Result<String, Fail> {
+    let mut out = String::new(alloc);
+    for row in rows {
+        for cell in row.as_slice() {
+            out.push_str(field(cell))?;
+            out.push_str(",")?;
+        }
+        out.push_str("\n")?;
+    }
+    Ok(out)
+}
+
+#[test]
+fn one_employee_works_in_one_department(rt: HostRuntime) -> Result<(), Fail> {
+    let db = generate(rt.alloc(), 1)?;
+    assert_eq!(rt; file(rt.alloc(), db.rows_of(0))?.as_str(), "1,D1,\n");
+    assert_eq!(rt; file(rt.alloc(), db.rows_of(1))?.as_str(), "1,N1,1,\n");
+    Ok(())
+}
+
+#[test]
+fn every_fourth_employee_has_no_department(rt: HostRuntime) -> Result<(), Fail> {
+    let db = generate(rt.alloc(), 10)?;
+    assert_eq!(rt; file(rt.alloc(), db.rows_of(0))?.as_str(), "1,D1,\n2,D2,\n");
+    assert_eq!(rt;
+        file(rt.alloc(), db.rows_of(1))?.as_str(),
+        "1,N1,2,\n2,N2,1,\n3,N3,2,\n4,N4,\\N,\n5,N5,2,\n6,N6,1,\n7,N0,2,\n8,N1,\\N,\n9,N2,2,\n10,N3,1,\n"
+    );
+    Ok(())
+}
+
+#[test]
+fn every_fifth_department_has_no_title(rt: HostRuntime) -> Result<(), Fail> {
+    let db = generate(rt.alloc(), 40)?;
+    assert_eq!(rt;
+        file(rt.alloc(), db.rows_of(0))?.as_str(),
+        "1,D1,\n2,D2,\n3,D3,\n4,D4,\n5,\\N,\n"
+    );
+    Ok(())
+}
+
+#[test]
+fn counts_are_digits_alone(rt: HostRuntime) {
+    let counts = [("1", 1), ("10", 10), ("99999", 99_999), ("100000", 100_000)];
+    for (word, count) in counts {
+        assert!(rt; count_of(word) == Some(count), "{word}");
+    }
+    let others = [
+        "",
+        "0",
+        "007",
+        "+5",
+        "-5",
+        "5 ",
+        "1e3",
+        "100001",
+        "18446744073709551617",
+        "five",
+    ];
+    for word in others {
+        assert!(rt; count_of(word).is_none(), "{word}");
+    }
+}

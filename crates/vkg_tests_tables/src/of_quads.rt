@@ -1,0 +1,145 @@
+use std::alloc::Global;
+use std::test::Fail;
+use vkg_base::{Items, Memory, Text};
+use vkg_cells::Cell;
+use vkg_maps::{Mapping, ObjectMap, Piece, PredicateObjectMap, TermMap, TermType, TriplesMap};
+use vkg_quads::{made_term, rules};
+use vkg_terms::{Annotation, Term, term_text};
+
+const INTEGER: &str = "http://www.w3.org/2001/XMLSchema#integer";
+
+fn text(alloc: Global, text: &str) -> Result<Cell, Memory> {
+    Ok(Cell::Text(Text::new(alloc, text)?))
+}
+
+fn iri(alloc: Global, text: &str) -> Result<TermMap, Memory> {
+    Ok(TermMap::Constant(Term::Iri(Text::new(alloc, text)?)))
+}
+
+/// `http://e/` and the first column.
+fn template(alloc: Global, term_type: TermType) -> Result<TermMap, Memory> {
+    let mut pieces = Items::new(alloc);
+    pieces.push(Piece::Fixed(Text::new(alloc, "http://e/")?))?;
+    pieces.push(Piece::Column(0))?;
+    Ok(TermMap::Template(pieces, term_type))
+}
+
+/// The text of the term of a row of one cell, `none`, or the code of its fault.
+fn shown(alloc: Global, map: &TermMap, cell: Cell) -> Result<String, Memory> {
+    let mut row = Items::new(alloc);
+    row.push(cell)?;
+    match made_term(alloc, "http://e/", map, row.as_slice())? {
+        Ok(Some(term)) => term_text(alloc, &term),
+        Ok(None) => Ok(String::from_str(alloc, "none")?),
+        Err(fault) => match fault.check() {
+            1 => Ok(String::from_str(alloc, "X01")?),
+            2 => Ok(String::from_str(alloc, "X02")?),
+            _ => Ok(String::from_str(alloc, "X03")?),
+        },
+    }
+}
+
+#[test]
+fn a_column_gives_iris(rt: HostRuntime) -> Result<(), Fail> {
+    let map = TermMap::Column(0, TermType::Iri);
+    for (cell, expected) in [
+        ("q", "<http://e/q>"),
+        ("http://e/q", "<http://e/q>"),
+        ("a b", "X01"),
+    ] {
+        let cell = text(rt.alloc(), cell)?;
+        assert_eq!(rt; shown(rt.alloc(), &map, cell)?.as_str(), expected);
+    }
+    assert_eq!(rt; shown(rt.alloc(), &map, Cell::Null)?.as_str(), "none");
+    Ok(())
+}
+
+#[test]
+fn a_form_is_of_its_datatype(rt: HostRuntime) -> Result<(), Fail> {
+    let datatype = Annotation::typed(Text::new(rt.alloc(), INTEGER)?);
+    let map = TermMap::Column(0, TermType::Literal(datatype));
+    for (cell, expected) in [
+        ("01", "\"01\"^^<http://www.w3.org/2001/XMLSchema#integer>"),
+        ("x", "X02"),
+        ("999999999999999999999999999999999999999", "X03"),
+    ] {
+        let cell = text(rt.alloc(), cell)?;
+        assert_eq!(rt; shown(rt.alloc(), &map, cell)?.as_str(), expected);
+    }
+    Ok(())
+}
+
+/// As `shown`, of a row of one text.
+fn shown_text(alloc: Global, map: &TermMap, field: &str) -> Result<String, Memory> {
+    let cell = text(alloc, field)?;
+    shown(alloc, map, cell)
+}
+
+#[test]
+fn a_template_is_made_safe_in_an_iri(rt: HostRuntime) -> Result<(), Fail> {
+    let map = template(rt.alloc(), TermType::Iri)?;
+    let found = shown_text(rt.alloc(), &map, "a b/é%")?;
+    assert_eq!(rt; found.as_str(), "<http://e/a%20b%2Fé%25>");
+    Ok(())
+}
+
+#[test]
+fn a_template_is_kept_in_a_literal(rt: HostRuntime) -> Result<(), Fail> {
+    let map = template(rt.alloc(), TermType::Literal(Annotation::Plain))?;
+    let found = shown_text(rt.alloc(), &map, "a b")?;
+    assert_eq!(rt; found.as_str(), "\"http://e/a b\"");
+    Ok(())
+}
+
+#[test]
+fn a_blank_node_is_labelled_by_octets(rt: HostRuntime) -> Result<(), Fail> {
+    let map = TermMap::Column(0, TermType::Blank);
+    let found = shown_text(rt.alloc(), &map, "q1")?;
+    assert_eq!(rt; found.as_str(), "_:b7131");
+    Ok(())
+}
+
+/// A triples map with a class, a graph map, a predicate with an object and a reference to the map itself.
+fn triples_map(alloc: Global) -> Result<TriplesMap, Memory> {
+    let mut objects = Items::new(alloc);
+    objects.push(ObjectMap::Term(TermMap::Column(0, TermType::Iri)))?;
+    let conditions = Items::from_slice(alloc, &[(1, 0)])?;
+    objects.push(ObjectMap::Parent(0, conditions))?;
+    let mut predicates = Items::new(alloc);
+    predicates.push(iri(alloc, "http://e/p")?)?;
+    let mut properties = Items::new(alloc);
+    properties.push(PredicateObjectMap {
+        predicates,
+        objects,
+        graphs: Items::new(alloc),
+    })?;
+    let mut classes = Items::new(alloc);
+    classes.push(Text::new(alloc, "http://e/C")?)?;
+    let mut graphs = Items::new(alloc);
+    graphs.push(iri(alloc, "http://e/g")?)?;
+    Ok(TriplesMap {
+        table: 0,
+        subject: template(alloc, TermType::Iri)?,
+        classes,
+        graphs,
+        predicate_objects: properties,
+    })
+}
+
+#[test]
+fn a_rule_for_each_class_and_object(rt: HostRuntime) -> Result<(), Fail> {
+    let mut maps = Items::new(rt.alloc());
+    maps.push(triples_map(rt.alloc())?)?;
+    let base = Text::new(rt.alloc(), "http://e/")?;
+    let found = rules(rt.alloc(), &Mapping { base, maps })?;
+    assert_eq!(rt; found.len(), 3);
+    let mut joins = 0u8;
+    let mut named = 0u8;
+    for rule in found.as_slice() {
+        joins = joins.saturating_add(rule.join.is_some() as u8);
+        named = named.saturating_add(rule.graph.is_some() as u8);
+    }
+    assert_eq!(rt; joins, 1);
+    assert_eq!(rt; named, 3);
+    Ok(())
+}

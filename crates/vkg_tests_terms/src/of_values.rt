@@ -1,0 +1,137 @@
+use std::alloc::Global;
+use std::test::Fail;
+use vkg_base::{Memory, Text};
+use vkg_terms::{Annotation, Term};
+use vkg_values::{
+    Compare, Take, Test, compare_terms, conjunction, disjunction, effective_truth, known_value,
+    negation, take_of, test_of,
+};
+
+// A literal of a datatype of XML Schema.
+fn typed(alloc: Global, name: &str, text: &str) -> Result<Term, Memory> {
+    let mut iri = String::from_str(alloc, "http://www.w3.org/2001/XMLSchema#")?;
+    iri.push_str(name)?;
+    let text = Text::new(alloc, text)?;
+    Ok(Term::Lit(text, Annotation::typed(Text::from_string(iri))))
+}
+
+fn tagged(alloc: Global, text: &str, tag: &str) -> Result<Term, Memory> {
+    let text = Text::new(alloc, text)?;
+    Ok(Term::Lit(text, Annotation::Lang(Text::new(alloc, tag)?)))
+}
+
+// Two literals, each with its datatype, and the answers of `=` and of `<`.
+const COMPARED: [(&str, &str, &str, &str, Option<bool>, Option<bool>); 12] = [
+    ("integer", "01", "integer", "1", Some(true), Some(false)),
+    ("integer", "9", "decimal", "10.0", Some(false), Some(true)),
+    ("decimal", "-0.0", "integer", "+0", Some(true), Some(false)),
+    ("integer", "x", "integer", "x", Some(true), None),
+    ("integer", "x", "integer", "1", None, None),
+    ("string", "b", "string", "a", Some(false), Some(false)),
+    ("boolean", "0", "boolean", "true", Some(false), Some(true)),
+    ("boolean", "1", "boolean", "true", Some(true), Some(false)),
+    (
+        "date",
+        "2024-02-29",
+        "date",
+        "2024-03-01",
+        Some(false),
+        Some(true),
+    ),
+    ("date", "2024-02-29Z", "date", "2024-03-01", None, None),
+    (
+        "dateTime",
+        "2024-02-29T12:00:00.50",
+        "dateTime",
+        "2024-02-29T12:00:00.5",
+        Some(true),
+        Some(false),
+    ),
+    (
+        "dateTime",
+        "2024-02-29T24:00:00",
+        "dateTime",
+        "2024-02-29T12:00:00",
+        None,
+        None,
+    ),
+];
+
+// SPARQL 1.1 Query, 17.3: the answers of `=` and of `<`.
+#[test]
+fn literals_compare_by_value(rt: HostRuntime) -> Result<(), Fail> {
+    for (a_type, a, b_type, b, equal, less) in COMPARED {
+        let a = typed(rt.alloc(), a_type, a)?;
+        let b = typed(rt.alloc(), b_type, b)?;
+        assert_eq!(rt; compare_terms(rt.alloc(), Compare::Equal, &a, &b)?, equal);
+        assert_eq!(rt;
+            compare_terms(rt.alloc(), Compare::NotEqual, &a, &b)?,
+            negation(equal)
+        );
+        assert_eq!(rt; compare_terms(rt.alloc(), Compare::Less, &a, &b)?, less);
+        assert_eq!(rt; compare_terms(rt.alloc(), Compare::Greater, &b, &a)?, less);
+        assert_eq!(rt;
+            compare_terms(rt.alloc(), Compare::GreaterOrEqual, &a, &b)?,
+            negation(less)
+        );
+        assert_eq!(rt;
+            compare_terms(rt.alloc(), Compare::LessOrEqual, &b, &a)?,
+            negation(less)
+        );
+    }
+    Ok(())
+}
+
+// SPARQL 1.1 Query, 17.2.2.
+#[test]
+fn literals_have_truths(rt: HostRuntime) -> Result<(), Fail> {
+    let rows: [(&str, &str, Option<bool>); 9] = [
+        ("boolean", "1", Some(true)),
+        ("boolean", "yes", Some(false)),
+        ("integer", "-0", Some(false)),
+        ("decimal", "0.10", Some(true)),
+        ("integer", "1.5", Some(false)),
+        ("string", "", Some(false)),
+        ("string", "0", Some(true)),
+        ("date", "2024-02-29", None),
+        ("hexBinary", "00", None),
+    ];
+    for (name, text, truth) in rows {
+        let term = typed(rt.alloc(), name, text)?;
+        assert_eq!(rt; effective_truth(rt.alloc(), &term)?, truth);
+    }
+    let empty = tagged(rt.alloc(), "", "en")?;
+    assert_eq!(rt; effective_truth(rt.alloc(), &empty)?, Some(false));
+    Ok(())
+}
+
+// SPARQL 1.1 Query, 17.4.2.
+#[test]
+fn terms_are_asked_and_taken_from(rt: HostRuntime) -> Result<(), Fail> {
+    let number = typed(rt.alloc(), "integer", "7")?;
+    assert!(rt; test_of(rt.alloc(), Test::IsNumeric, &number)?);
+    assert!(rt; test_of(rt.alloc(), Test::IsLiteral, &number)?);
+    assert!(rt; !test_of(rt.alloc(), Test::IsIri, &number)?);
+    assert!(rt; !test_of(rt.alloc(), Test::IsBlank, &number)?);
+    assert!(rt; known_value(rt.alloc(), &number)?.is_some());
+    let hello = tagged(rt.alloc(), "hello", "en")?;
+    assert!(rt; known_value(rt.alloc(), &hello)?.is_none());
+    let tag = take_of(rt.alloc(), Take::Lang, &hello)?.ok_or("no tag")?;
+    assert!(rt; tag.same(&typed(rt.alloc(), "string", "en")?));
+    let text = take_of(rt.alloc(), Take::Str, &hello)?.ok_or("no text")?;
+    assert!(rt; text.same(&typed(rt.alloc(), "string", "hello")?));
+    let blank = Term::Blank(Text::new(rt.alloc(), "b1")?);
+    assert!(rt; take_of(rt.alloc(), Take::Str, &blank)?.is_none());
+    assert!(rt; take_of(rt.alloc(), Take::Datatype, &blank)?.is_none());
+    Ok(())
+}
+
+// SPARQL 1.1 Query, 17.2: an error beside a truth.
+#[test]
+fn errors_are_a_third_value(rt: HostRuntime) -> Result<(), Fail> {
+    assert_eq!(rt; conjunction(None, Some(false)), Some(false));
+    assert_eq!(rt; conjunction(None, Some(true)), None);
+    assert_eq!(rt; disjunction(Some(true), None), Some(true));
+    assert_eq!(rt; disjunction(Some(false), None), None);
+    Ok(())
+}

@@ -1,0 +1,107 @@
+use std::test::Fail;
+use vkg_sparql::{QueryError, read_query};
+
+// The check and the place of the first fault, or the number of names and whether DISTINCT is asked.
+fn shown(rt: &HostRuntime, text: &str) -> Result<String, Fail> {
+    match read_query(rt.alloc(), text.as_bytes(), "http://h/") {
+        Ok(query) => {
+            let names = query.names.len();
+            let parts = query.group.len();
+            let distinct = query.distinct;
+            Ok(format!(in rt.alloc(); "{names} {parts} {distinct}")?)
+        }
+        Err(QueryError::Fault(fault)) => {
+            let check = fault.check;
+            let at = fault.at;
+            Ok(format!(in rt.alloc(); "Q0{check} {at}")?)
+        }
+        Err(QueryError::Memory) => Err(Fail::new("memory")),
+    }
+}
+
+#[test]
+fn queries_are_read(rt: HostRuntime) -> Result<(), Fail> {
+    let rows = [
+        ("SELECT * {}", "0 0 false"),
+        ("\u{feff}select distinct ?a where { ?a <p> 1 }", "1 1 true"),
+        (
+            "PREFIX p: <x#> BASE <http://k/> SELECT ?a $b { ?a p:q ?b ; a p:C . [] <r> _:a FILTER(?a = ?b && !bound(?c)) }",
+            "5 2 false",
+        ),
+        (
+            "SELECT * { { ?a <p> ?b } UNION { ?b <p> ?a } OPTIONAL { ?a <q> [ <r> 'x'@EN ] } GRAPH ?g { ?s ?p true } }",
+            "6 3 false",
+        ),
+    ];
+    for (text, want) in rows.iter() {
+        let found = shown(&rt, text)?;
+        assert_eq!(rt; found.as_str(), *want, "at {text}");
+    }
+    Ok(())
+}
+
+#[test]
+fn each_fault_is_named(rt: HostRuntime) -> Result<(), Fail> {
+    let rows = [
+        ("SELECT * { ' }", "Q01 11"),
+        ("SELECT * WHERE {", "Q02 16"),
+        ("SELECT * { FILTERBOUND(?x) }", "Q02 11"),
+        ("SELECT * { ?s <http://e/p>* ?o }", "Q07 26"),
+        ("ASK {}", "Q07 0"),
+        ("SELECT * { ?s ?p 1e3 }", "Q07 17"),
+        ("SELECT * { ?s q:p ?o }", "Q04 14"),
+        ("BASE <q> SELECT * { ?s <mailto:x\\u003c> ?o }", "Q05 23"),
+        ("SELECT * { _:a ?p ?o { _:a ?p 1 } }", "Q06 23"),
+        (
+            "SELECT * { ?s ?p '1'^^<http://www.w3.org/2001/XMLSchema#double> }",
+            "Q07 17",
+        ),
+        (
+            "SELECT * { ?s ?p 123456789012345678901234567890123456789 }",
+            "Q08 17",
+        ),
+    ];
+    for (text, want) in rows.iter() {
+        let found = shown(&rt, text)?;
+        assert_eq!(rt; found.as_str(), *want, "at {text}");
+    }
+    Ok(())
+}
+
+// What begins a text, so many times what goes on, and what ends it.
+fn repeated(
+    rt: &HostRuntime,
+    begin: &str,
+    text: &str,
+    times: usize,
+    end: &str,
+) -> Result<String, Fail> {
+    let mut out = String::from_str(rt.alloc(), begin)?;
+    for _ in 0..times {
+        out.push_str(text)?;
+    }
+    out.push_str(end)?;
+    Ok(out)
+}
+
+#[test]
+fn limits_are_named(rt: HostRuntime) -> Result<(), Fail> {
+    let closed = repeated(&rt, "", "}", 64, "")?;
+    let deep = repeated(&rt, "SELECT * ", "{", 64, closed.as_str())?;
+    let too_deep = repeated(&rt, "SELECT * {", "{", 64, "")?;
+    let full = repeated(&rt, "SELECT * { ?s ?p 1", ", 1", 127, " }")?;
+    let too_full = repeated(&rt, "SELECT * { ?s ?p 1", ", 1", 128, " }")?;
+    let too_many = repeated(&rt, "SELECT * {", "{}", 1024, "}")?;
+    let rows = [
+        (deep.as_str(), "0 1 false"),
+        (too_deep.as_str(), "Q03 73"),
+        (full.as_str(), "2 1 false"),
+        (too_full.as_str(), "Q09 11"),
+        (too_many.as_str(), "Q09 2056"),
+    ];
+    for (text, want) in rows.iter() {
+        let found = shown(&rt, text)?;
+        assert_eq!(rt; found.as_str(), *want);
+    }
+    Ok(())
+}
