@@ -5,11 +5,11 @@ use Rattle.std.proofs.lemmas.List.Elements.{Contains-append_cases}
 use Rattle.vkg_lists.proofs.Bools.{and_parts}
 use Rattle.vkg_lists.proofs.Members.{Contains-none, Contains-cons_cases, each_of_all}
 use Rattle.vkg_lists.proofs.Texts.{joined_is}
+use Rattle.vkg_lists.proofs.Heads.{head_same, tail_same}
 use Rattle.vkg_terms.specs.declared.term.Term.{Term}
 use Rattle.vkg_terms.specs.declared.term.Term.TheVariants.{Iri, Blank, Lit}
 use Rattle.vkg_terms.specs.NQuads.{term_text}
 use Rattle.vkg_terms.specs.Writable.{HoldsText, IsWritable, is_inline}
-use Rattle.vkg_terms.proofs.Octets.{head_same, tail_same}
 use Rattle.vkg_terms.proofs.TextLemmas.{term_text_inline, term_text_same}
 use Rattle.vkg_algebra.specs.Answer.{place_text, solution_line}
 use Rattle.vkg_algebra.specs.Laws.{BindsWritable}

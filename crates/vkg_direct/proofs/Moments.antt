@@ -1,5 +1,5 @@
 -- The forms of dates and times are of their datatypes' lexical spaces.
-use Rattle.std.proofs.Common.{◌≡◌, ℕ, zero, suc, ◌+◌, ◌-◌, ◌*◌, ◌<◌, ◌≤◌, refl, sym, ◌∙◌, ap, subst, List, [], ◌∷◌, ◌++◌, length, take, drop, codes, Bool, true, false, cond, not, ◌&&◌, ◌||◌, arith, ◌==◌, nat_le, Option, Some, None, append_assoc, lit<}
+use Rattle.std.proofs.Common.{◌≡◌, ℕ, zero, suc, ◌+◌, ◌-◌, ◌*◌, ◌<◌, ◌≤◌, refl, sym, ◌∙◌, ap, subst, List, [], ◌∷◌, ◌++◌, length, take, drop, codes, Bool, true, false, cond, not, ◌&&◌, ◌||◌, arith, ◌==◌, nat_le, Option, Some, None, append_assoc, lit<, append-nil}
 use Rattle.std.specs.Prelude.{is_some, option_and_then, slice_index}
 use Rattle.std.specs.List.{list_all}
 use Rattle.std.specs.Char.{is_ascii_digit}
@@ -9,7 +9,7 @@ use Rattle.std.proofs.lemmas.Str.Ascii.{IsAscii-nil, IsAscii-cons}
 use Rattle.vkg_cells.specs.Number.{is_digits, after_point, without_trailing_zeros}
 use Rattle.vkg_cells.specs.Moment.{two_digits_at, day_of_text, clock_of_text, is_date, is_clock, cut, or_cut, form_if, form_at, form_of_parts, stamp_form}
 use Rattle.vkg_cells.specs.WellTyped.{is_xsd_date, is_zone, is_fraction, is_moment, is_end_of_day, zone_place, is_xsd_date_time}
-use Rattle.vkg_lists.proofs.Bools.{and_true, and_parts}
+use Rattle.vkg_lists.proofs.Bools.{and_true, and_parts, or_left}
 use Rattle.vkg_cells.proofs.Digits.{Digits}
 use Rattle.vkg_cells.proofs.MomentText.{clock_fixed, date_fixed}
 
@@ -21,18 +21,11 @@ drop_front : {X : Type 0} (n : ℕ) (xs ys : List X) → length xs ≡ n → dro
 drop_front n [] ys e = ap (λ m. drop m ys) (sym e)
 drop_front n (x ∷ xs) ys e = ap (λ m. drop m (x ∷ xs ++ ys)) (sym e) ∙ drop_front (length xs) xs ys refl
 
-append_nil : {X : Type 0} (xs : List X) → xs ++ [] ≡ xs
-append_nil [] = refl
-append_nil (x ∷ xs) = ap (λ r. x ∷ r) (append_nil xs)
-
-or_first : (b c : Bool) → b ≡ true → b || c ≡ true
-or_first b c e = cc
-
 pub date_is : (text : List ℕ) → is_date text ≡ true → is_xsd_date text ≡ true
 date_is text e =
     let long = (date_fixed text e).long in
-    let front : take 10 text ≡ text = ap (take 10) (sym (append_nil text)) ∙ take_front 10 text [] long in
-    let back : drop 10 text ≡ [] = ap (drop 10) (sym (append_nil text)) ∙ drop_front 10 text [] long in
+    let front : take 10 text ≡ text = ap (take 10) (sym (append-nil text)) ∙ take_front 10 text [] long in
+    let back : drop 10 text ≡ [] = ap (drop 10) (sym (append-nil text)) ∙ drop_front 10 text [] long in
     and_true (is_date (take 10 text)) (is_zone (drop 10 text)) (ap is_date front ∙ e) (ap is_zone back)
 
 -- a point and digits hold no sign of a zone
@@ -77,8 +70,8 @@ module _ (date clock ds : List ℕ) (d : is_date date ≡ true) (c : is_clock cl
       let back : drop 10 (date ++ later) ≡ later = drop_front 10 date later (date_fixed date d).long in
       let hours : take 8 (clock ++ tail) ≡ clock = take_front 8 clock tail (clock_fixed clock c).long in
       let rest : drop 8 (clock ++ tail) ≡ tail = drop_front 8 clock tail (clock_fixed clock c).long in
-      let whole : take (length tail) tail ≡ tail = ap (take (length tail)) (sym (append_nil tail)) ∙ take_front (length tail) tail [] refl in
-      let none : drop (length tail) tail ≡ [] = ap (drop (length tail)) (sym (append_nil tail)) ∙ drop_front (length tail) tail [] refl in
+      let whole : take (length tail) tail ≡ tail = ap (take (length tail)) (sym (append-nil tail)) ∙ take_front (length tail) tail [] refl in
+      let none : drop (length tail) tail ≡ [] = ap (drop (length tail)) (sym (append-nil tail)) ∙ drop_front (length tail) tail [] refl in
       let parts : List ℕ → List ℕ → List ℕ → Bool = λ day after_sign after_clock. is_moment day (codes "T") (take 8 after_sign) (take (zone_place after_clock) after_clock) && is_zone (drop (zone_place after_clock) after_clock) in
       ap is_xsd_date_time shape
       ∙ ap (λ r. is_moment (take 10 (date ++ later)) (take 1 r) (take 8 (drop 1 r)) (take (zone_place (drop 8 (drop 1 r))) (drop 8 (drop 1 r))) && is_zone (drop (zone_place (drop 8 (drop 1 r))) (drop 8 (drop 1 r)))) back
@@ -88,4 +81,4 @@ module _ (date clock ds : List ℕ) (d : is_date date ≡ true) (c : is_clock cl
       ∙ ap (λ n. is_moment date (codes "T") clock (take n tail) && is_zone (drop n tail)) (no_zone_point ds f)
       ∙ ap (λ r. is_moment date (codes "T") clock r && is_zone (drop (length tail) tail)) whole
       ∙ ap (λ r. is_moment date (codes "T") clock tail && is_zone r) none
-      ∙ and_true _ true (and_true _ (is_fraction tail) (and_true _ (is_clock clock || is_end_of_day clock tail) (and_true (is_date date) true d refl) (or_first (is_clock clock) (is_end_of_day clock tail) c)) (fraction_is ds f)) refl
+      ∙ and_true _ true (and_true _ (is_fraction tail) (and_true _ (is_clock clock || is_end_of_day clock tail) (and_true (is_date date) true d refl) (or_left (is_clock clock) (is_end_of_day clock tail) c)) (fraction_is ds f)) refl

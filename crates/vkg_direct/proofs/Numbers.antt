@@ -1,5 +1,5 @@
 -- The canonical form of a number is a number of the same width.
-use Rattle.std.proofs.Common.{◌≡◌, ℕ, suc, ◌+◌, ◌<◌, refl, sym, ◌∙◌, ap, subst, List, [], ◌∷◌, ◌++◌, take, drop, length, codes, Bool, true, false, not, cond, ◌||◌, arith, ◌==◌, lit<}
+use Rattle.std.proofs.Common.{◌≡◌, ℕ, suc, ◌+◌, ◌<◌, refl, sym, ◌∙◌, ap, subst, List, [], ◌∷◌, ◌++◌, take, drop, length, codes, Bool, true, false, not, cond, ◌||◌, arith, ◌==◌, lit<, append-nil}
 use Rattle.std.specs.List.{list_all, before_first, after_first, position_or_len}
 use Rattle.std.specs.Char.{is_ascii_digit}
 use Rattle.std.specs.Str.{IsAscii}
@@ -126,12 +126,8 @@ integer_is s w h = ap is_digits (unsigned_written s (without_leading_zeros w) []
 pub decimal_parts : (text : List ℕ) → is_decimal text ≡ true → Digits (whole text) × Digits (fraction text)
 decimal_parts text e = and_parts (list_all is_ascii_digit (whole text)) (list_all is_ascii_digit (fraction text)) (sym (list_all-append is_ascii_digit (whole text) (fraction text)) ∙ all_digits (whole text ++ fraction text) e)
 
-nil_is : (xs : List ℕ) → xs ++ [] ≡ xs
-nil_is [] = refl
-nil_is (x ∷ xs) = ap (λ r. x ∷ r) (nil_is xs)
-
 pub integer_parts : (text : List ℕ) → is_integer text ≡ true → Digits (whole text) × (fraction text ≡ [])
 integer_parts text e =
     let d = all_digits (unsigned text) e in
-    let w : whole text ≡ unsigned text = ap (λ t. before_first (λ b. b == 46) t) (sym (nil_is (unsigned text))) ∙ point_free (unsigned text) [] d in
-    (subst Digits (sym w) d, ap (λ t. after_first (λ b. b == 46) t) (sym (nil_is (unsigned text))) ∙ behind_point (unsigned text) [] d)
+    let w : whole text ≡ unsigned text = ap (λ t. before_first (λ b. b == 46) t) (sym (append-nil (unsigned text))) ∙ point_free (unsigned text) [] d in
+    (subst Digits (sym w) d, ap (λ t. after_first (λ b. b == 46) t) (sym (append-nil (unsigned text))) ∙ behind_point (unsigned text) [] d)

@@ -6,6 +6,7 @@ use Rattle.std.proofs.lemmas.List.{length-map}
 use Rattle.std.proofs.lemmas.Option.{slice_get-map, slice_get_within}
 use Rattle.vkg_lists.proofs.Members.{each_from_recursion, recursion_from_each, Contains-from_map, Contains-cons_cases, Contains-none}
 use Rattle.std.proofs.lemmas.List.Elements.{Contains-append_cases}
+use Rattle.std.proofs.lemmas.List.FromFn.{length-enumerate_from}
 use Rattle.vkg_cells.specs.declared.cell.SqlType.{SqlType}
 use Rattle.vkg_cells.specs.Order.{family}
 use Rattle.vkg_schema.specs.declared.table.Column.{Column}
@@ -45,10 +46,6 @@ element_of n (y ∷ ys) (suc k) x e = let i : (n + 1) + k ≡ n + suc k = omega 
 
 below_place : {A : Type 0} (xs : List A) (k : ℕ) (x : A) → slice_get xs k ≡ Some x → k < length xs
 below_place xs k x e = slice_get_within xs k x e
-
-length-enumerate : {A : Type 0} (n : ℕ) (xs : List A) → length (enumerate_from n xs) ≡ length xs
-length-enumerate n [] = refl
-length-enumerate n (x ∷ xs) = ap suc (length-enumerate (n + 1) xs)
 
 -- ---- places that are below a bound
 
@@ -128,7 +125,7 @@ module _ (base : List ℕ) (schema : List Table) (well : IsWellFormed schema) wh
     reference_within r h = of (slice_get schema r.table) refl h.target
       where
         inside : r.table < length maps
-        inside = subst (λ n. r.table < n) (sym (length-map (enumerate_from 0 schema) (direct_map base) ∙ length-enumerate 0 schema)) h.inside
+        inside = subst (λ n. r.table < n) (sym (length-map (enumerate_from 0 schema) (direct_map base) ∙ length-enumerate_from 0 schema)) h.inside
 
         of : (o : Option Table) → slice_get schema r.table ≡ o → IfSome o (λ u. RefersTo r u × AllByRecursion (Comparable t u) r.pairs) → (r.table < length maps) × AreConditions schema k (parent_of maps m r.table).table r.pairs
         of None e g = absurd (nowhere schema r.table h.inside e)

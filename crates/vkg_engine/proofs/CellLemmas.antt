@@ -1,20 +1,12 @@
 -- Cells and rows that are one are equal.
-use Rattle.std.proofs.Common.{◌≡◌, refl, sym, ◌∙◌, ap, ℕ, List, Bool, true, false}
-use Rattle.std.specs.Str.{bytes_eq}
-use Rattle.std.proofs.lemmas.Slice.Eq.{bytes_eq-Decides}
+use Rattle.std.proofs.Common.{◌≡◌, refl, sym, ◌∙◌, ap, Bool, true, false}
 use Rattle.vkg_lists.specs.Sets.{IsEqualityTest}
 use Rattle.vkg_lists.proofs.Counts.{eq_itself, eq_same}
 use Rattle.vkg_lists.proofs.Tests.{list_test}
-use Rattle.vkg_terms.proofs.SameLemmas.{terms_apart}
+use Rattle.vkg_terms.proofs.SameLemmas.{bytes_itself, same_bytes, terms_apart}
 use Rattle.vkg_cells.specs.declared.cell.Cell.{Cell}
 use Rattle.vkg_cells.specs.declared.cell.Cell.TheVariants as cell
 use Rattle.vkg_plan.specs.Rows.{one_cell, one_row, truth_eq}
-
-same_bytes : (x y : List ℕ) → bytes_eq x y ≡ true → x ≡ y
-same_bytes x y = (bytes_eq-Decides x y).0
-
-bytes_itself : (x : List ℕ) → bytes_eq x x ≡ true
-bytes_itself x = (bytes_eq-Decides x x).1 refl
 
 same_bool : (b c : Bool) → truth_eq b c ≡ true → b ≡ c
 same_bool true true e = refl

@@ -2,6 +2,7 @@
 use Rattle.std.proofs.Common.{◌≡◌, true, ◌&&◌, List, [], ◌∷◌, ◌++◌, refl, ap, append_assoc, map, length, suc}
 use Rattle.std.proofs.Math.Bool.{and-false}
 use Rattle.std.specs.Prelude.{Option, Some, None}
+use Rattle.vkg_lists.proofs.Onto.{onto, onto_none}
 use Rattle.vkg_cells.specs.declared.cell.SqlType.{SqlType}
 use Rattle.vkg_cells.specs.declared.cell.SqlType.TheVariants as kind
 use Rattle.vkg_expr.specs.declared.expr.Expr.{Expr as ExprValue}
@@ -27,15 +28,6 @@ itself kind.Term = refl
 pub common-more : (k : SqlType) (o : Option (List SqlType)) → common (with_kind (Some k) o) ≡ giving k (are_all k (with_kind (Some k) o))
 common-more k None = refl
 common-more k (Some ls) = rw (itself k)
-
--- some kinds, and those behind them, if they are there
-abbrev pub onto : List SqlType → Option (List SqlType) → Option (List SqlType)
-onto ks None = None
-onto ks (Some ls) = Some (ks ++ ls)
-
-pub onto_none : (o : Option (List SqlType)) → onto [] o ≡ o
-onto_none None = refl
-onto_none (Some t) = refl
 
 pub onto_more : (ks : List SqlType) (k : SqlType) (o : Option (List SqlType)) → onto ks (with_kind (Some k) o) ≡ onto (ks ++ k ∷ []) o
 onto_more ks k None = refl

@@ -1,5 +1,6 @@
 -- Lemmas on derivations that know nothing of the code.
 use Rattle.std.proofs.Common.{◌≡◌, ℕ, ◌<◌, inl, inr, List, [], ◌∷◌, ◌++◌, length, Option, Some, None, refl, ap, sym, ◌∙◌, subst, append_assoc}
+use Rattle.vkg_lists.proofs.Heads.{head_same, tail_same}
 use Rattle.vkg_grammar.specs.declared.note.Act.TheVariants.{Leaf}
 use Rattle.vkg_grammar.specs.declared.note.Note.{Note}
 use Rattle.vkg_grammar.specs.declared.rule.Rule.{Rule}
@@ -16,12 +17,6 @@ pub record Split (g : List Rule) (xs s ts : List ℕ) (ws : List Note) : Type 0 
   pub of_front : Derives g xs front front_ways
   pub of_back : Derives g s back back_ways
 
-pub head_is : {A : Type 0} {x y : A} {xs ys : List A} → x ∷ xs ≡ y ∷ ys → x ≡ y
-head_is e = cc
-
-pub tail_is : {A : Type 0} {x y : A} {xs ys : List A} → x ∷ xs ≡ y ∷ ys → xs ≡ ys
-tail_is e = cc
-
 pub moved : {g : List Rule} {y z ts : List ℕ} {ws : List Note} → y ≡ z → Derives g y ts ws → Derives g z ts ws
 moved {g = g} {ts = ts} {ws = ws} e d = subst (λ y. Derives g y ts ws) e d
 
@@ -29,17 +24,17 @@ pub split : {g : List Rule} {z ts : List ℕ} {ws : List Note} (xs s : List ℕ)
 split {g = g} {ts = ts} {ws = ws} [] s e d = record { front = []; back = ts; front_ways = []; back_ways = ws; tokens = refl; ways = refl; of_front = done; of_back = subst (λ y. Derives g y ts ws) e d }
 split (x ∷ xs) s e done = absurd (cc)
 split {g = g} (x ∷ xs) s e (read {n = n} {k = k} q d) =
-    let r : Split g xs s _ _ = split xs s (tail_is e) d in
-    record { front = k ∷ r.front; back = r.back; front_ways = noted n Leaf ∷ r.front_ways; back_ways = r.back_ways; tokens = ap (λ t. k ∷ t) r.tokens; ways = ap (λ t. noted n Leaf ∷ t) r.ways; of_front = moved (ap (λ m. m ∷ xs) (head_is e)) (read q r.of_front); of_back = r.of_back }
+    let r : Split g xs s _ _ = split xs s (tail_same _ _ _ _ e) d in
+    record { front = k ∷ r.front; back = r.back; front_ways = noted n Leaf ∷ r.front_ways; back_ways = r.back_ways; tokens = ap (λ t. k ∷ t) r.tokens; ways = ap (λ t. noted n Leaf ∷ t) r.ways; of_front = moved (ap (λ m. m ∷ xs) (head_same _ _ _ _ e)) (read q r.of_front); of_back = r.of_back }
 split {g = g} (x ∷ xs) s e (parts {n = n} {xs = zs} q d) =
-    let r : Split g (zs ++ xs) s _ _ = split (zs ++ xs) s (ap (λ t. zs ++ t) (tail_is e) ∙ sym (append_assoc zs xs s)) d in
-    record { front = r.front; back = r.back; front_ways = noted n (at_parts zs) ∷ r.front_ways; back_ways = r.back_ways; tokens = r.tokens; ways = ap (λ t. noted n (at_parts zs) ∷ t) r.ways; of_front = moved (ap (λ m. m ∷ xs) (head_is e)) (parts q r.of_front); of_back = r.of_back }
+    let r : Split g (zs ++ xs) s _ _ = split (zs ++ xs) s (ap (λ t. zs ++ t) (tail_same _ _ _ _ e) ∙ sym (append_assoc zs xs s)) d in
+    record { front = r.front; back = r.back; front_ways = noted n (at_parts zs) ∷ r.front_ways; back_ways = r.back_ways; tokens = r.tokens; ways = ap (λ t. noted n (at_parts zs) ∷ t) r.ways; of_front = moved (ap (λ m. m ∷ xs) (head_same _ _ _ _ e)) (parts q r.of_front); of_back = r.of_back }
 split {g = g} (x ∷ xs) s e (first {n = n} {xs = zs} {ys = us} q d) =
-    let r : Split g (zs ++ xs) s _ _ = split (zs ++ xs) s (ap (λ t. zs ++ t) (tail_is e) ∙ sym (append_assoc zs xs s)) d in
-    record { front = r.front; back = r.back; front_ways = noted n (at_first zs) ∷ r.front_ways; back_ways = r.back_ways; tokens = r.tokens; ways = ap (λ t. noted n (at_first zs) ∷ t) r.ways; of_front = moved (ap (λ m. m ∷ xs) (head_is e)) (first q r.of_front); of_back = r.of_back }
+    let r : Split g (zs ++ xs) s _ _ = split (zs ++ xs) s (ap (λ t. zs ++ t) (tail_same _ _ _ _ e) ∙ sym (append_assoc zs xs s)) d in
+    record { front = r.front; back = r.back; front_ways = noted n (at_first zs) ∷ r.front_ways; back_ways = r.back_ways; tokens = r.tokens; ways = ap (λ t. noted n (at_first zs) ∷ t) r.ways; of_front = moved (ap (λ m. m ∷ xs) (head_same _ _ _ _ e)) (first q r.of_front); of_back = r.of_back }
 split {g = g} (x ∷ xs) s e (second {n = n} {xs = us} {ys = zs} q d) =
-    let r : Split g (zs ++ xs) s _ _ = split (zs ++ xs) s (ap (λ t. zs ++ t) (tail_is e) ∙ sym (append_assoc zs xs s)) d in
-    record { front = r.front; back = r.back; front_ways = noted n (at_second zs) ∷ r.front_ways; back_ways = r.back_ways; tokens = r.tokens; ways = ap (λ t. noted n (at_second zs) ∷ t) r.ways; of_front = moved (ap (λ m. m ∷ xs) (head_is e)) (second q r.of_front); of_back = r.of_back }
+    let r : Split g (zs ++ xs) s _ _ = split (zs ++ xs) s (ap (λ t. zs ++ t) (tail_same _ _ _ _ e) ∙ sym (append_assoc zs xs s)) d in
+    record { front = r.front; back = r.back; front_ways = noted n (at_second zs) ∷ r.front_ways; back_ways = r.back_ways; tokens = r.tokens; ways = ap (λ t. noted n (at_second zs) ∷ t) r.ways; of_front = moved (ap (λ m. m ∷ xs) (head_same _ _ _ _ e)) (second q r.of_front); of_back = r.of_back }
 
 pub spelled : {g : List Rule} {s ts us : List ℕ} {ws : List Note} → ts ≡ us → Derives g s ts ws → Derives g s us ws
 spelled {g = g} {s = s} {ws = ws} e d = subst (λ y. Derives g s y ws) e d
@@ -80,7 +75,7 @@ starts_seen {g = g} {n = n} {s = s} {ts = ts} {ws = ws} {k = k} ys f d =
   where
     by_front : (u : List ℕ) {v : List ℕ} {wu wv : List Note} → k ∷ ts ≡ u ++ v → Derives g ys u wu → Derives g s v wv → Starts g n ys k
     by_front [] {wu = wu} {wv = wv} e d' b = inr ((wu, d'), f k (ts, wv, spelled (sym e) b))
-    by_front (x ∷ u) {wu = wu} e d' b = inl (u, wu, subst (λ y. Derives g ys (y ∷ u) wu) (sym (head_is e)) d')
+    by_front (x ∷ u) {wu = wu} e d' b = inl (u, wu, subst (λ y. Derives g ys (y ∷ u) wu) (sym (head_same _ _ _ _ e)) d')
 
 pub empty_seen : {g : List Rule} {ws : List Note} (ys s : List ℕ) → Derives g (ys ++ s) [] ws → MayBeEmpty g ys
 empty_seen {g = g} {ws = ws} ys s d =

@@ -1,18 +1,15 @@
 -- The trees of a forest.
 use Rattle.std.proofs.Common.{◌≡◌, ℕ, ◌<◌, ◌+◌, List, [], ◌∷◌, ◌++◌, length, get_or, refl, ap, sym, ◌∙◌, subst, arith, zero, suc}
-use Rattle.std.proofs.lemmas.List.{get_or_append_left, length-append}
+use Rattle.std.proofs.lemmas.List.{get_or_append_left, length_push}
 use Rattle.std.proofs.Math.Seq.{get_or-append_seam}
 use Rattle.vkg_grammar.specs.declared.forest.Node.{Node}
 use Rattle.vkg_grammar.specs.declared.forest.Node.TheVariants.{Leaf, Nothing, Pair, First, Second}
 use Rattle.vkg_grammar.specs.Trees.{Tree, nothing, pair, first, second, grown, trees_on, trees_of, tree_at, HasPartsBelow}
 
-one_more : (ts : List Tree) (t : Tree) → length (ts ++ t ∷ []) ≡ length ts + 1
-one_more ts t = length-append ts (t ∷ [])
-
 -- more nodes leave the trees before them
 kept : (ts : List Tree) (ns : List Node) (i : ℕ) → i < length ts → get_or (trees_on ts ns) i nothing ≡ get_or ts i nothing
 kept ts [] i h = refl
-kept ts (n ∷ ns) i h = kept (ts ++ grown ts n ∷ []) ns i (omega (arith, one_more ts (grown ts n))) ∙ get_or_append_left ts (grown ts n ∷ []) nothing i h
+kept ts (n ∷ ns) i h = kept (ts ++ grown ts n ∷ []) ns i (omega (arith, length_push ts (grown ts n))) ∙ get_or_append_left ts (grown ts n ∷ []) nothing i h
 
 same_grown : (ts us : List Tree) (m : ℕ) (n : Node) → ((i : ℕ) → i < m → get_or ts i nothing ≡ get_or us i nothing) → HasPartsBelow m n → grown ts n ≡ grown us n
 same_grown ts us m (Leaf i) e b = refl
@@ -25,13 +22,13 @@ made_on : (ts : List Tree) (ns : List Node) (j : ℕ) → j < length ns → HasP
 made_on ts [] j h b = absurd (omega arith)
 made_on ts (n ∷ ns) zero h b =
     let us : List Tree = ts ++ grown ts n ∷ [] in
-    let here : get_or (trees_on us ns) (length ts) nothing ≡ get_or us (length ts) nothing = kept us ns (length ts) (omega (arith, one_more ts (grown ts n))) in
+    let here : get_or (trees_on us ns) (length ts) nothing ≡ get_or us (length ts) nothing = kept us ns (length ts) (omega (arith, length_push ts (grown ts n))) in
     let below : (i : ℕ) → i < length ts → get_or ts i nothing ≡ get_or (trees_on us ns) i nothing = λ i k. sym (kept ts (n ∷ ns) i k) in
     let same : length ts + 0 ≡ length ts = omega arith in
     ap (λ m. get_or (trees_on us ns) m nothing) same ∙ here ∙ get_or-append_seam ts (grown ts n) [] nothing ∙ same_grown ts (trees_on us ns) (length ts) n below (subst (λ m. HasPartsBelow m n) same b)
 made_on ts (n ∷ ns) (suc j) h b =
     let us : List Tree = ts ++ grown ts n ∷ [] in
-    let same : length us + j ≡ length ts + suc j = omega (arith, one_more ts (grown ts n)) in
+    let same : length us + j ≡ length ts + suc j = omega (arith, length_push ts (grown ts n)) in
     let deep : get_or (trees_on us ns) (length us + j) nothing ≡ grown (trees_on us ns) (get_or ns j Nothing) = made_on us ns j (omega arith) (subst (λ m. HasPartsBelow m (get_or ns j Nothing)) (sym same) b) in
     subst (λ m. get_or (trees_on us ns) m nothing ≡ grown (trees_on us ns) (get_or ns j Nothing)) same deep
 
@@ -49,7 +46,7 @@ one_more_tree ns n = on_more [] ns n
 
 count_on : (ts : List Tree) (ns : List Node) → length (trees_on ts ns) ≡ length ts + length ns
 count_on ts [] = omega arith
-count_on ts (n ∷ ns) = omega (arith, count_on (ts ++ grown ts n ∷ []) ns, one_more ts (grown ts n))
+count_on ts (n ∷ ns) = omega (arith, count_on (ts ++ grown ts n ∷ []) ns, length_push ts (grown ts n))
 
 pub count : (ns : List Node) → length (trees_of ns) ≡ length ns
 unfolding trees_of

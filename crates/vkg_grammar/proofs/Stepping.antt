@@ -1,11 +1,12 @@
 -- What the steps of the parser keep, over derivations alone.
 use Rattle.std.proofs.Common.{◌≡◌, ℕ, ◌⊎◌, inl, inr, List, [], ◌∷◌, ◌++◌, length, Option, Some, None, refl, ap, sym, ◌∙◌, subst, append_assoc}
+use Rattle.vkg_lists.proofs.Heads.{head_same, tail_same}
 use Rattle.vkg_grammar.specs.declared.note.Act.TheVariants.{Leaf}
 use Rattle.vkg_grammar.specs.declared.note.Note.{Note}
 use Rattle.vkg_grammar.specs.declared.rule.Rule.{Rule}
 use Rattle.vkg_grammar.specs.Machine.{Sees, at_end_of, at_token, Ahead, Fits, Picked, begins, empties, Reach, Takes, IsDead}
 use Rattle.vkg_grammar.specs.Grammar.{noted, at_parts, at_first, at_second, One, Parts, Choice, shape_of, Derives, read, parts, first, second, MayBegin, IsWay, the_parts, the_first, the_second, MayFollow, within, at_end, IsLL1, IsGrammar, AllBelow}
-use Rattle.vkg_grammar.proofs.Core.{Split, split, spelled, Apart, apart, apart_other, starts_seen, forced, forced_empty, head_is, tail_is}
+use Rattle.vkg_grammar.proofs.Core.{Split, split, spelled, Apart, apart, apart_other, starts_seen, forced, forced_empty}
 
 pub fits_way : {g : List Rule} {n : ℕ} {s : List ℕ} (before xs : List ℕ) → IsWay g n (before ++ xs) → ((k : ℕ) → MayBegin g s k → MayFollow g n k) → Fits g s → Fits g (xs ++ s)
 fits_way before [] w f fs = fs
@@ -99,7 +100,7 @@ takes_token {g = g} {k = k} {n = n} {old = old} {s = s} {taken = taken} e r = re
 }
   where
     same_rest : {ts us : List ℕ} {left : List Note} → us ≡ k ∷ ts → OfOne g n k s us left → (left' : List Note) × (left ≡ noted n Leaf ∷ left') × Derives g s ts left'
-    same_rest h (by_one {left = l} d) = (l, refl, spelled (tail_is h) d)
+    same_rest h (by_one {left = l} d) = (l, refl, spelled (tail_same _ _ _ _ h) d)
 
     on : (ts : List ℕ) (ws left : List Note) → ws ≡ taken ++ left → OfOne g n k s (k ∷ ts) left → (left' : List Note) × (ws ≡ (taken ++ noted n Leaf ∷ []) ++ left') × Derives g s ts left'
     on ts ws left q o = let r : (left' : List Note) × (left ≡ noted n Leaf ∷ left') × Derives g s ts left' = same_rest refl o in (r.0, q ∙ ap (λ y. taken ++ y) r.1 ∙ sym (append_assoc taken (noted n Leaf ∷ []) r.0), r.2)
@@ -113,7 +114,7 @@ stuck_out {g = g} {k = k} r = λ ts ws see d. let b : (left : List Note) × (ws 
 pub sees_front : {c : Option ℕ} {ts : List ℕ} (u v : List ℕ) → Sees c ts → ts ≡ u ++ v → Sees c u ⊎ (u ≡ [])
 sees_front [] v see e = inr refl
 sees_front (x ∷ u) v at_end_of e = absurd (cc)
-sees_front (x ∷ u) v (at_token {k = k}) e = inl (subst (λ y. Sees (Some k) (y ∷ u)) (head_is e) at_token)
+sees_front (x ∷ u) v (at_token {k = k}) e = inl (subst (λ y. Sees (Some k) (y ∷ u)) (head_same _ _ _ _ e) at_token)
 
 pub stuck : {g : List Rule} {c : Option ℕ} {n : ℕ} {old s : List ℕ} {taken : List Note} → (Ahead g (n ∷ []) c → ⊥) → (Ahead g (n ∷ []) None → ⊥) → Reach g c old (n ∷ s) taken → IsDead g old c
 stuck {g = g} {c = c} {n = n} {s = s} here empty r = λ ts ws see d. let b : (left : List Note) × (ws ≡ _ ++ left) × Derives g (n ∷ s) ts left = r.backward ts ws see d in by_split ts b.0 see (split (n ∷ []) s refl b.2)

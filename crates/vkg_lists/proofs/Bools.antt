@@ -1,24 +1,10 @@
 -- Tests joined by `&&`, `||` and `not`.
-use Rattle.std.proofs.Common.{◌≡◌, refl, sym, ap, Bool, true, false, not, ◌&&◌, ◌||◌}
-
-pub and_true : (a b : Bool) → a ≡ true → b ≡ true → (a && b) ≡ true
-and_true true b e f = f
-and_true false b e f = e
+use Rattle.std.proofs.Common.{◌≡◌, refl, sym, Bool, true, false, not, ◌&&◌, ◌||◌}
+pub use Rattle.std.proofs.lemmas.Bool.{and_from as and_true, or_left, or_right, or_parts as neither, false_from_ne_true as is_false}
 
 pub and_parts : (a b : Bool) → (a && b) ≡ true → (a ≡ true) × (b ≡ true)
 and_parts true b e = (refl, e)
 and_parts false b e = cc
-
-pub or_left : (a b : Bool) → a ≡ true → (a || b) ≡ true
-or_left a b e = ap (λ c. c || b) e
-
-pub or_right : (a b : Bool) → b ≡ true → (a || b) ≡ true
-or_right true b e = refl
-or_right false b e = e
-
-pub neither : (a b : Bool) → (a || b) ≡ false → (a ≡ false) × (b ≡ false)
-neither true b e = cc
-neither false b e = (refl, e)
 
 -- tests that hold of the same are one
 pub same_truth : (a b : Bool) → (a ≡ true → b ≡ true) → (b ≡ true → a ≡ true) → a ≡ b
@@ -37,7 +23,3 @@ not_true false e = refl
 pub not_false : (b : Bool) → not b ≡ false → b ≡ true
 not_false true e = refl
 not_false false e = cc
-
-pub is_false : (b : Bool) → (b ≡ true → ⊥) → b ≡ false
-is_false true h = absurd (h refl)
-is_false false h = refl

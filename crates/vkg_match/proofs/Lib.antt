@@ -2,7 +2,6 @@ pub mod Forms
 pub mod Values
 pub mod Splits
 pub mod Joined
-pub mod Loops
 pub mod Cuts
 pub mod Holes
 pub mod Exact

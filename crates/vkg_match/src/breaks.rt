@@ -30,7 +30,7 @@ pub fn is_break(sort: &Sort, c: char) -> bool
     }
 }
 
-#[tactic(auto, using(crate::proofs::Loops::any_more))]
+#[tactic(auto, using(vkg_lists::proofs::Heads::any_more))]
 fn has_break(text: &str) -> bool
     ensures { result ≡ holds_break text.now }
 {

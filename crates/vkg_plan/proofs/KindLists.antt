@@ -3,6 +3,7 @@ use Rattle.std.proofs.Common.{◌≡◌, true, ◌&&◌, List, [], ◌∷◌, �
 use Rattle.std.proofs.Math.Bool.{and-false}
 use Rattle.std.specs.Prelude.{Option, Some, None, is_some, option_map, if◌then◌else◌}
 use Rattle.std.specs.Cmp.Lexicographic.{pointwise}
+use Rattle.vkg_lists.proofs.Onto.{onto, onto_none}
 use Rattle.vkg_expr.specs.Typing.{same_kind}
 use Rattle.vkg_plan.specs.declared.plan.Plan.{Plan as PlanValue}
 use Rattle.vkg_plan.specs.Kinds.{Kinds, Tables, alike, are_alike, beside_all, is_alike, joined, kinds_of_each, plan_kinds, with_first}
@@ -42,15 +43,6 @@ pub alike_some : (o : Option (List Kinds)) → is_some (alike o) ≡ true → is
 alike_some None e = cc
 alike_some (Some kss) e = refl
 
--- some kinds, and those behind them, if they are there
-abbrev pub onto : Kinds → Option Kinds → Option Kinds
-onto ks None = None
-onto ks (Some ls) = Some (ks ++ ls)
-
-pub onto-none : (o : Option Kinds) → onto [] o ≡ o
-onto-none None = refl
-onto-none (Some ls) = refl
-
 pub onto-nil : (ks : Kinds) → onto ks (Some []) ≡ Some ks
 onto-nil ks = rw append-nil
 
@@ -69,4 +61,4 @@ union-some s (p ∷ ps) first ks h is e =
     let here : plan_kinds s (plan_seen p) ≡ Some ks = ap (λ q. plan_kinds s (plan_seen q)) (sym is) ∙ e in
     rw here (sym (alike-more ks (kinds_of_each s (plans (map plan_seen ps)))))
 
-pub ruleset plan_lists = (are_alike-more, alike-more, beside_all-more, onto-none, onto-nil, onto-more)
+pub ruleset plan_lists = (are_alike-more, alike-more, beside_all-more, onto_none, onto-nil, onto-more)

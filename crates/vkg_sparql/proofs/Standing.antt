@@ -1,7 +1,8 @@
 -- What the tokens of a query mean, where no check fails of them.
-use Rattle.std.proofs.Common.{◌≡◌, ◌∙◌, ℕ, ◌≤◌, ◌||◌, ◌&&◌, ◌==◌, Bool, true, false, if◌then◌else◌, zero, suc, List, [], ◌∷◌, codes, drop, map, Option, Some, None, option_map, refl, sym, ap, subst, arith, eqb-true}
+use Rattle.std.proofs.Common.{◌≡◌, ◌∙◌, ℕ, ◌≤◌, ◌||◌, ◌==◌, Bool, true, false, if◌then◌else◌, zero, suc, List, [], ◌∷◌, codes, drop, map, Option, Some, None, option_map, refl, sym, ap, subst, arith, eqb-true}
 use Rattle.std.specs.Prelude.{slice_get}
 use Rattle.std.specs.Str.{str_to_ascii_lowercase}
+use Rattle.std.proofs.lemmas.Bool.{and_right}
 use Rattle.vkg_grammar.specs.Kinds.{kinds_of}
 use Rattle.vkg_cells.specs.WellTyped.{is_well_typed, is_too_wide, is_wide_number}
 use Rattle.vkg_terms.specs.Vocabulary.{xsd}
@@ -70,12 +71,8 @@ passes_at check e (y ∷ xs) (suc i) x n h = passes_at check e xs i x (no_place 
 
 -- ---- terms that are no numbers
 
-no_and : (a b : Bool) → b ≡ false → (a && b) ≡ false
-no_and true b h = h
-no_and false b h = refl
-
 boolean_is_narrow : (text : List ℕ) → is_wide_number (typed text (codes "boolean")) ≡ false
-boolean_is_narrow text = no_and (is_well_typed (xsd (codes "boolean")) text) (is_too_wide (xsd (codes "boolean")) text) refl
+boolean_is_narrow text = and_right (is_well_typed (xsd (codes "boolean")) text) (is_too_wide (xsd (codes "boolean")) text) refl
 
 -- a number is another, or is not
 other : (P : ℕ → Type 0) (k n : ℕ) → P n → ((k == n) ≡ false → P k) → P k

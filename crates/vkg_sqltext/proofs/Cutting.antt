@@ -2,7 +2,7 @@
 use Rattle.std.proofs.Common.{◌≡◌, ◌≢◌, ◌∙◌, ℕ, ◌<◌, ◌≤◌, ◌^◌, ◌==◌, ◌&&◌, ◌⊎◌, inl, inr, Bool, true, false, not, if◌then◌else◌, List, [], ◌∷◌, ◌++◌, flat_map, length, refl, sym, ap, subst, arith, append_assoc, eqb-true, nat_le}
 use Rattle.std.specs.Prelude.{IsUtf8, chars, decimal}
 use Rattle.std.specs.List.{list_all}
-use Rattle.std.specs.Str.Parse.{AllDigits, digits_value}
+use Rattle.std.specs.Str.Parse.{AllDigits}
 use Rattle.std.proofs.Math.Utf8.{encode}
 use Rattle.std.proofs.lemmas.Bool.{eq-eqb}
 use Rattle.std.proofs.lemmas.Bool.Decides.{nat_tests}
@@ -10,7 +10,7 @@ use Rattle.std.proofs.lemmas.Fmt.{decimal_is_IsNumeral}
 use Rattle.std.proofs.lemmas.Str.{encode_same}
 use Rattle.std.proofs.lemmas.Str.Parse.{tells_digits}
 use Rattle.vkg_lists.proofs.Bools.{and_parts, and_true}
-use Rattle.vkg_terms.proofs.Octets.{head_same, tail_same}
+use Rattle.vkg_lists.proofs.Heads.{head_same, tail_same}
 use Rattle.vkg_sqltext.specs.Text.{doubled, quoted}
 use Rattle.vkg_terms.proofs.TextLemmas.{chars_same, starts}
 
@@ -53,9 +53,6 @@ all_digits (d ∷ ds) h =
 
 pub decimal_digits : (n : ℕ) → n < 2 ^ 64 → list_all is_digit (decimal n) ≡ true
 decimal_digits n h = all_digits (decimal n) (decimal_is_IsNumeral n h).0.1
-
-pub decimal_same : (m n : ℕ) → m < 2 ^ 64 → n < 2 ^ 64 → decimal m ≡ decimal n → m ≡ n
-decimal_same m n h k e = sym (decimal_is_IsNumeral m h).1 ∙ ap (digits_value 10) e ∙ (decimal_is_IsNumeral n k).1
 
 no_other : (b : ℕ) (ds x z : List ℕ) → 0 < length ds → list_all is_digit ds ≡ true → is_digit b ≡ false → b ∷ x ≡ ds ++ z → ⊥
 no_other b [] x z l h n e = absurd (omega (arith, l))

@@ -7,13 +7,14 @@ use Rattle.std.proofs.lemmas.Str.Ascii.{IsAscii-nil, IsAscii-push}
 use Rattle.std.proofs.lemmas.Bool.Decides.{nat_tests}
 use Rattle.std.proofs.lemmas.List.{append_cancel_left}
 use Rattle.std.proofs.lemmas.Str.{IsUtf8-append, IsUtf8-from_ascii}
+use Rattle.std.proofs.lemmas.Fmt.{decimal_injective}
 use Rattle.vkg_lists.proofs.Bools.{and_parts}
+use Rattle.vkg_lists.proofs.Heads.{head_same, tail_same}
 use Rattle.vkg_terms.specs.declared.term.Annotation.{Annotation}
 use Rattle.vkg_terms.specs.declared.term.Annotation.TheVariants.{Plain, Lang, Typed}
 use Rattle.vkg_terms.specs.declared.term.Term.{Term}
 use Rattle.vkg_terms.specs.NQuads.{term_text}
 use Rattle.vkg_terms.specs.Writable.{HoldsText}
-use Rattle.vkg_terms.proofs.Octets.{head_same, tail_same}
 use Rattle.vkg_terms.proofs.TextLemmas.{term_text_same}
 use Rattle.vkg_cells.specs.declared.cell.Cell.{Cell}
 use Rattle.vkg_cells.specs.declared.cell.Cell.TheVariants as cell
@@ -33,7 +34,7 @@ use Rattle.vkg_expr.specs.Typing.{fits}
 use Rattle.vkg_expr.specs.TermExprs.{text_const}
 use Rattle.vkg_sqltext.specs.Laws.{HoldsAnnotation, HoldsCell}
 use Rattle.vkg_sqltext.specs.Text.{commas, compare_text, constant_text, expr_text, expr_texts, kind_text, operator_text, quoted, take_text, test_text}
-use Rattle.vkg_sqltext.proofs.Cutting.{decimal_digits, decimal_same, is_digit, quoted_same, run_same, stops, stops_behind}
+use Rattle.vkg_sqltext.proofs.Cutting.{decimal_digits, is_digit, quoted_same, run_same, stops, stops_behind}
 
 -- what stands behind the word: nothing, a quoted text, one without a word, a number, a kind, a term, or arguments
 data Head : Type 0 where
@@ -526,7 +527,7 @@ head_one (Quote p) (Quote q) x y a s t u z e n same =
     (ap Quote r.0, r.1)
 head_one (Column i) (Column j) x y a s t u z e n same =
     let r = run_same is_digit (decimal (suc i)) (decimal (suc j)) x y (decimal_digits (suc i) s) (decimal_digits (suc j) t) (ends_digits u) (ends_digits z) same in
-    let g : suc i ≡ suc j = decimal_same (suc i) (suc j) s t r.0 in
+    let g : suc i ≡ suc j = decimal_injective (suc i) (suc j) s t r.0 in
     let h : i ≡ j = omega (arith, g) in
     (ap Column h, r.1)
 head_one (Cast k) (Cast l) x y a s t u z e n same =

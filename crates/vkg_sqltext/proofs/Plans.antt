@@ -4,13 +4,13 @@ use Rattle.std.specs.Prelude.{chars, codes, decimal}
 use Rattle.std.specs.List.{list_all}
 use Rattle.std.specs.Str.{bytes_eq}
 use Rattle.std.proofs.lemmas.List.{append_cancel_left}
+use Rattle.vkg_lists.proofs.Heads.{head_same, tail_same}
 use Rattle.vkg_cells.specs.declared.cell.SqlType.{SqlType}
 use Rattle.vkg_cells.specs.declared.cell.SqlType.TheVariants as kind
 use Rattle.vkg_schema.specs.Names.{HasOwnNames, table_name}
 use Rattle.vkg_expr.specs.Expr.{Expr, exprs}
 use Rattle.vkg_plan.specs.Kinds.{Tables}
 use Rattle.vkg_plan.specs.Plan.{Plan, Plans, Unit as Once, Empty, Scan, Select, Project, Join, Left, UnionAll, Distinct, Nil, More}
-use Rattle.vkg_terms.proofs.Octets.{head_same, tail_same}
 use Rattle.vkg_sqltext.specs.Laws.{HaveOwnTexts}
 use Rattle.vkg_sqltext.specs.Text.{column_text, commas, doubled, expr_text, in_brackets, kind_text, outputs, outputs_text, separated, sources, sql_text, sql_texts}
 use Rattle.vkg_sqltext.proofs.Cutting.{decimal_opens, run_same, stops, within_same}

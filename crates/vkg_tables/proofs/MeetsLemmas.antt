@@ -1,7 +1,9 @@
 -- A database without a fault meets its schema.
-use Rattle.std.proofs.Common.{◌≡◌, ◌∙◌, ◌+◌, ◌++◌, ◌&&◌, ◌||◌, ℕ, Bool, true, false, not, List, [], ◌∷◌, Option, Some, None, option_map, if◌then◌else◌, refl, sym, nat_lt, length}
+use Rattle.std.proofs.Common.{◌≡◌, ◌∙◌, ◌+◌, ◌++◌, ◌&&◌, ℕ, Bool, true, false, not, List, [], ◌∷◌, Option, Some, None, option_map, if◌then◌else◌, refl, sym, nat_lt, length}
 use Rattle.std.specs.Prelude.{IsFalse, IsTrue, slice_get}
 use Rattle.std.specs.List.{AllByRecursion, AllZip, list_any}
+use Rattle.vkg_lists.proofs.Heads.{any_more}
+use Rattle.vkg_lists.proofs.Bools.{neither}
 use Rattle.vkg_schema.specs.declared.table.Key.{Key}
 use Rattle.vkg_schema.specs.declared.table.Reference.{Reference}
 use Rattle.vkg_schema.specs.declared.table.Table.{Table}
@@ -12,12 +14,7 @@ use Rattle.vkg_tables.specs.Firsts.{earlier, first_after, first_orphan, first_re
 use Rattle.vkg_tables.proofs.Places.{first_fault, first_table, first_table-first, least_place, least_place-first}
 use Rattle.vkg_tables.specs.Seen.{HoldsCells}
 use Rattle.vkg_tables.specs.declared.fault.TableFault.{TableFault}
-use Rattle.vkg_tables.proofs.PartsLemmas.{any-push}
 use Rattle.vkg_schema.proofs.Found.{all_weaken}
-
-neither : (a b : Bool) → a || b ≡ false → (a ≡ false) × (b ≡ false)
-neither false b e = (refl, e)
-neither true b e = cc e
 
 -- no element passes
 none-step : {A : Type 0} (p : List A → A → Bool) (before : List A) (x : A) (xs : List A) → first_after p before (x ∷ xs) ≡ None → (p before x ≡ false) × (first_after p (before ++ x ∷ []) xs ≡ None)
@@ -31,7 +28,7 @@ apart : (key : List ℕ) (before : List Row) (r : Row) (rows : List Row) → All
     → AllByRecursion (λ s. IsFalse (agree (with_itself key) s r)) rows × AllByRecursion (λ s. repeats key before s ≡ false) rows
 apart key before r [] h = (tt, tt)
 apart key before r (s ∷ rows) h =
-    let two = neither (repeats key before s) (agree (with_itself key) s r) (sym (any-push (agree (with_itself key) s) before r) ∙ h.0) in
+    let two = neither (repeats key before s) (agree (with_itself key) s r) (sym (any_more (agree (with_itself key) s) before r) ∙ h.0) in
     let more = apart key before r rows h.1 in
     ((two.1, more.0), (two.0, more.1))
 

@@ -8,6 +8,7 @@ use Rattle.std.specs.Str.{bytes_eq}
 use Rattle.std.specs.Prelude.{String}
 use Rattle.std.specs.String.{string_eq}
 use Rattle.std.specs.Prelude.{Vec}
+use Rattle.vkg_lists.proofs.Heads.{any_more}
 use Rattle.vkg_cells.specs.declared.cell.Cell.{Cell}
 use Rattle.vkg_cells.specs.declared.cell.Cell.TheVariants as cell
 use Rattle.vkg_cells.specs.Order.{same, same_form}
@@ -229,17 +230,9 @@ cell_at-in (c ∷ row) (suc k) d h = cell_at-in row k d (omega (arith, h))
 texts-same : (f t : List (List ℕ)) → texts_eq f t ≡ true → f ≡ t
 texts-same f t e = (pointwise_decides bytes_decides f t).0 e
 
-pub any-push : {A : Type 0} (p : A → Bool) (xs : List A) (x : A) → list_any p (xs ++ x ∷ []) ≡ list_any p xs || p x
-any-push p [] x = or-false (p x)
-any-push p (y ∷ xs) x = ap (λ b. p y || b) (any-push p xs x) ∙ or-assoc (p y) (list_any p xs) (p x)
-  where
-    or-assoc : (a b c : Bool) → a || (b || c) ≡ (a || b) || c
-    or-assoc true b c = refl
-    or-assoc false b c = refl
-
 -- what is among them adds nothing
 settled : (f t : List (List ℕ)) (ks : List (List (List ℕ))) → list_any (texts_eq t) ks ≡ true → list_any (texts_eq f) ks ≡ list_any (texts_eq f) (ks ++ t ∷ [])
-settled f t ks e = by (texts_eq f t) refl ∙ sym (any-push (texts_eq f) ks t)
+settled f t ks e = by (texts_eq f t) refl ∙ sym (any_more (texts_eq f) ks t)
   where
     by : (b : Bool) → texts_eq f t ≡ b → list_any (texts_eq f) ks ≡ list_any (texts_eq f) ks || texts_eq f t
     by true h =
@@ -255,7 +248,7 @@ inserted f false vs v e = ap (list_any (texts_eq f)) (map-append (λ w. map stri
 -- a set with one list of strings more
 pub any-inserted : {Y Z : Type 0} (f : List (List ℕ)) (vs : List (Vec (String Y) Z)) (v : Vec (String Y) Z)
     → list_any (texts_eq f) (texts_of (if list_any (λ y. pointwise string_eq v.items y.items) vs then vs else vs ++ v ∷ [])) ≡ list_any (texts_eq f) (texts_of vs) || texts_eq f (map string_bytes v.items)
-any-inserted f vs v = inserted f (list_any (λ y. pointwise string_eq v.items y.items) vs) vs v (sym (any-texts v.items vs)) ∙ any-push (texts_eq f) (texts_of vs) (map string_bytes v.items)
+any-inserted f vs v = inserted f (list_any (λ y. pointwise string_eq v.items y.items) vs) vs v (sym (any-texts v.items vs)) ∙ any_more (texts_eq f) (texts_of vs) (map string_bytes v.items)
 
 pub any-parts-more : (f : List (List ℕ)) (ks : List (List (List ℕ))) (t : List (List ℕ)) → list_any (texts_eq f) (ks ++ t ∷ []) ≡ list_any (texts_eq f) ks || texts_eq f t
-any-parts-more f ks t = any-push (texts_eq f) ks t
+any-parts-more f ks t = any_more (texts_eq f) ks t

@@ -3,6 +3,7 @@ use Rattle.std.proofs.Common.{◌≡◌, ℕ, suc, ◌+◌, ◌<◌, refl, sym, 
 use Rattle.std.specs.Prelude.{◌&&◌, filter_map, slice_get, if◌then◌else◌, option_and_then}
 use Rattle.std.specs.List.{cons_option, enumerate_from}
 use Rattle.std.specs.Str.{bytes_eq}
+use Rattle.std.proofs.lemmas.Bool.{and_left}
 use Rattle.vkg_terms.specs.declared.term.Term.{Term}
 use Rattle.vkg_terms.specs.declared.term.Term.TheVariants.{Iri, Blank, Lit}
 use Rattle.vkg_terms.specs.Same.{term_eq, term_name, annotation_eq}
@@ -50,9 +51,6 @@ looked_up_from {A} name f by all k (t ∷ ts) at = split (bytes_eq name (term_na
 
 -- ---- one term has one text
 
-not_both : (b c : Bool) → b ≡ false → b && c ≡ false
-not_both b c e = ap (λ b. b && c) e
-
 other_text : (s t : Term) → bytes_eq (term_name s) (term_name t) ≡ false → term_eq s t ≡ false
 other_text (Iri a) (Iri b) e = e
 other_text (Iri a) (Blank b) e = refl
@@ -62,7 +60,7 @@ other_text (Blank a) (Blank b) e = e
 other_text (Blank a) (Lit b y) e = refl
 other_text (Lit a x) (Iri b) e = refl
 other_text (Lit a x) (Blank b) e = refl
-other_text (Lit a x) (Lit b y) e = not_both (bytes_eq a b) (annotation_eq x y) e
+other_text (Lit a x) (Lit b y) e = and_left (bytes_eq a b) (annotation_eq x y) e
 
 pub objects_found : (triples : List Triple) (node : Term) (property : List ℕ) → filter_map (given_at (object_if node property) triples) (numbers_named (term_name node) (enumerate_from 0 triples)) ≡ objects triples node property
 objects_found triples node property = looked_up_from (term_name node) (object_if node property) by triples 0 triples (λ i. let e : 0 + i ≡ i = omega arith in ap (λ j. slice_get triples j) e)

@@ -2,8 +2,9 @@
 use Rattle.std.proofs.Common.{◌≡◌, ◌<◌, ◌++◌, ◌/◌, ◌%◌, ℕ, List, [], ◌∷◌, true, ap, refl, arith, suc, ◌==◌}
 use Rattle.std.specs.Prelude.{flat_map, slice_index}
 use Rattle.std.proofs.lemmas.Bool.Decides.{nat_tests}
+use Rattle.vkg_lists.proofs.Heads.{head_same, tail_same}
 use Rattle.hex.specs.Hex.{encode_with, encode_lower, lower_digits, IsBytes}
-use Rattle.vkg_terms.proofs.Octets.{use_below, head_same, tail_same}
+use Rattle.vkg_terms.proofs.Octets.{use_below}
 use Rattle.vkg_terms.specs.Label.{blank_label, lower_hex}
 
 -- the digits of an octet

@@ -1,15 +1,9 @@
 -- Octets of a text, and tests of each.
-use Rattle.std.proofs.Common.{◌≡◌, ℕ, zero, suc, ◌+◌, ◌/◌, ◌<◌, ◌≤◌, refl, ◌∙◌, ap, [], ◌∷◌, List, Bool, true, false, not, cond, ◌&&◌, ◌||◌, ltb, arith, ◌⊎◌, ⊎_elim}
+use Rattle.std.proofs.Common.{◌≡◌, ℕ, zero, suc, ◌+◌, ◌/◌, ◌<◌, ◌≤◌, refl, ◌∙◌, ap, [], ◌∷◌, Bool, true, false, not, cond, ◌&&◌, ◌||◌, ltb, arith, ◌⊎◌, ⊎_elim}
 use Rattle.std.specs.List.{list_all}
 use Rattle.std.proofs.lemmas.Bool.{ltb-true}
 use Rattle.vkg_lists.proofs.Bools.{and_true, and_parts}
 use lib.Utf8.{encode, next, scalar}
-
-pub head_same : (a b : ℕ) (x y : List ℕ) → a ∷ x ≡ b ∷ y → a ≡ b
-head_same a b x y e = cc e
-
-pub tail_same : (a b : ℕ) (x y : List ℕ) → a ∷ x ≡ b ∷ y → x ≡ y
-tail_same a b x y e = cc e
 
 -- a test that was made of every number below n
 abbrev pub passes_below : ℕ → (ℕ → Bool) → Bool

@@ -15,7 +15,8 @@ use Rattle.vkg_terms.specs.declared.term.Term.TheVariants.{Iri, Blank, Lit}
 use Rattle.vkg_terms.specs.declared.term.Annotation.{Annotation}
 use Rattle.vkg_terms.specs.declared.term.Annotation.TheVariants.{Plain, Lang, Typed}
 use Rattle.vkg_lists.proofs.Bools.{and_true, and_parts}
-use Rattle.vkg_terms.proofs.Octets.{encode_all, scalar_below, head_same, tail_same}
+use Rattle.vkg_lists.proofs.Heads.{head_same, tail_same}
+use Rattle.vkg_terms.proofs.Octets.{encode_all, scalar_below}
 
 -- the character that an escape stands for
 abbrev unescaped : ℕ → ℕ

@@ -1,6 +1,6 @@
 use Rattle.std.proofs.Common.{◌≡◌, drop, string_bytes}
 use Rattle.vkg_expr.specs.Value.{concat_of}
-use Rattle.vkg_expr.proofs.Texts.{onto}
+use Rattle.vkg_lists.proofs.Onto.{onto}
 use Rattle.vkg_expr.proofs.lists.concatenation.Given as goal
 
 abbrev pub invariant-loop-cell : goal.invariant-loop-cell

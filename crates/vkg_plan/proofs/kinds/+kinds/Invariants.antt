@@ -3,7 +3,7 @@ use Rattle.std.specs.Prelude.{option_map}
 use Rattle.vkg_plan.specs.Kinds.{are_alike, joined, kinds_of_each}
 use Rattle.vkg_plan.specs.Plan.{plans}
 use Rattle.vkg_plan.specs.Seen.{plan_seen}
-use Rattle.vkg_plan.proofs.KindLists.{onto}
+use Rattle.vkg_lists.proofs.Onto.{onto}
 use Rattle.vkg_plan.proofs.kinds.+kinds.Given as goal
 
 abbrev pub invariant-all_kinds-loop-p : goal.invariant-all_kinds-loop-p
