@@ -1,6 +1,7 @@
 -- What follows from the answer, status by status.
 use Rattle.std.proofs.Common.{◌≡◌, ◌⊎◌, inl, inr, ℕ, List, refl, sym, ◌∙◌, ap, subst, Ok, Err, Some}
 use Rattle.std.specs.Prelude.{Result}
+use Rattle.vkg_lists.proofs.Results.{ok_same, ok_err}
 use Rattle.vkg_base.specs.Outside.{Files, Rose, Took}
 use Rattle.vkg_base.specs.Written.{written}
 use Rattle.vkg_base.specs.declared.status.Status.{Status}
@@ -21,24 +22,18 @@ use Rattle.vkg_cli.proofs.Whole.{determined_work}
 abbrev Lines : Type 0
 Lines = List (List ℕ)
 
-not_both : (lines : Lines) (fault : Fault) → (let one : Result Lines Stop = Ok lines in one ≡ Err (stop.Refused fault)) → ⊥
-not_both lines fault e = cc
-
 one_fault : (fault other : Fault) → (let one : Result Lines Stop = Err (stop.Refused fault) in one ≡ Err (stop.Refused other)) → fault ≡ other
 one_fault fault other e = cc
 
-one_text : (lines others : Lines) → (let one : Result Lines Stop = Ok lines in one ≡ Ok others) → lines ≡ others
-one_text lines others e = cc
-
 module _ (command : Command) (files : Files) where
   text_or_fault : (lines : Lines) (fault : Fault) → HasText command files lines → HasFault command files fault → ⊥
-  text_or_fault lines fault text has = not_both lines fault ((determined_work command files).one_outcome text.0 has.0 _ _ text.1 has.1)
+  text_or_fault lines fault text has = ok_err lines (stop.Refused fault) ((determined_work command files).one_outcome text.0 has.0 _ _ text.1 has.1)
 
   first_fault : (fault other : Fault) → HasFault command files fault → HasFault command files other → fault ≡ other
   first_fault fault other has also = one_fault fault other ((determined_work command files).one_outcome has.0 also.0 _ _ has.1 also.1)
 
   same_text : (lines others : Lines) → HasText command files lines → HasText command files others → lines ≡ others
-  same_text lines others text also = one_text lines others ((determined_work command files).one_outcome text.0 also.0 _ _ text.1 also.1)
+  same_text lines others text also = ok_same lines others ((determined_work command files).one_outcome text.0 also.0 _ _ text.1 also.1)
 
 module _ (command : Command) (old new : World) where
   untouched_by : (status : Status) → Ends command old new status → IsUntouched old new status

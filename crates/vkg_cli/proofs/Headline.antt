@@ -6,6 +6,7 @@ use Rattle.std.proofs.lemmas.Option.{slice_get-get_or}
 use Rattle.std.proofs.Math.Seq.{get_or-append_seam, set-append_seam}
 use Rattle.std.specs.List.{AllZip, slice_get, slice_set}
 use Rattle.std.specs.Prelude.{Option, None, Result}
+use Rattle.vkg_lists.proofs.Results.{ok_same, ok_err}
 use Rattle.vkg_base.specs.Outside.{Files, held}
 use Rattle.vkg_schema.specs.declared.table.Table.{Table}
 use Rattle.vkg_schema.specs.declared.table.Column.{Column}
@@ -36,7 +37,6 @@ use Rattle.vkg_cli.specs.Work.{unless_fault as unless_table}
 use Rattle.vkg_cli.specs.Answer.{HasText}
 use Rattle.vkg_cli.specs.Headline.{HoldDatabase, HoldDataset, HoldsMapping, HoldsQuery, HoldsSchema, HoldsTable, HoldsText, IsAnswered, IsDump, IsSql, IsTextOf}
 use Rattle.vkg_cli.proofs.LoadLemmas.{faultless_of}
-use Rattle.vkg_cli.proofs.Ran.{no_stop}
 
 -- a file within a limit is not cut
 uncut : (limit m : ℕ) (file : List ℕ) → limit ≡ m + 1 → nat_lt m (length (take limit file)) ≡ false → take limit file ≡ file
@@ -50,7 +50,7 @@ given limit None bytes e = cc e
 given limit (Some whole) bytes e = (whole, refl, cc e)
 
 schema_of : (long : Bool) (bytes : List ℕ) (tables : List Table) → UnlessLong long bytes (Ok tables) → (long ≡ false) × IsSchemaOf bytes tables
-schema_of true bytes tables is = absurd (no_stop tables _ is)
+schema_of true bytes tables is = absurd (ok_err tables _ is)
 schema_of false bytes tables is = (refl, is)
 
 -- the table's file of a loaded table
@@ -71,9 +71,6 @@ at_seam : {A : Type 0} (xs : List A) (y : A) (ys : List A) → slice_get (xs ++ 
 at_seam xs y ys =
     slice_get-get_or (xs ++ y ∷ ys) (length xs) y (omega (arith, length-append xs (y ∷ ys))) ∙ ap (λ v. Some v) (get_or-append_seam xs y ys y)
 
-same_db : (db other : Seen) → (let one : Result Seen Stop = Ok db in one ≡ Ok other) → db ≡ other
-same_db db other e = cc
-
 abbrev with_tables : List Table → List (List Row) → Seen
 with_tables schema tables = record { schema = schema; tables = tables }
 
@@ -92,7 +89,7 @@ module _ (files : Files) (folder : List ℕ) where
         record { bytes = file.0; file = file.1; reads = ap (table_of_bytes table.columns) (sym whole ∙ sym file.2) ∙ rows },
         read.2,
       )
-  one_table db next k table names (stops stop load is) columns = absurd (no_stop next stop is)
+  one_table db next k table names (stops stop load is) columns = absurd (ok_err next stop is)
 
   -- the rows of the tables from one on
   all_tables : (tables : List Table) (db final : Seen) (k : ℕ) (names : List (List ℕ)) (before : List Table) (done rest : List (List Row))
@@ -101,7 +98,7 @@ module _ (files : Files) (folder : List ℕ) where
       → (loaded_rows : List (List Row)) × (final ≡ with_tables db.schema (done ++ loaded_rows)) × AllZip (HoldsTable files folder) tables loaded_rows
   unfolding Settles
   all_tables [] db final k names before done [] is schema place tables behind same =
-      ([], same_db final db (is.1) ∙ ap (λ (l : List (List Row)). with_tables db.schema l) tables, tt)
+      ([], ok_same final db (is.1) ∙ ap (λ (l : List (List Row)). with_tables db.schema l) tables, tt)
   all_tables [] db final k names before done (r ∷ rest) is schema place tables behind same = absurd (omega arith)
   all_tables (t ∷ ts) db final k names before done [] is schema place tables behind same = absurd (omega arith)
   all_tables (t ∷ ts) db final k names before done (r ∷ rest) (goes_on next head tail first later is) schema place tables behind same =
@@ -117,7 +114,7 @@ module _ (files : Files) (folder : List ℕ) where
         others.1 ∙ ap₂ with_tables (ap (λ (d : Seen). d.schema) one.2) (append_assoc done (one.0 ∷ []) others.0),
         (one.1, others.2),
       )
-  all_tables (t ∷ ts) db final k names before done rest (stops stop first is) schema place tables behind same = absurd (no_stop final stop is)
+  all_tables (t ∷ ts) db final k names before done rest (stops stop first is) schema place tables behind same = absurd (ok_err final stop is)
 
 given_direct : (made : Result Mapping DirectError) (mapping : Mapping) → (let one : Result Mapping Stop = Ok mapping in one ≡ direct_or made) → made ≡ Ok mapping
 given_direct (Ok other) mapping e = cc
@@ -128,7 +125,7 @@ given_mapping (Ok other) mapping e = cc
 given_mapping (Err e) mapping is = cc is
 
 triples_of : (long : Bool) (bytes base : List ℕ) (triples : List Triple) → SaysUnlessLong long bytes base (Ok triples) → (long ≡ false) × IsDocumentOf bytes base triples
-triples_of true bytes base triples is = absurd (no_stop triples _ is)
+triples_of true bytes base triples is = absurd (ok_err triples _ is)
 triples_of false bytes base triples is = (refl, is)
 
 no_data : (found : Option DataFault) (mapping other : Mapping) → (let one : Result Mapping Stop = Ok mapping in one ≡ unless_data found (Ok other)) → (found ≡ None) × (mapping ≡ other)
@@ -140,7 +137,7 @@ unless_key None v later e = e
 unless_key (Some f) v later e = cc e
 
 query_of : (long : Bool) (bytes base : List ℕ) (asked : Query) → SaysQueryUnlessLong long bytes base (Ok asked) → (long ≡ false) × IsQuery bytes base asked
-query_of true bytes base asked is = absurd (no_stop asked _ is)
+query_of true bytes base asked is = absurd (ok_err asked _ is)
 query_of false bytes base asked is = (refl, is)
 
 one_line : (lines others : List (List ℕ)) → (let one : Result (List (List ℕ)) Stop = Ok lines in one ≡ Ok others) → lines ≡ others
@@ -154,7 +151,7 @@ module _ (files : Files) (schema : List Table) (base : List ℕ) (mapping : Mapp
   read_text bytes names (goes_on triples head tail settled maps is) =
       let says = triples_of (nat_lt 2147483647 (length bytes)) bytes base triples (settled.1) in
       (says.0, (triples, says.1, given_mapping (mapping_of triples schema base) mapping (maps.1)))
-  read_text bytes names (stops stop settled is) = absurd (no_stop mapping stop is)
+  read_text bytes names (stops stop settled is) = absurd (ok_err mapping stop is)
 
   text_holds : (name : List ℕ) (names : List (List ℕ)) → LoadsText files name schema base names (Ok mapping) → HoldsText files name schema base mapping
   unfolding Loads
@@ -163,7 +160,7 @@ module _ (files : Files) (schema : List Table) (base : List ℕ) (mapping : Mapp
       let read = read_text bytes tail later in
       let whole = uncut LIMIT 2147483647 file.0 refl (ap (λ b. nat_lt 2147483647 (length b)) (sym file.2) ∙ read.0) in
       record { bytes = file.0; file = file.1; triples = read.1.0; says = subst (λ b. IsDocumentOf b base read.1.0) (file.2 ∙ whole) read.1.1; reads = read.1.2 }
-  text_holds name names (stops stop load is) = absurd (no_stop mapping stop is)
+  text_holds name names (stops stop load is) = absurd (ok_err mapping stop is)
 
   mapping_holds : (file : Option (List ℕ)) (names : List (List ℕ)) → LoadsMapping files file schema base names (Ok mapping) → HoldsMapping files file schema base mapping
   unfolding MapsDirectly Settles
@@ -178,7 +175,7 @@ module _ (files : Files) where
       let says = schema_of (nat_lt 2147483647 (length bytes)) bytes schema (settled.1) in
       let whole = uncut LIMIT 2147483647 file.0 refl (ap (λ b. nat_lt 2147483647 (length b)) (sym file.2) ∙ says.0) in
       record { text = file.0; file = file.1; says = subst (λ b. IsSchemaOf b schema) (file.2 ∙ whole) says.1 }
-  schema_holds name schema names (stops stop load is) = absurd (no_stop schema stop is)
+  schema_holds name schema names (stops stop load is) = absurd (ok_err schema stop is)
 
   query_holds : (name base : List ℕ) (asked : Query) (names : List (List ℕ)) → LoadsQuery files name base names (Ok asked) → HoldsQuery files name base asked
   unfolding Loads ReadsQuery Settles
@@ -187,11 +184,11 @@ module _ (files : Files) where
       let says = query_of (nat_lt 2147483647 (length bytes)) bytes base asked (settled.1) in
       let whole = uncut LIMIT 2147483647 file.0 refl (ap (λ b. nat_lt 2147483647 (length b)) (sym file.2) ∙ says.0) in
       record { bytes = file.0; file = file.1; says = subst (λ b. IsQuery b base asked) (file.2 ∙ whole) says.1 }
-  query_holds name base asked names (stops stop load is) = absurd (no_stop asked stop is)
+  query_holds name base asked names (stops stop load is) = absurd (ok_err asked stop is)
 
   -- a loaded database that was checked is the one that was loaded
   checked_is : (db met : Seen) → (let one : Result Seen Stop = Ok met in one ≡ checks db) → met ≡ db
-  checked_is db met e = same_db met db (unless_key (reference_fault db.schema db.tables) met (Ok db) (unless_key (key_fault db.schema db.tables) met _ e))
+  checked_is db met e = ok_same met db (unless_key (reference_fault db.schema db.tables) met (Ok db) (unless_key (key_fault db.schema db.tables) met _ e))
 
   tables_hold : (name folder : List ℕ) (schema : List Table) (met : Seen) (names : List (List ℕ)) → HoldsSchema files name schema
       → Then (LoadsTables files folder (without_rows schema) 0 schema) (λ db. Settles (Checks db)) names (Ok met) → (met.schema ≡ schema) × HoldDatabase files name folder schema met.tables
@@ -202,13 +199,13 @@ module _ (files : Files) where
       let meets : MeetsSchema schema met.tables = subst (λ s. MeetsSchema s met.tables) (ap (λ (d : Seen). d.schema) same) (checked.1.1) in
       let hold : AllZip (HoldsTable files folder) schema met.tables = subst (λ (t : List (List Row)). AllZip (HoldsTable files folder) schema t) (sym (ap (λ (d : Seen). d.tables) same)) all.2 in
       (ap (λ (d : Seen). d.schema) same, record { says = says; tables = hold; meets = meets })
-  tables_hold name folder schema met names says (stops stop tables is) = absurd (no_stop met stop is)
+  tables_hold name folder schema met names says (stops stop tables is) = absurd (ok_err met stop is)
 
   database_holds : (name folder : List ℕ) (db : Seen) (names : List (List ℕ)) → LoadsDatabase files name folder names (Ok db) → HoldDatabase files name folder db.schema db.tables
   database_holds name folder db names (goes_on schema head tail load later is) =
       let hold = tables_hold name folder schema db tail (schema_holds name schema head load) later in
       subst (λ s. HoldDatabase files name folder s db.tables) (sym hold.0) hold.1
-  database_holds name folder db names (stops stop load is) = absurd (no_stop db stop is)
+  database_holds name folder db names (stops stop load is) = absurd (ok_err db stop is)
 
   -- a mapping without a data error over a database that meets its schema
   dataset_holds : (name folder base : List ℕ) (file : Option (List ℕ)) (db : Seen) (mapping : Mapping) (names : List (List ℕ))
@@ -219,7 +216,7 @@ module _ (files : Files) where
       let mapped = subst (λ m. HoldsMapping files file db.schema base m) (sym none.1) (mapping_holds files db.schema base first file head load) in
       let faultless = subst (λ m. data_faults m db.tables ≡ []) (sym none.1) (faultless_of db.tables first none.0) in
       record { hold = hold; mapped = mapped; faultless = faultless }
-  dataset_holds name folder base file db mapping names hold (stops stop load is) = absurd (no_stop mapping stop is)
+  dataset_holds name folder base file db mapping names hold (stops stop load is) = absurd (ok_err mapping stop is)
 
   module _ (lines : List (List ℕ)) where
     dump_is : (words : DumpWords) (names : List (List ℕ)) → Works (dump words) files names (Ok lines) → IsDump words files lines
@@ -230,8 +227,8 @@ module _ (files : Files) where
             → Then (LoadsFaultless files words.mapping db words.base) (λ mapping. Settles (Dumps db.tables mapping)) rest (Ok lines) → IsDump words files lines
         by hold (goes_on mapping first last maps dumps same) =
             record { schema = db.schema; db = db.tables; mapping = mapping; hold = dataset_holds words.schema words.folder words.base words.mapping db mapping first hold maps; lines_are = dumps.1.1 }
-        by hold (stops stop maps same) = absurd (no_stop lines stop same)
-    dump_is words names (stops stop load is) = absurd (no_stop lines stop is)
+        by hold (stops stop maps same) = absurd (ok_err lines stop same)
+    dump_is words names (stops stop load is) = absurd (ok_err lines stop is)
 
     answer_is : (words : QueryWords) (db : Seen) (mapping : Mapping) (names : List (List ℕ)) → HoldDataset files words.schema words.folder words.base words.mapping db.schema db.tables mapping
         → Then (LoadsQuery files words.query words.base) (λ asked. Settles (GivesAnswer db mapping asked)) names (Ok lines) → IsAnswered words files lines
@@ -246,7 +243,7 @@ module _ (files : Files) where
       lines_are = one_line lines _ (answers.1.0);
       rows_are = answers.1.1;
     }
-    answer_is words db mapping names hold (stops stop load is) = absurd (no_stop lines stop is)
+    answer_is words db mapping names hold (stops stop load is) = absurd (ok_err lines stop is)
 
     query_is : (words : QueryWords) (names : List (List ℕ)) → Works (query words) files names (Ok lines) → IsAnswered words files lines
     query_is words names (goes_on db head tail load later is) = by (database_holds words.schema words.folder db head load) later
@@ -256,8 +253,8 @@ module _ (files : Files) where
             → IsAnswered words files lines
         by hold (goes_on mapping first last maps asks same) =
             answer_is words db mapping last (dataset_holds words.schema words.folder words.base words.mapping db mapping first hold maps) asks
-        by hold (stops stop maps same) = absurd (no_stop lines stop same)
-    query_is words names (stops stop load is) = absurd (no_stop lines stop is)
+        by hold (stops stop maps same) = absurd (ok_err lines stop same)
+    query_is words names (stops stop load is) = absurd (ok_err lines stop is)
 
     sql_is : (words : SqlWords) (names : List (List ℕ)) → Works (sql words) files names (Ok lines) → IsSql words files lines
     unfolding Settles
@@ -274,14 +271,14 @@ module _ (files : Files) where
           says = query_holds words.query words.base asked first asks;
           lines_are = one_line lines _ (text.1);
         }
-        last_is mapping says mapped (stops stop asks same) = absurd (no_stop lines stop same)
+        last_is mapping says mapped (stops stop asks same) = absurd (ok_err lines stop same)
 
         by : {rest : List (List ℕ)} → HoldsSchema files words.schema schema
             → Then (LoadsMapping files words.mapping schema words.base) (λ mapping. Then (LoadsQuery files words.query words.base) (λ asked. Settles (GivesText schema mapping asked))) rest (Ok lines)
             → IsSql words files lines
         by says (goes_on mapping first last maps asks same) = last_is mapping says (mapping_holds files schema words.base mapping words.mapping first maps) asks
-        by says (stops stop maps same) = absurd (no_stop lines stop same)
-    sql_is words names (stops stop load is) = absurd (no_stop lines stop is)
+        by says (stops stop maps same) = absurd (ok_err lines stop same)
+    sql_is words names (stops stop load is) = absurd (ok_err lines stop is)
 
 pub headline : (command : Command) (files : Files) (lines : List (List ℕ)) → HasText command files lines → IsTextOf command files lines
 headline (dump words) files lines (names, works) = dump_is files lines words names works

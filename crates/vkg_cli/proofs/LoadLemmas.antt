@@ -12,17 +12,15 @@ use Rattle.vkg_tables.specs.declared.fault.TableFault.{TableFault}
 use Rattle.vkg_cli.specs.Stages.{Answers, carried, done_or}
 use Rattle.vkg_tables.specs.Seen.{Seen}
 use Rattle.vkg_lists.specs.Firsts.{first_of}
+use Rattle.vkg_lists.proofs.Results.{ok_err}
 use Rattle.vkg_tables.specs.Checks.{key_fault, reference_fault}
 use Rattle.vkg_cli.specs.Work.{Checks, Scans, checked, data_stop, table_stop, unless_data, unless_fault}
 
 pub same_error : {A B : Type 0} (stop other : Stop) → (let one : Result A Stop = Err stop in one ≡ Err other) → (let one : Result B Stop = Err stop in one ≡ Err other)
 same_error stop other e = cc
 
-no_value : (stop : Stop) → (let one : Result (Unit {0}) Stop = Err stop in one ≡ Ok tt) → ⊥
-no_value stop e = cc
-
 refused_by : {A : Type 0} (found : Option TableFault) (stop : Stop) (later : Result A Stop) → (let one : Result (Unit {0}) Stop = Err stop in one ≡ checked found) → (let one : Result A Stop = Err stop in one ≡ unless_fault found later)
-refused_by None stop later e = absurd (no_value stop e)
+refused_by None stop later e = absurd (ok_err tt stop (sym e))
 refused_by {A} (Some f) stop later e = same_error {A = Unit {0}} {B = A} stop (table_stop f) e
 
 pub none_found : (found : Option TableFault) → (let one : Result (Unit {0}) Stop = Ok tt in one ≡ checked found) → found ≡ None

@@ -5,6 +5,7 @@ use Rattle.std.proofs.lemmas.Option.{same_Some}
 use Rattle.std.specs.Option.{option_map}
 use Rattle.std.proofs.Math.Seq.{take-append-add}
 use Rattle.std.specs.Prelude.{Result, Option, None}
+use Rattle.vkg_lists.proofs.Results.{ok_same, ok_err}
 use Rattle.vkg_base.specs.Outside.{Files, StoreState, Rose, held, Gives}
 use Rattle.vkg_cli.specs.declared.stops.Stop.{Stop}
 use Rattle.vkg_cli.specs.declared.stops.Stop.TheVariants.{Refused, Read, Memory}
@@ -27,29 +28,23 @@ determined_loads limit files name = record {
   one_outcome = λ m n o p first second. first.1 ∙ sym second.1;
 }
 
-same_value : {A : Type 0} (v w : A) → (let one : Result A Stop = Ok v in one ≡ Ok w) → v ≡ w
-same_value v w e = cc
-
-pub no_stop : {A : Type 0} (v : A) (stop : Stop) → (let one : Result A Stop = Ok v in one ≡ Err stop) → ⊥
-no_stop v stop e = cc
-
 module _ {A B : Type 0} (stage : Stage A) (rest : A → Stage B) (first : IsDetermined stage) (second : (v : A) → IsDetermined (rest v)) where
   then_list : (m n : List (List ℕ)) (o p : Result B Stop) → Then stage rest m o → Then stage rest n p → m ≡ n
   then_list m n o p (goes_on v before after done went is) (goes_on w before' after' done' went' is') =
       let head = first.one_list before before' (Ok v) (Ok w) done done' in
-      let same = same_value v w (first.one_outcome before before' (Ok v) (Ok w) done done') in
+      let same = ok_same v w (first.one_outcome before before' (Ok v) (Ok w) done done') in
       let tail = (second w).one_list after after' o p (subst (λ x. rest x after o) same went) went' in
       is ∙ ap (λ (l : List (List ℕ)). l ++ after) head ∙ ap (λ (l : List (List ℕ)). before' ++ l) tail ∙ sym is'
-  then_list m n o p (goes_on v before after done went is) (stops stop done' is') = absurd (no_stop v stop (first.one_outcome before n (Ok v) (Err stop) done done'))
-  then_list m n o p (stops stop done is) (goes_on v before after done' went is') = absurd (no_stop v stop (first.one_outcome before m (Ok v) (Err stop) done' done))
+  then_list m n o p (goes_on v before after done went is) (stops stop done' is') = absurd (ok_err v stop (first.one_outcome before n (Ok v) (Err stop) done done'))
+  then_list m n o p (stops stop done is) (goes_on v before after done' went is') = absurd (ok_err v stop (first.one_outcome before m (Ok v) (Err stop) done' done))
   then_list m n o p (stops stop done is) (stops other done' is') = first.one_list m n (Err stop) (Err other) done done'
 
   then_outcome : (m n : List (List ℕ)) (o p : Result B Stop) → Then stage rest m o → Then stage rest n p → o ≡ p
   then_outcome m n o p (goes_on v before after done went is) (goes_on w before' after' done' went' is') =
-      let same = same_value v w (first.one_outcome before before' (Ok v) (Ok w) done done') in
+      let same = ok_same v w (first.one_outcome before before' (Ok v) (Ok w) done done') in
       (second w).one_outcome after after' o p (subst (λ x. rest x after o) same went) went'
-  then_outcome m n o p (goes_on v before after done went is) (stops stop done' is') = absurd (no_stop v stop (first.one_outcome before n (Ok v) (Err stop) done done'))
-  then_outcome m n o p (stops stop done is) (goes_on v before after done' went is') = absurd (no_stop v stop (first.one_outcome before m (Ok v) (Err stop) done' done))
+  then_outcome m n o p (goes_on v before after done went is) (stops stop done' is') = absurd (ok_err v stop (first.one_outcome before n (Ok v) (Err stop) done done'))
+  then_outcome m n o p (stops stop done is) (goes_on v before after done' went is') = absurd (ok_err v stop (first.one_outcome before m (Ok v) (Err stop) done' done))
   then_outcome m n o p (stops stop done is) (stops other done' is') =
       is ∙ same_error {A = A} {B = B} stop other (first.one_outcome m n (Err stop) (Err other) done done') ∙ sym is'
 
@@ -91,7 +86,7 @@ module _ {A B : Type 0} (stage : Stage A) (rest : A → Stage B) (v : A) (before
   some_of : IsDetermined stage → AsksSome (rest v) mid now → (names : List (List ℕ)) (outcome : Result B Stop) → Then stage rest names outcome → (n : ℕ) × (now ≡ before ++ take n names)
   some_of one some names outcome (goes_on w head tail done went is) =
       let heads = one.one_list first.0 head (Ok v) (Ok w) first.1 done in
-      let same = same_value v w (one.one_outcome first.0 head (Ok v) (Ok w) first.1 done) in
+      let same = ok_same v w (one.one_outcome first.0 head (Ok v) (Ok w) first.1 done) in
       let asked = some tail outcome (subst (λ x. rest x tail outcome) (sym same) went) in (
         length head + asked.0,
         asked.1
@@ -99,7 +94,7 @@ module _ {A B : Type 0} (stage : Stage A) (rest : A → Stage B) (v : A) (before
             ∙ append_assoc before head (take asked.0 tail)
             ∙ ap (λ (l : List (List ℕ)). before ++ l) (sym (take-append-add head tail asked.0) ∙ ap (take (length head + asked.0)) (sym is)),
       )
-  some_of one some names outcome (stops stop done is) = absurd (no_stop v stop (one.one_outcome first.0 names (Ok v) (Err stop) first.1 done))
+  some_of one some names outcome (stops stop done is) = absurd (ok_err v stop (one.one_outcome first.0 names (Ok v) (Err stop) first.1 done))
 
   on_value : IsDetermined stage → (result : Result B Stop) → Matches (rest v) mid now result → Matches (Then stage rest) before now result
   on_value one (Ok w) second = asked_then (Ok w) second
