@@ -1,3 +1,8 @@
+pub mod Asked
 pub mod Chains
+pub mod EscapeLemmas
 pub mod Maps
 pub mod OneMore
+pub mod QuadLemmas
+pub mod SeenForms
+pub mod TermLemmas

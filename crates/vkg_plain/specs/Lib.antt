@@ -1,1 +1,4 @@
+pub mod Asks
 pub mod Chains
+pub mod Reading
+pub mod Wide

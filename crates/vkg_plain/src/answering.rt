@@ -1,9 +1,10 @@
 // The solutions of a query (SPARQL 1.1, 18.2.5).
-ghost use Rattle.std.specs.Prelude.{◌≡◌, IfOk, map};
+ghost use Rattle.std.specs.Prelude.{◌≡◌, IfErr, IfOk, None, length, map, true};
 ghost use Rattle.vkg_sparql.specs.Seen.{query_seen};
 ghost use Rattle.vkg_algebra.specs.Answer.{projected as projected_to, solutions_of};
 ghost use Rattle.vkg_algebra.specs.Seen.{algebra_seen};
 ghost use Rattle.vkg_algebra.specs.Translation.{algebra_of};
+ghost use Rattle.vkg_plain.specs.Asks.{asks_over};
 
 use crate::distinct::once_each;
 use crate::evaluation::evaluate;
@@ -18,7 +19,8 @@ use vkg_terms::Term;
 
 /// The solutions of a query over a dataset: the selected variables are kept, and with DISTINCT each solution once.
 pub fn answer(alloc: Global, query: &Query, quads: &[Quad]) -> Result<Items<Solution>, PlainFault>
-    ensures { IfOk result (λ rows. rows ≡ solutions_of (query_seen query.now) quads.now) }
+    ensures value { IfOk result (λ rows. rows ≡ solutions_of (query_seen query.now) quads.now) }
+    ensures wide { IfErr result (λ f. f ≡ PlainFault.WideNumber → asks_over (length (query_seen query.now).names) quads.now (algebra_of (query_seen query.now)) None ≡ true) }
 {
     let algebra = translate(alloc, query)?;
     answer_by(alloc, query, &algebra, quads)
@@ -32,7 +34,8 @@ fn answer_by(
     quads: &[Quad],
 ) -> Result<Items<Solution>, PlainFault>
     requires { algebra_seen algebra.now ≡ algebra_of (query_seen query.now) }
-    ensures { IfOk result (λ rows. rows ≡ solutions_of (query_seen query.now) quads.now) }
+    ensures value { IfOk result (λ rows. rows ≡ solutions_of (query_seen query.now) quads.now) }
+    ensures wide { IfErr result (λ f. f ≡ PlainFault.WideNumber → asks_over (length (query_seen query.now).names) quads.now (algebra_of (query_seen query.now)) None ≡ true) }
 {
     let variables = selected_variables(alloc, query, algebra)?;
     let rows = evaluate(alloc, query.names.len(), quads, algebra, &None)?;

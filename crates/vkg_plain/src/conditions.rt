@@ -1,10 +1,13 @@
 // The value of a condition in a solution (SPARQL 1.1, 17), and the solutions of which it is true (18.5, Filter).
-ghost use Rattle.std.specs.Prelude.{◌≡◌, IfOk, IsOkAnd, map, fold, filter};
+ghost use Rattle.std.specs.Prelude.{◌≡◌, IfErr, IfOk, IsOkAnd, map, fold, filter, true};
+ghost use Rattle.std.specs.List.{list_any};
 ghost use Rattle.vkg_sparql.specs.Seen.{condition_seen};
 ghost use Rattle.vkg_algebra.specs.Seen.{condition_seen_if_any};
 ghost use Rattle.vkg_schema.specs.Rows.{is_known_true};
 ghost use Rattle.vkg_algebra.specs.Values.{expression_value, holds as holds_in, holds_if_any as holds_in_if_any};
+ghost use Rattle.vkg_plain.specs.Asks.{asks, asks_if_any, asks_truth};
 ghost use Rattle.vkg_plain.specs.Chains.{both_value, either_value};
+ghost use Rattle.vkg_plain.specs.Wide.{are_asked, is_chain_asked};
 
 use crate::fault::PlainFault;
 use crate::solution::{Solution, copied, copy_solution, lookup};
@@ -22,7 +25,8 @@ pub fn holds(
     condition: &Condition,
     solution: &[Option<Term>],
 ) -> Result<bool, PlainFault>
-    ensures { IfOk result (λ b. b ≡ holds_in (condition_seen condition.now) solution.now) }
+    ensures value { IfOk result (λ b. b ≡ holds_in (condition_seen condition.now) solution.now) }
+    ensures wide { IfErr result (λ f. f ≡ PlainFault.WideNumber → asks_truth (condition_seen condition.now) solution.now ≡ true) }
 {
     let value = value(alloc, condition, solution)?;
     Ok(is_true(truth(alloc, &value)?))
@@ -43,7 +47,8 @@ pub fn holds_if_any(
     condition: &Option<Box<Condition>>,
     solution: &[Option<Term>],
 ) -> Result<bool, PlainFault>
-    ensures { IfOk result (λ b. b ≡ holds_in_if_any (condition_seen_if_any condition.now) solution.now) }
+    ensures value { IfOk result (λ b. b ≡ holds_in_if_any (condition_seen_if_any condition.now) solution.now) }
+    ensures wide { IfErr result (λ f. f ≡ PlainFault.WideNumber → asks_if_any (condition_seen_if_any condition.now) solution.now ≡ true) }
 {
     match condition {
         Some(condition) => holds(alloc, condition, solution),
@@ -57,7 +62,8 @@ pub fn kept(
     condition: &Condition,
     rows: &[Solution],
 ) -> Result<Items<Solution>, PlainFault>
-    ensures { IfOk result (λ out. out ≡ filter (holds_in (condition_seen condition.now)) rows.now) }
+    ensures value { IfOk result (λ out. out ≡ filter (holds_in (condition_seen condition.now)) rows.now) }
+    ensures wide { IfErr result (λ f. f ≡ PlainFault.WideNumber → list_any (asks_truth (condition_seen condition.now)) rows.now ≡ true) }
 {
     let mut out = Items::new(alloc);
     for row in rows {
@@ -74,7 +80,8 @@ fn value(
     condition: &Condition,
     solution: &[Option<Term>],
 ) -> Result<Option<Term>, PlainFault>
-    ensures { IfOk result (λ v. v ≡ expression_value (condition_seen condition.now) solution.now) }
+    ensures value { IfOk result (λ v. v ≡ expression_value (condition_seen condition.now) solution.now) }
+    ensures wide { IfErr result (λ f. f ≡ PlainFault.WideNumber → asks (condition_seen condition.now) solution.now ≡ true) }
 {
     match condition {
         Condition::Variable(variable) => Ok(copied(lookup(solution, *variable))?),
@@ -117,7 +124,8 @@ fn values(
     conditions: &[Condition],
     solution: &[Option<Term>],
 ) -> Result<Items<Option<Term>>, PlainFault>
-    ensures { IfOk result (λ vs. vs ≡ map (λ c. expression_value (condition_seen c) solution.now) conditions.now) }
+    ensures value { IfOk result (λ vs. vs ≡ map (λ c. expression_value (condition_seen c) solution.now) conditions.now) }
+    ensures wide { IfErr result (λ f. f ≡ PlainFault.WideNumber → list_any (λ c. asks (condition_seen c) solution.now) conditions.now ≡ true) }
 {
     let mut found = Items::new(alloc);
     for condition in conditions {
@@ -132,7 +140,8 @@ fn all_of(
     first: Result<Option<Term>, PlainFault>,
     more: Result<Items<Option<Term>>, PlainFault>,
 ) -> Result<Option<Term>, PlainFault>
-    ensures { IfOk result (λ v. IsOkAnd first (λ w. IsOkAnd more (λ vs. v ≡ fold both_value w vs))) }
+    ensures value { IfOk result (λ v. IsOkAnd first (λ w. IsOkAnd more (λ vs. v ≡ fold both_value w vs))) }
+    ensures wide { IfErr result (λ f. f ≡ PlainFault.WideNumber → is_chain_asked first more ≡ true) }
 {
     let first = first?;
     let more = more?;
@@ -144,7 +153,8 @@ fn all_behind(
     first: Option<Term>,
     more: &[Option<Term>],
 ) -> Result<Option<Term>, PlainFault>
-    ensures { IfOk result (λ v. v ≡ fold both_value first more.now) }
+    ensures value { IfOk result (λ v. v ≡ fold both_value first more.now) }
+    ensures wide { IfErr result (λ f. f ≡ PlainFault.WideNumber → are_asked first more.now ≡ true) }
 {
     let mut all = first;
     for next in more {
@@ -159,7 +169,8 @@ fn any_of(
     first: Result<Option<Term>, PlainFault>,
     more: Result<Items<Option<Term>>, PlainFault>,
 ) -> Result<Option<Term>, PlainFault>
-    ensures { IfOk result (λ v. IsOkAnd first (λ w. IsOkAnd more (λ vs. v ≡ fold either_value w vs))) }
+    ensures value { IfOk result (λ v. IsOkAnd first (λ w. IsOkAnd more (λ vs. v ≡ fold either_value w vs))) }
+    ensures wide { IfErr result (λ f. f ≡ PlainFault.WideNumber → is_chain_asked first more ≡ true) }
 {
     let first = first?;
     let more = more?;
@@ -171,7 +182,8 @@ fn any_behind(
     first: Option<Term>,
     more: &[Option<Term>],
 ) -> Result<Option<Term>, PlainFault>
-    ensures { IfOk result (λ v. v ≡ fold either_value first more.now) }
+    ensures value { IfOk result (λ v. v ≡ fold either_value first more.now) }
+    ensures wide { IfErr result (λ f. f ≡ PlainFault.WideNumber → are_asked first more.now ≡ true) }
 {
     let mut any = first;
     for next in more {

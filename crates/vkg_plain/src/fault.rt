@@ -1,3 +1,6 @@
+ghost use Rattle.std.specs.Prelude.{◌≡◌};
+ghost use Rattle.vkg_plain.specs.declared.fault.PlainFault.TheVariants.{Memory as OutOfMemory};
+
 use std::alloc::{AllocError, AllocFailed};
 use vkg_base::Memory;
 
@@ -11,18 +14,24 @@ pub enum PlainFault {
 }
 
 impl From<Memory> for PlainFault {
+    ghost from_gives = { λ _ fault. fault ≡ OutOfMemory };
+
     fn from(_: Memory) -> Self {
         PlainFault::Memory
     }
 }
 
 impl From<AllocError> for PlainFault {
+    ghost from_gives = { λ _ fault. fault ≡ OutOfMemory };
+
     fn from(_: AllocError) -> Self {
         PlainFault::Memory
     }
 }
 
 impl<T: Drop> From<AllocFailed<T>> for PlainFault {
+    ghost from_gives = { λ _ fault. fault ≡ OutOfMemory };
+
     fn from(_: AllocFailed<T>) -> Self {
         PlainFault::Memory
     }

@@ -2,8 +2,9 @@
 //!
 //! Follows SPARQL 1.1 Query Language (W3C Recommendation of 2013), 18.3 to 18.6 and 18.2.5, and reads the lines of RDF 1.1
 //! N-Quads that `dump` writes. `evaluate` answers exactly the solutions of an algebra, and `answer` those of a query, in the
-//! order of the definitions in `vkg_algebra`; where a filter asks for the value of a number of more than 38 digits, that is a
-//! fault. `read_quads` answers quads only where the text is their lines, and `solution_lines` the header and lines of solutions.
+//! order of the definitions in `vkg_algebra`; only where a condition asks for the value of a number of more than 38 digits may that be
+//! a fault. `read_quads` answers the quads whose lines a text is, and a fault only where there are none, and `solution_lines` the
+//! header and lines of solutions.
 //! It is for tests: it looks at each pair of solutions, and reads no mapping and no table.
 //!
 //! Stands on `vkg_algebra` (the algebra, and what it means), `vkg_values` (the operators on terms) and `vkg_terms` (terms and
@@ -19,11 +20,14 @@ mod graphs;
 mod joins;
 mod left;
 mod lines;
+mod literal_reader;
 mod patterns;
 mod quad;
+mod read_fault;
 mod reader;
 mod rows;
 mod solution;
+mod term_reader;
 mod truths;
 
 pub use answering::answer;
@@ -31,5 +35,6 @@ pub use evaluation::evaluate;
 pub use fault::PlainFault;
 pub use lines::solution_lines;
 pub use quad::Quad;
-pub use reader::{ReadFault, read_quads};
+pub use read_fault::ReadFault;
+pub use reader::read_quads;
 pub use solution::Solution;

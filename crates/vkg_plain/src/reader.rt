@@ -1,43 +1,24 @@
 // The quads of a text (RDF 1.1 N-Quads, 2 to 4), in the very form in which `dump` writes them.
-ghost use Rattle.std.specs.Prelude.{◌≡◌, IfOk, map, string_bytes};
+ghost use Rattle.std.specs.Prelude.{◌≡◌, ◌<◌, ◌≤◌, List, length, IfErr, IfOk, map, string_bytes};
+ghost use Rattle.std.specs.List.{All};
 ghost use Rattle.vkg_base.specs.Written.{written};
-ghost use Rattle.vkg_terms.specs.NQuads.{line as line_of_quad};
+ghost use Rattle.vkg_terms.specs.NQuads.{Quad as TermQuad, line as line_of_quad};
+ghost use Rattle.vkg_terms.specs.Writable.{IsWritableQuad};
+ghost use Rattle.vkg_plain.specs.Reading.{Gives, IsHeldQuad, ReadsGraph, ReadsQuad};
 
 use crate::quad::Quad;
-use std::alloc::{AllocError, AllocFailed, Global};
-use vkg_base::{Items, Memory, Text};
-use vkg_terms::{Annotation, Term, quad_line};
+use crate::read_fault::ReadFault;
+use crate::term_reader::term;
+use std::alloc::Global;
+use vkg_base::{Items, Memory};
+use vkg_terms::{Term, quad_line};
 
-/// Why no quads were read.
-#[derive(Clone, Copy, Debug, PartialEq, Eq)]
-pub enum ReadFault {
-    /// The text is not the lines of quads.
-    NoQuads,
-    /// An allocation was refused.
-    Memory,
-}
-
-impl From<Memory> for ReadFault {
-    fn from(_: Memory) -> Self {
-        ReadFault::Memory
-    }
-}
-
-impl From<AllocError> for ReadFault {
-    fn from(_: AllocError) -> Self {
-        ReadFault::Memory
-    }
-}
-
-impl<T: Drop> From<AllocFailed<T>> for ReadFault {
-    fn from(_: AllocFailed<T>) -> Self {
-        ReadFault::Memory
-    }
-}
-
-/// The quads of a text: it is their lines, one after another. A text that is written otherwise than `dump` does is a fault.
+/// The quads whose lines a text is, one after another. Among the quads whose parts hold only what may stand in them, no others
+/// have these lines; and a text is a fault only where it is the lines of none of those, so that `dump` writes no such text.
 pub fn read_quads(alloc: Global, text: &str) -> Result<Items<Quad>, ReadFault>
-    ensures { IfOk result (λ quads. written (map line_of_quad quads) ≡ text.now) }
+    ensures lines { IfOk result (λ quads. written (map line_of_quad quads) ≡ text.now) }
+    ensures no_others { IfOk result (λ found. (quads : List TermQuad) → All IsWritableQuad quads → All IsHeldQuad quads → written (map line_of_quad quads) ≡ text.now → quads ≡ found) }
+    ensures no_quads { IfErr result (λ fault. fault ≡ ReadFault.NoQuads → (quads : List TermQuad) → All IsWritableQuad quads → All IsHeldQuad quads → written (map line_of_quad quads) ≡ text.now → ⊥) }
 {
     let quads = found_quads(alloc, text)?;
     let again = text_of(alloc, quads.as_slice())?;
@@ -75,102 +56,42 @@ fn line_of(alloc: Global, quad: &Quad) -> Result<String, Memory>
 }
 
 /// What each line seems to say.
-fn found_quads(alloc: Global, text: &str) -> Result<Items<Quad>, ReadFault> {
+fn found_quads(alloc: Global, text: &str) -> Result<Items<Quad>, ReadFault>
+    ensures { (quads : List TermQuad) → All IsWritableQuad quads → All IsHeldQuad quads → text.now ≡ written (map line_of_quad quads) → Gives result quads }
+{
     let mut quads = Items::new(alloc);
-    for line in text.lines() {
-        quads.push(found_quad(alloc, line)?)?;
+    let mut rest = text;
+    while !rest.is_empty() {
+        let (quad, behind) = found_quad(alloc, rest)?;
+        quads.push(quad)?;
+        rest = behind;
     }
     Ok(quads)
 }
 
-fn found_quad(alloc: Global, line: &str) -> Result<Quad, ReadFault> {
-    let line = line.strip_suffix(" .").ok_or(ReadFault::NoQuads)?;
-    let (subject, rest) = line.split_once(' ').ok_or(ReadFault::NoQuads)?;
-    let (predicate, rest) = rest.split_once(' ').ok_or(ReadFault::NoQuads)?;
-    let subject = name(alloc, subject)?;
-    let predicate = name(alloc, predicate)?;
-    let (object, rest) = object(alloc, rest)?;
-    let graph = match rest {
-        Some(graph) => Some(name(alloc, graph)?),
-        None => None,
+/// What the first line seems to say, and what stands behind it.
+fn found_quad(alloc: Global, text: &str) -> Result<(Quad, &str), ReadFault>
+    ensures value { ReadsQuad text.now result }
+    ensures shorter { IfOk result (λ p. length p.1.now < length text.now) }
+{
+    let (subject, text) = term(alloc, text)?;
+    let (predicate, text) = term(alloc, text)?;
+    let (object, text) = term(alloc, text)?;
+    let (graph, text) = graph(alloc, text)?;
+    Ok((Quad::new(subject, predicate, object, graph), text))
+}
+
+/// The name of a graph, if there is one, and what stands behind the line.
+fn graph(alloc: Global, text: &str) -> Result<(Option<Term>, &str), ReadFault>
+    ensures value { ReadsGraph text.now result }
+    ensures shorter { IfOk result (λ p. length p.1.now ≤ length text.now) }
+{
+    if let Some(rest) = text.strip_prefix(".\n") {
+        return Ok((None, rest));
+    }
+    let (name, text) = term(alloc, text)?;
+    let Some(rest) = text.strip_prefix(".\n") else {
+        return Err(ReadFault::NoQuads);
     };
-    Ok(Quad::new(subject, predicate, object, graph))
-}
-
-/// A text before the first space, and what stands behind it, if there is one.
-fn cut(text: &str) -> (&str, Option<&str>) {
-    match text.split_once(' ') {
-        Some((front, back)) => (front, Some(back)),
-        None => (text, None),
-    }
-}
-
-/// An object, and what stands behind its space.
-fn object(alloc: Global, text: &str) -> Result<(Term, Option<&str>), ReadFault> {
-    match text.strip_prefix('"') {
-        None => {
-            let (front, back) = cut(text);
-            Ok((name(alloc, front)?, back))
-        }
-        Some(text) => {
-            let (form, rest) = text.rsplit_once('"').ok_or(ReadFault::NoQuads)?;
-            let (front, back) = cut(rest);
-            let form = unescaped(alloc, form)?;
-            Ok((Term::Lit(form, annotation(alloc, front)?), back))
-        }
-    }
-}
-
-/// An IRI or a blank node.
-fn name(alloc: Global, text: &str) -> Result<Term, ReadFault> {
-    match text.strip_prefix("_:") {
-        Some(label) => Ok(Term::Blank(Text::new(alloc, label)?)),
-        None => Ok(Term::Iri(iri(alloc, text)?)),
-    }
-}
-
-fn iri(alloc: Global, text: &str) -> Result<Text, ReadFault> {
-    let text = text.strip_prefix('<').ok_or(ReadFault::NoQuads)?;
-    let text = text.strip_suffix('>').ok_or(ReadFault::NoQuads)?;
-    Ok(Text::new(alloc, text)?)
-}
-
-fn annotation(alloc: Global, text: &str) -> Result<Annotation, ReadFault> {
-    if text.is_empty() {
-        return Ok(Annotation::Plain);
-    }
-    match text.strip_prefix('@') {
-        Some(tag) => Ok(Annotation::Lang(Text::new(alloc, tag)?)),
-        None => {
-            let text = text.strip_prefix("^^").ok_or(ReadFault::NoQuads)?;
-            Ok(Annotation::typed(iri(alloc, text)?))
-        }
-    }
-}
-
-/// The lexical form of what stands between quotes.
-fn unescaped(alloc: Global, text: &str) -> Result<Text, Memory> {
-    let mut out = String::new(alloc);
-    let mut is_escape = false;
-    for c in text.chars() {
-        if is_escape {
-            out.push(meant(c))?;
-            is_escape = false;
-        } else if c == '\\' {
-            is_escape = true;
-        } else {
-            out.push(c)?;
-        }
-    }
-    Ok(Text::from_string(out))
-}
-
-/// What a character behind a backslash means.
-fn meant(c: char) -> char {
-    match c {
-        'n' => '\n',
-        'r' => '\r',
-        't' => '\t',
-        _ => c,
-    }
+    Ok((Some(name), rest))
 }
