@@ -3,10 +3,11 @@
 
 usage: tools/same_statements.py [--all]
 
-Two statements are one here if they differ in nothing but the names of what they bind, whether an argument is implicit, and its
-place among the arguments. A row is a place to look, no verdict: the same words can mean other things in two crates (`IsNoText`
-of a schema and of a document). Types of definitions say little, so a definition is listed only where its body is the same, too.
-Without --all, pairs within one file are left out.
+Two statements are one here if they differ in nothing but the names of what they bind, whether an argument is implicit, its place
+among the arguments, and parentheses. A row is a place to look, no verdict: the same words can mean other things in two crates
+(`IsNoText` of a schema and of a document). Types of definitions say little, so a definition is listed only where its body is the
+same, too. Fields, constructors and laws, which have no body, are left out, and without --all pairs within one file. What is a case of a
+more general lemma, or says the same in other words, is not found.
 """
 
 import collections
@@ -63,7 +64,8 @@ def shape(statement):
     bound = {it for group in re.findall(r"[({]([^(){}:]+?)\s+:\s|λ\s+([^.(]+)\.", statement) for it in " ".join(group).split()}
     text = re.sub(r"\{([^{}:]+?)\s+:\s([^{}]*)\}", r"(\1 : \2)", statement)
     text = renamed(text, dict.fromkeys(bound, "_"))
-    return re.sub(r"\( (?:_ )+: [^()]*\) (?:→ )?", "", text)
+    text = re.sub(r"\( (?:_ )+: (?:[^()]|\([^()]*\))*\) (?:→ )?", "", text)
+    return " ".join(re.sub(r"[()]", "", text).split())
 
 
 def functions(file):
@@ -84,19 +86,18 @@ def main():
     found = collections.defaultdict(list)
     for file in files(".antt"):
         for line, name, statement, body in items(file):
-            if statement.startswith("goal."):
+            if statement.startswith("goal.") or not body:
                 continue
             kind = "statement" if FACT.search(statement) else "definition"
-            key = shape(statement) if kind == "statement" else renamed(f"{statement} = {body}", {name: "_"}) if body else ""
+            key = shape(statement) if kind == "statement" else renamed(f"{statement} = {body}", {name: "_"})
             found[kind, key].append((file, line, name))
     for file in files(".rt"):
         for line, name, body in functions(file):
-            found["function", body].append((file, line, name))
+            if "{" in body:
+                found["function", body].append((file, line, name))
     rows = 0
     for (kind, key), places in sorted(found.items()):
-        says_little = len(re.sub(r"[_ ()≡→]", "", key)) < 12
-        apart = len(places) > 1 and (len({it[0] for it in places}) > 1 or "--all" in sys.argv)
-        if apart and not says_little:
+        if len(places) > 1 and (len({it[0] for it in places}) > 1 or "--all" in sys.argv):
             rows += 1
             print(f"{kind}: {key[:160]}")
             print("".join(f"    {file}:{line} {name}\n" for file, line, name in places), end="")
