@@ -1,5 +1,5 @@
 -- How the characters of a literal are written, and what a reader makes of them.
-use Rattle.std.proofs.Common.{◌≡◌, ◌≢◌, ◌<◌, ◌++◌, ◌==◌, ℕ, List, [], ◌∷◌, Bool, true, false, if◌then◌else◌, length, length-append, sym, ap, ◌∙◌, refl, arith, append_assoc, ◌⊎◌, inl, inr}
+use Rattle.std.proofs.Common.{◌≡◌, ◌≢◌, ◌<◌, ◌++◌, ◌==◌, ℕ, List, [], ◌∷◌, Bool, true, false, if◌then◌else◌, length, length-append, sym, ap, ◌∙◌, refl, arith, append_assoc, eqb-true, subst, ◌⊎◌, inl, inr}
 use Rattle.std.specs.Prelude.{flat_map, chars, IsUtf8, codes, encode_utf8}
 use Rattle.std.proofs.lemmas.Bool.Decides.{nat_tests}
 use Rattle.std.proofs.lemmas.List.{append-nil}
@@ -8,24 +8,24 @@ use Rattle.std.proofs.Math.Utf8.{encode, encodes}
 use Rattle.vkg_terms.specs.NQuads.{escaped}
 use Rattle.vkg_lists.proofs.Heads.{head_same, tail_same}
 
--- the character whose escape has this letter
-abbrev pub meant : ℕ → ℕ
-meant e = if e == 110 then 10 else if e == 114 then 13 else if e == 116 then 9 else e
-
-pub meant_itself : (e : ℕ) → e ≢ 110 → e ≢ 114 → e ≢ 116 → meant e ≡ e
-meant_itself e feed return tab = grind (arith, nat_tests)
+-- behind a backslash this letter stands for this character
+abbrev pub Means : ℕ → ℕ → Type 0
+Means e c = ((e ≡ 110) × (c ≡ 10)) ⊎ (((e ≡ 114) × (c ≡ 13)) ⊎ (((e ≡ 116) × (c ≡ 9)) ⊎ ((e ≢ 110) × (e ≢ 114) × (e ≢ 116) × (c ≡ e))))
 
 -- by a backslash (92) and a letter, or as it is
 abbrev pub IsWritten : ℕ → List ℕ → Type 0
-IsWritten c text = ((e : ℕ) × (text ≡ 92 ∷ e ∷ []) × (meant e ≡ c) × (e < 128)) ⊎ ((c ≢ 34) × (c ≢ 92) × (text ≡ encode c))
+IsWritten c text = ((e : ℕ) × (text ≡ 92 ∷ e ∷ []) × Means e c × (e < 128)) ⊎ ((c ≢ 34) × (c ≢ 92) × (text ≡ encode c))
+
+itself : (c e : ℕ) → (c == e) ≡ true → e < 110 → Means e c
+itself c e h low = inr (inr (inr ((λ p. absurd (omega (arith, p))), (λ p. absurd (omega (arith, p))), (λ p. absurd (omega (arith, p))), eqb-true c e h)))
 
 written_by : (c : ℕ) (quote back feed return tab : Bool) → (c == 34) ≡ quote → (c == 92) ≡ back → (c == 10) ≡ feed → (c == 13) ≡ return → (c == 9) ≡ tab
     → IsWritten c (if quote then codes "\\\"" else if back then codes "\\\\" else if feed then codes "\\n" else if return then codes "\\r" else if tab then codes "\\t" else encode_utf8 c)
-written_by c true back feed return tab q b f r t = inl (34, refl, grind (arith, nat_tests), omega arith)
-written_by c false true feed return tab q b f r t = inl (92, refl, grind (arith, nat_tests), omega arith)
-written_by c false false true return tab q b f r t = inl (110, refl, grind (arith, nat_tests), omega arith)
-written_by c false false false true tab q b f r t = inl (114, refl, grind (arith, nat_tests), omega arith)
-written_by c false false false false true q b f r t = inl (116, refl, grind (arith, nat_tests), omega arith)
+written_by c true back feed return tab q b f r t = inl (34, refl, itself c 34 q (omega arith), omega arith)
+written_by c false true feed return tab q b f r t = inl (92, refl, itself c 92 b (omega arith), omega arith)
+written_by c false false true return tab q b f r t = inl (110, refl, inl (refl, eqb-true c 10 f), omega arith)
+written_by c false false false true tab q b f r t = inl (114, refl, inr (inl (refl, eqb-true c 13 r)), omega arith)
+written_by c false false false false true q b f r t = inl (116, refl, inr (inr (inl (refl, eqb-true c 9 t))), omega arith)
 written_by c false false false false false q b f r t = inr (grind (arith, nat_tests), grind (arith, nat_tests), refl)
 
 written : (c : ℕ) → IsWritten c (escaped c)
@@ -46,12 +46,36 @@ by_itself c d v rest more (inr (quote, back, p)) _ same = encode_same d c more r
 pub character_as_is : (c d : ℕ) (text rest more : List ℕ) → text ≡ encode d ++ more → d ≢ 92 → text ≡ escaped c ++ rest → (d ≡ c) × (more ≡ rest)
 character_as_is c d text rest more is back e = by_itself c d (escaped c) rest more (written c) back (sym is ∙ e)
 
-by_escape : (c letter : ℕ) (v : List ℕ) → IsWritten c v → v ≡ 92 ∷ letter ∷ [] → meant letter ≡ c
-by_escape c letter v (inl (e, p, m, low)) is = ap meant (head_same _ _ _ _ (tail_same _ _ _ _ (sym is ∙ p))) ∙ m
+by_escape : (c letter : ℕ) (v : List ℕ) → IsWritten c v → v ≡ 92 ∷ letter ∷ [] → Means letter c
+by_escape c letter v (inl (e, p, m, low)) is = subst (λ d. Means d c) (head_same _ _ _ _ (tail_same _ _ _ _ (sym p ∙ is))) m
 by_escape c letter v (inr (quote, back, p)) is = absurd (back (octet c 92 [] (letter ∷ []) (omega arith) (append-nil (encode c) ∙ sym p ∙ is)).0)
 
-pub meant_is : (c letter : ℕ) → escaped c ≡ 92 ∷ letter ∷ [] → meant letter ≡ c
+pub meant_is : (c letter : ℕ) → escaped c ≡ 92 ∷ letter ∷ [] → Means letter c
 meant_is c letter is = by_escape c letter (escaped c) (written c) is
+
+pub means_feed : (e c : ℕ) → e ≡ 110 → Means e c → 10 ≡ c
+means_feed e c h (inl (p, q)) = sym q
+means_feed e c h (inr (inl (p, q))) = absurd (omega (arith, p, h))
+means_feed e c h (inr (inr (inl (p, q)))) = absurd (omega (arith, p, h))
+means_feed e c h (inr (inr (inr (feed, return, tab, q)))) = absurd (feed h)
+
+pub means_return : (e c : ℕ) → e ≡ 114 → Means e c → 13 ≡ c
+means_return e c h (inl (p, q)) = absurd (omega (arith, p, h))
+means_return e c h (inr (inl (p, q))) = sym q
+means_return e c h (inr (inr (inl (p, q)))) = absurd (omega (arith, p, h))
+means_return e c h (inr (inr (inr (feed, return, tab, q)))) = absurd (return h)
+
+pub means_tab : (e c : ℕ) → e ≡ 116 → Means e c → 9 ≡ c
+means_tab e c h (inl (p, q)) = absurd (omega (arith, p, h))
+means_tab e c h (inr (inl (p, q))) = absurd (omega (arith, p, h))
+means_tab e c h (inr (inr (inl (p, q)))) = sym q
+means_tab e c h (inr (inr (inr (feed, return, tab, q)))) = absurd (tab h)
+
+pub means_itself : (e c : ℕ) → e ≢ 110 → e ≢ 114 → e ≢ 116 → Means e c → e ≡ c
+means_itself e c feed return tab (inl (p, q)) = absurd (feed p)
+means_itself e c feed return tab (inr (inl (p, q))) = absurd (return p)
+means_itself e c feed return tab (inr (inr (inl (p, q)))) = absurd (tab p)
+means_itself e c feed return tab (inr (inr (inr (f, r, t, q)))) = sym q
 
 -- behind a backslash stands the letter of an escape
 by_letter : (c d : ℕ) (v rest more after : List ℕ) → IsWritten c v → encode 92 ++ more ≡ v ++ rest → more ≡ encode d ++ after → (v ≡ 92 ∷ d ∷ []) × (after ≡ rest)

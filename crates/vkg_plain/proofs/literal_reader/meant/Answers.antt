@@ -1,19 +1,19 @@
-use Rattle.std.proofs.Common.{◌≢◌, ◌∙◌, sym, ap, arith}
-use Rattle.vkg_plain.proofs.EscapeLemmas.{meant, meant_is, meant_itself}
+use Rattle.std.proofs.Common.{◌≢◌, arith}
+use Rattle.vkg_plain.proofs.EscapeLemmas.{meant_is, means_feed, means_return, means_tab, means_itself}
 use Rattle.vkg_plain.proofs.literal_reader.meant.Goals as goal
 
 pub returns-in-n : goal.returns-in-n
-returns-in-n c = λ d e. sym (ap meant c.in-n.is) ∙ meant_is d c.args.letter e
+returns-in-n c = λ d e. means_feed c.args.letter d c.in-n.is (meant_is d c.args.letter e)
 
 pub returns-in-r : goal.returns-in-r
-returns-in-r c = λ d e. sym (ap meant c.in-r.is) ∙ meant_is d c.args.letter e
+returns-in-r c = λ d e. means_return c.args.letter d c.in-r.is (meant_is d c.args.letter e)
 
 pub returns-in-t : goal.returns-in-t
-returns-in-t c = λ d e. sym (ap meant c.in-t.is) ∙ meant_is d c.args.letter e
+returns-in-t c = λ d e. means_tab c.args.letter d c.in-t.is (meant_is d c.args.letter e)
 
 pub returns-in_default : goal.returns-in_default
 returns-in_default c = λ d e.
     let feed : c.args.letter ≢ 110 = omega arith in
     let return : c.args.letter ≢ 114 = omega arith in
     let tab : c.args.letter ≢ 116 = omega arith in
-    sym (meant_itself c.args.letter feed return tab) ∙ meant_is d c.args.letter e
+    means_itself c.args.letter d feed return tab (meant_is d c.args.letter e)
