@@ -1,13 +1,14 @@
 #!/usr/bin/env python3
 """Lists what stands twice under crates/: lemmas and definitions with one statement, and functions with one body.
 
-usage: tools/same_statements.py [--all]
+usage: tools/same_statements.py [--all] [--clauses]
 
 Two statements are one here if they differ in nothing but the names of what they bind, whether an argument is implicit, its place
 among the arguments, and parentheses. A row is a place to look, no verdict: the same words can mean other things in two crates
 (`IsNoText` of a schema and of a document). Types of definitions say little, so a definition is listed only where its body is the
-same, too. Fields, constructors and laws, which have no body, are left out, and without --all pairs within one file. What is a case of a
-more general lemma, or says the same in other words, is not found.
+same, too; --clauses lists those with the same clauses whatever their types, which one definition over any type could be. Fields,
+constructors and laws, which have no body, are left out, and without --all pairs within one file. What is a case of a more general lemma,
+or says the same in other words, is not found.
 """
 
 import collections
@@ -19,6 +20,7 @@ WORD = re.compile(r"[^\s(){},.;\[\]]+|[(){},.;\[\]]")
 HEAD = re.compile(r"(\s*)(?:(?:pub|abbrev|unfoldable|opaque)\s+)*([^\s:(){},]+)(?:\s*\{[^}]*\})*\s+:\s+(.*)$")
 FUNCTION = re.compile(r"(\s*)(?:pub(?:\(\w+\))? )?(?:const )?fn (\w+)")
 FACT = re.compile(r"≡|Contains|↔|AllBy|IsPerm|IsDistinct|≤|<")
+VARIABLE = re.compile(r"(?!true$|false$|tt$|refl$)[a-z_]")
 NO_NAMES = {"use", "module", "data", "record", "mutual"}
 
 
@@ -48,11 +50,14 @@ def items(file):
             at += 1
         own = re.compile(r"\s*" + re.escape(name) + r"(\s|$)")
         while at < len(lines) and lines[at].strip() and depth(lines[at]) >= indent:
-            if depth(lines[at]) == indent and not own.match(lines[at]):
+            if own.match(lines[at]):
+                body.append(lines[at].strip())
+            elif depth(lines[at]) == indent:
                 break
-            body.append(lines[at].strip())
+            elif body:
+                body[-1] += f" {lines[at].strip()}"
             at += 1
-        yield start + 1, name, " ".join(statement), " ".join(body)
+        yield start + 1, name, " ".join(statement), body
 
 
 def renamed(text, names):
@@ -66,6 +71,18 @@ def shape(statement):
     text = renamed(text, dict.fromkeys(bound, "_"))
     text = re.sub(r"\( (?:_ )+: (?:[^()]|\([^()]*\))*\) (?:→ )?", "", text)
     return " ".join(re.sub(r"[()]", "", text).split())
+
+
+def clauses(name, body):
+    """The clauses of a definition without its name and the names that each binds, in an order of their own."""
+    found = []
+    for clause in body:
+        words = [it for it in WORD.findall(clause) if it not in "(){},"]
+        bound = [it for it in words[: words.index("=")] if VARIABLE.match(it)] if "=" in words else []
+        bound += [it for part in re.findall(r"λ\s+([^.(]+)\.", clause) for it in part.split()]
+        names = {it: str(at) for at, it in enumerate(dict.fromkeys(bound))}
+        found.append(" ".join(names.get(it, it) for it in words if it != name))
+    return " | ".join(sorted(found))
 
 
 def functions(file):
@@ -89,8 +106,10 @@ def main():
             if statement.startswith("goal.") or not body:
                 continue
             kind = "statement" if FACT.search(statement) else "definition"
-            key = shape(statement) if kind == "statement" else renamed(f"{statement} = {body}", {name: "_"})
+            key = shape(statement) if kind == "statement" else renamed(f"{statement} = {' '.join(body)}", {name: "_"})
             found[kind, key].append((file, line, name))
+            if kind == "definition" and "--clauses" in sys.argv:
+                found["clauses", clauses(name, body)].append((file, line, name))
     for file in files(".rt"):
         for line, name, body in functions(file):
             if "{" in body:

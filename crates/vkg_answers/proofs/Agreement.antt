@@ -45,14 +45,6 @@ pub list_all-map : {A B : Type 0} (p : B → Bool) (f : A → B) (xs : List A) �
 list_all-map p f [] = refl
 list_all-map p f (x ∷ xs) = ap (λ b. p (f x) && b) (list_all-map p f xs)
 
-pub list_all-append : {A : Type 0} (p : A → Bool) (xs ys : List A) → list_all p (xs ++ ys) ≡ (list_all p xs && list_all p ys)
-list_all-append p [] ys = refl
-list_all-append p (x ∷ xs) ys = Prim.rw (list_all-append p xs ys) (assoc (p x) (list_all p xs) (list_all p ys))
-  where
-    assoc : (a b c : Bool) → (a && (b && c)) ≡ ((a && b) && c)
-    assoc true b c = refl
-    assoc false b c = refl
-
 pub all_elim : (p : ℕ → Bool) (vs : List ℕ) → list_all p vs ≡ true → (v : ℕ) → has vs v ≡ true → p v ≡ true
 all_elim p [] h v k = absurd (true≢false (sym k))
 all_elim p (w ∷ vs) h v k = of (all_elim p vs (and_parts (p w) (list_all p vs) h).1 v) (nat_eq v w) refl k

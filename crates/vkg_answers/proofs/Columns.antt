@@ -2,9 +2,10 @@
 use Rattle.std.proofs.Common.{◌≡◌, ℕ, zero, suc, ◌+◌, Bool, true, false, ⊎_elim, List, [], ◌∷◌, ◌++◌, map, length, refl, sym, ap, subst, ◌∙◌, arith, true≢false, length-append}
 use Rattle.std.specs.Prelude.{Option, Some, None, ◌&&◌, Contains, filter, flat_map, if◌then◌else◌}
 use Rattle.std.specs.Option.{option_map_or}
-use Rattle.std.specs.List.{list_all}
+use Rattle.std.specs.List.{list_all, AllByRecursion as Every, zip}
 use Rattle.std.specs.List.Sorted.{IsPermutation}
 use Rattle.std.proofs.lemmas.List.Elements.{Contains-append_cases}
+use Rattle.std.proofs.lemmas.List.Folds.{list_all-append}
 use Rattle.vkg_lists.proofs.Bags.{bag_same, bag_trans}
 use Rattle.vkg_lists.proofs.Counts.{eq_itself, eq_same}
 use Rattle.vkg_lists.proofs.Members.{Contains-none, Contains-here, Contains-there, Contains-cons_cases, Contains-from_map, Contains-from_filter, Contains-from_flat_map, each_of_all}
@@ -24,17 +25,12 @@ use Rattle.vkg_unfold.specs.declared.mode.Mode.{Mode}
 use Rattle.vkg_unfold.specs.declared.mode.Mode.TheVariants.{Each}
 use Rattle.vkg_unfold.specs.StandsFor.{upto_from, IsIn}
 use Rattle.vkg_unfold.specs.FineRows.{IsNarrow}
-use Rattle.vkg_answers.proofs.Joins.{agree, Each as Every, join_rows, bag_join}
-use Rattle.vkg_answers.proofs.Agreement.{agree_none, list_all-append}
+use Rattle.vkg_answers.proofs.Joins.{agree, join_rows, bag_join}
+use Rattle.vkg_answers.proofs.Agreement.{agree_none}
 use Rattle.vkg_answers.proofs.Splits.{pairs_split}
 use Rattle.vkg_answers.proofs.Steps.{every_from}
 use Rattle.vkg_answers.proofs.Entries.{Entry, entry, first, alike, named_solution, AreTerms}
 use Rattle.vkg_answers.proofs.Links.{first_cases, solution-append, names_agree, links, NamesBelow, alike-append, terms-append}
-
-abbrev pub named_cells : List Name → Row → List Entry
-named_cells [] row = []
-named_cells (x ∷ xs) [] = []
-named_cells (x ∷ xs) (c ∷ row) = (x, c) ∷ named_cells xs row
 
 -- the row after these columns
 abbrev pub rest_of : List Name → Row → Row
@@ -48,31 +44,31 @@ rest_is [] (c ∷ l) r e = absurd (omega arith)
 rest_is (x ∷ ns) [] r e = absurd (omega arith)
 rest_is (x ∷ ns) (c ∷ l) r e = rest_is ns l r (omega arith)
 
-pub front_is : (ns : List Name) (l r : Row) → length l ≡ length ns → named_cells ns (l ++ r) ≡ named_cells ns l
+pub front_is : (ns : List Name) (l r : Row) → length l ≡ length ns → zip ns (l ++ r) ≡ zip ns l
 front_is [] l r e = refl
 front_is (x ∷ ns) [] r e = absurd (omega arith)
 front_is (x ∷ ns) (c ∷ l) r e = ap (λ zs. (x, c) ∷ zs) (front_is ns l r (omega arith))
 
-pub cells-append : (ns ms : List Name) (l r : Row) → length l ≡ length ns → named_cells (ns ++ ms) (l ++ r) ≡ named_cells ns l ++ named_cells ms r
+pub cells-append : (ns ms : List Name) (l r : Row) → length l ≡ length ns → zip (ns ++ ms) (l ++ r) ≡ zip ns l ++ zip ms r
 cells-append [] ms [] r e = refl
 cells-append [] ms (c ∷ l) r e = absurd (omega arith)
 cells-append (x ∷ ns) ms [] r e = absurd (omega arith)
 cells-append (x ∷ ns) ms (c ∷ l) r e = ap (λ zs. (x, c) ∷ zs) (cells-append ns ms l r (omega arith))
 
 -- the column of a name's first place
-pub place_first : (x : Name) (ns : List Name) (row : Row) → length row ≡ length ns → cell_at row (place_of (name_eq x) ns) ≡ first x (named_cells ns row)
+pub place_first : (x : Name) (ns : List Name) (row : Row) → length row ≡ length ns → cell_at row (place_of (name_eq x) ns) ≡ first x (zip ns row)
 place_first x [] [] e = refl
 place_first x [] (c ∷ row) e = absurd (omega arith)
 place_first x (y ∷ ns) [] e = absurd (omega arith)
 place_first x (y ∷ ns) (c ∷ row) e = of (place_first x ns row (omega arith)) (name_eq x y)
   where
-    of : cell_at row (place_of (name_eq x) ns) ≡ first x (named_cells ns row) → (b : Bool) →
-        cell_at (c ∷ row) (if b then 0 else suc (place_of (name_eq x) ns)) ≡ (if b then c else first x (named_cells ns row))
+    of : cell_at row (place_of (name_eq x) ns) ≡ first x (zip ns row) → (b : Bool) →
+        cell_at (c ∷ row) (if b then 0 else suc (place_of (name_eq x) ns)) ≡ (if b then c else first x (zip ns row))
     of rest true = refl
     of rest false = rest
 
 -- the numbered names over a row
-pub numbered_cells : (whole : Row) (ns : List Name) (row : Row) (k : ℕ) → length row ≡ length ns → ((j m : ℕ) → m ≡ k + j → cell_at whole m ≡ cell_at row j) → map (entry whole) (numbered k ns) ≡ named_cells ns row
+pub numbered_cells : (whole : Row) (ns : List Name) (row : Row) (k : ℕ) → length row ≡ length ns → ((j m : ℕ) → m ≡ k + j → cell_at whole m ≡ cell_at row j) → map (entry whole) (numbered k ns) ≡ zip ns row
 numbered_cells whole [] row k e h = refl
 numbered_cells whole (x ∷ ns) [] k e h = absurd (omega arith)
 numbered_cells whole (x ∷ ns) (c ∷ row) k e h = λ i. (x, h 0 k (omega arith) i) ∷ numbered_cells whole ns row (suc k) (omega arith) (λ j m f. h (suc j) m (omega arith)) i
@@ -123,29 +119,29 @@ HasGraphEntry d mode zs = (x : Entry) → Contains zs x → x.0 ≡ None → ⊥
 -- a row with these names
 pub record IsNamedRow (n : ℕ) (ns : List Name) (row : Row) : Type 0 where
   pub size : length row ≡ length ns
-  pub terms : AreTerms (named_cells ns row)
-  pub narrow : (x : Entry) → Contains (named_cells ns row) x → IsNarrow (term_of x.1)
-  pub below : NamesBelow n (named_cells ns row)
+  pub terms : AreTerms (zip ns row)
+  pub narrow : (x : Entry) → Contains (zip ns row) x → IsNarrow (term_of x.1)
+  pub below : NamesBelow n (zip ns row)
 
 pub record IsPatternRow (n : ℕ) (d : Dataset) (mode : Mode) (ns : List Name) (row : Row) : Type 0 where
   pub named : IsNamedRow n ns row
-  pub alone : alike [] (named_cells ns row) ≡ true
-  pub graph : HasGraphEntry d mode (named_cells ns row)
+  pub alone : alike [] (zip ns row) ≡ true
+  pub graph : HasGraphEntry d mode (zip ns row)
 
 -- the rows of a triple pattern, and in each graph its solutions
 pub record PatternStands (n : ℕ) (d : Dataset) (mode : Mode) (p : TriplePattern) (rows : List Row) : Type 0 where
   pub are_rows : (row : Row) → Contains rows row → IsPatternRow n d mode (pattern_names mode p) row
   pub bag : (g : Option Term) → IsIn d mode g →
-      IsPermutation (map (λ row. named_solution n (named_cells (pattern_names mode p) row)) (filter (λ row. graphs_fit (hidden_in mode g) (named_cells (pattern_names mode p) row)) rows)) (pattern_solutions n p (graph_of d g))
+      IsPermutation (map (λ row. named_solution n (zip (pattern_names mode p) row)) (filter (λ row. graphs_fit (hidden_in mode g) (zip (pattern_names mode p) row)) rows)) (pattern_solutions n p (graph_of d g))
 
 pub named_row-append : (n : ℕ) (ns ms : List Name) (l r : Row) → IsNamedRow n ns l → IsNamedRow n ms r → IsNamedRow n (ns ++ ms) (l ++ r)
 named_row-append n ns ms l r p q =
     let whole = sym (cells-append ns ms l r p.size) in
     record {
       size = omega (arith, p.size, q.size, length-append l r, length-append ns ms);
-      terms = subst AreTerms whole (terms-append (named_cells ns l) (named_cells ms r) p.terms q.terms);
-      narrow = λ x c. ⊎_elim (p.narrow x) (q.narrow x) (Contains-append_cases (named_cells ns l) (named_cells ms r) x (subst (λ zs. Contains zs x) (sym whole) c));
-      below = λ x c. ⊎_elim (p.below x) (q.below x) (Contains-append_cases (named_cells ns l) (named_cells ms r) x (subst (λ zs. Contains zs x) (sym whole) c));
+      terms = subst AreTerms whole (terms-append (zip ns l) (zip ms r) p.terms q.terms);
+      narrow = λ x c. ⊎_elim (p.narrow x) (q.narrow x) (Contains-append_cases (zip ns l) (zip ms r) x (subst (λ zs. Contains zs x) (sym whole) c));
+      below = λ x c. ⊎_elim (p.below x) (q.below x) (Contains-append_cases (zip ns l) (zip ms r) x (subst (λ zs. Contains zs x) (sym whole) c));
     }
 
 nothing_named : (n : ℕ) → IsNamedRow n [] []
@@ -160,7 +156,7 @@ module _ (n : ℕ) (d : Dataset) (mode : Mode) (R : TriplePattern → List Row) 
   all_names ps = flat_map (pattern_names mode) ps
 
   abbrev pub fits : Option Term → List TriplePattern → Row → Bool
-  fits g ps row = alike [] (named_cells (all_names ps) row) && graphs_fit (hidden_in mode g) (named_cells (all_names ps) row)
+  fits g ps row = alike [] (zip (all_names ps) row) && graphs_fit (hidden_in mode g) (zip (all_names ps) row)
 
   pub product_row : (ps : List TriplePattern) → ((p : TriplePattern) → Contains ps p → PatternStands n d mode p (R p)) → (row : Row) → Contains (product (map R ps)) row → IsNamedRow n (all_names ps) row
   product_row [] h row c = ⊎_elim (λ e. subst (IsNamedRow n []) e (nothing_named n)) (λ k. absurd (Contains-none row k)) (Contains-cons_cases [] [] row c)
@@ -183,12 +179,12 @@ module _ (n : ℕ) (d : Dataset) (mode : Mode) (R : TriplePattern → List Row) 
   truths false c m false hw h = refl
 
   pub product_bag : (ps : List TriplePattern) → ((p : TriplePattern) → Contains ps p → PatternStands n d mode p (R p)) → (g : Option Term) → IsIn d mode g →
-      IsPermutation (map (λ row. named_solution n (named_cells (all_names ps) row)) (filter (fits g ps) (product (map R ps)))) (join_all n (map (λ p. pattern_solutions n p (graph_of d g)) ps))
+      IsPermutation (map (λ row. named_solution n (zip (all_names ps) row)) (filter (fits g ps) (product (map R ps)))) (join_all n (map (λ p. pattern_solutions n p (graph_of d g)) ps))
   product_bag [] h g k = bag_same (ap (λ s. s ∷ []) (sym (unbound_is n 0)))
   product_bag (p ∷ ps) h g k =
       bag_trans (bag_same
       (ap (map solution) (pairs_split P Q kl (fits g ps) pass (λ row. alike [] (cells row)) (λ row. graphs_fit (hidden_in mode g) (cells row)) split (R p) (product (map R ps)) every_left every_right)
-      ∙ join_rows P Q (λ l. named_solution n (named_cells ns l)) (λ r. named_solution n (named_cells (all_names ps) r)) solution pass agrees merged
+      ∙ join_rows P Q (λ l. named_solution n (zip ns l)) (λ r. named_solution n (zip (all_names ps) r)) solution pass agrees merged
       (filter kl (R p)) (filter (fits g ps) (product (map R ps))) (every_from (filter kl (R p)) (λ row c. here.are_rows row (Contains-from_filter kl (R p) row c).0))
       (every_from (filter (fits g ps) (product (map R ps))) (λ row c. product_row ps more row (Contains-from_filter (fits g ps) (product (map R ps)) row c).0))))
       (bag_join (here.bag g k) (product_bag ps more g k))
@@ -209,27 +205,27 @@ module _ (n : ℕ) (d : Dataset) (mode : Mode) (R : TriplePattern → List Row) 
       Q r = IsNamedRow n (all_names ps) r
 
       cells : Row → List Entry
-      cells row = named_cells (all_names (p ∷ ps)) row
+      cells row = zip (all_names (p ∷ ps)) row
 
       solution : Row → Solution
       solution row = named_solution n (cells row)
 
       kl : Row → Bool
-      kl l = graphs_fit (hidden_in mode g) (named_cells ns l)
+      kl l = graphs_fit (hidden_in mode g) (zip ns l)
 
       pass : Row → Bool
-      pass row = compatible (named_solution n (named_cells ns row)) (named_solution n (named_cells (all_names ps) (rest_of ns row)))
+      pass row = compatible (named_solution n (zip ns row)) (named_solution n (zip (all_names ps) (rest_of ns row)))
 
-      agrees : (l r : Row) → P l → Q r → pass (l ++ r) ≡ compatible (named_solution n (named_cells ns l)) (named_solution n (named_cells (all_names ps) r))
-      agrees l r a b = λ i. compatible (named_solution n (front_is ns l r a.named.size i)) (named_solution n (named_cells (all_names ps) (rest_is ns l r a.named.size i)))
+      agrees : (l r : Row) → P l → Q r → pass (l ++ r) ≡ compatible (named_solution n (zip ns l)) (named_solution n (zip (all_names ps) r))
+      agrees l r a b = λ i. compatible (named_solution n (front_is ns l r a.named.size i)) (named_solution n (zip (all_names ps) (rest_is ns l r a.named.size i)))
 
-      merged : (l r : Row) → P l → Q r → solution (l ++ r) ≡ merge (named_solution n (named_cells ns l)) (named_solution n (named_cells (all_names ps) r))
-      merged l r a b = ap (named_solution n) (cells-append ns (all_names ps) l r a.named.size) ∙ solution-append n (named_cells ns l) (named_cells (all_names ps) r) a.named.terms
+      merged : (l r : Row) → P l → Q r → solution (l ++ r) ≡ merge (named_solution n (zip ns l)) (named_solution n (zip (all_names ps) r))
+      merged l r a b = ap (named_solution n) (cells-append ns (all_names ps) l r a.named.size) ∙ solution-append n (zip ns l) (zip (all_names ps) r) a.named.terms
 
       split : (l r : Row) → P l → Q r → (alike [] (cells (l ++ r)) && graphs_fit (hidden_in mode g) (cells (l ++ r))) ≡ ((kl l && fits g ps r) && pass (l ++ r))
       split l r a b =
-          let zs = named_cells ns l in
-          let ws = named_cells (all_names ps) r in
+          let zs = zip ns l in
+          let ws = zip (all_names ps) r in
           let o = hidden_in mode g in
           (λ i. alike [] (cells-append ns (all_names ps) l r a.named.size i) && graphs_fit o (cells-append ns (all_names ps) l r a.named.size i))
           ∙ (λ i. (alike-append n zs ws a.named.terms b.terms a.named.below ∙ ap (λ x. (x && alike [] ws) && links n zs ws) a.alone) i && list_all-append (graph_fits o) zs ws i)

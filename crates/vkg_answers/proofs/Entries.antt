@@ -6,6 +6,7 @@ use Rattle.std.specs.List.{list_all}
 use Rattle.std.proofs.lemmas.List.{map-append}
 use Rattle.std.proofs.lemmas.List.Elements.{Contains-append_left, Contains-append_right, Contains-append_cases}
 use Rattle.std.proofs.Math.Bool.{and-true}
+use Rattle.std.proofs.lemmas.List.Folds.{list_all-append}
 use Rattle.vkg_lists.proofs.Counts.{eq_same}
 use Rattle.vkg_lists.proofs.Members.{Contains-none, Contains-here, Contains-there, Contains-cons_cases}
 use Rattle.vkg_lists.proofs.Bools.{and_parts}
@@ -20,7 +21,6 @@ use Rattle.vkg_expr.specs.Value.{value_of, term_of, truth_of, truth_cell, holds}
 use Rattle.vkg_unfold.specs.Unfolded.{Name, name_eq, Named, same_name, again, repeats}
 use Rattle.vkg_unfold.specs.StandsFor.{upto_from}
 use Rattle.vkg_unfold.proofs.AlgebraColumns.{name_test}
-use Rattle.vkg_answers.proofs.Agreement.{list_all-append}
 
 -- a name and its cell
 abbrev pub Entry : Type 0

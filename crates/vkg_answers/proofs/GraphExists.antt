@@ -4,6 +4,7 @@ use Rattle.std.specs.Prelude.{Option, Some, None, not, ◌&&◌, Contains, filte
 use Rattle.std.specs.Option.{option_map_or, option_to_list}
 use Rattle.std.specs.List.Sorted.{IsPermutation}
 use Rattle.std.specs.List.{list_any}
+use Rattle.vkg_lists.specs.Lists.{is_empty}
 use Rattle.vkg_lists.proofs.Bags.{bag_same, bag_trans, bag_map, bag_filter}
 use Rattle.vkg_lists.proofs.Counts.{eq_itself, eq_comm, Decides-list_any}
 use Rattle.vkg_lists.proofs.Walks.{filter_map_is_flat_map, map-flat_map, filter-flat_map}
@@ -78,20 +79,16 @@ none_of true true false = refl
 none_of true true true = refl
 
 -- rows without columns, each once
-abbrev some_there : {X : Type 0} → List X → Bool
-some_there [] = false
-some_there (x ∷ xs) = true
-
-one_empty : (qs : List Quad) → distinct one_row (map empty_row qs) ≡ (if some_there qs then [] ∷ [] else [])
+one_empty : (qs : List Quad) → distinct one_row (map empty_row qs) ≡ (if not (is_empty qs) then [] ∷ [] else [])
 one_empty [] = refl
 one_empty (q ∷ qs) = ap (λ rs. [] ∷ rs) (filter_drops (λ r. not (one_row [] r)) (distinct one_row (map empty_row qs)) (λ r c.
     let x = Contains-from_map empty_row qs r (Contains-from_distinct one_row (map empty_row qs) r c) in ap (λ s. not (one_row [] s)) (sym x.2)))
 
-there_some : {X : Type 0} (xs : List X) → some_there xs ≡ true → (x : X) × Contains xs x
+there_some : {X : Type 0} (xs : List X) → not (is_empty xs) ≡ true → (x : X) × Contains xs x
 there_some [] h = absurd (true≢false (sym h))
 there_some (x ∷ xs) h = (x, Contains-here x xs)
 
-some_from : {X : Type 0} (xs : List X) (x : X) → Contains xs x → some_there xs ≡ true
+some_from : {X : Type 0} (xs : List X) (x : X) → Contains xs x → not (is_empty xs) ≡ true
 some_from [] x c = absurd (Contains-none x c)
 some_from (y ∷ xs) x c = refl
 
@@ -179,8 +176,8 @@ module _ (schema : Tables) (rules : List RowRule) (db : Database) (fine : (rule 
             ∙ ap (λ b. is_some (term_at rule.subject row) && (is_some (term_at rule.predicate row) && (is_some (term_at rule.object row) && b))) (passes row k (Some test) e))
             ∙ sym (piece row))
 
-    exists_member : some_there (filter in_it (all_quads schema rules db)) ≡ list_any (term_eq (Iri i)) (graph_names (dataset_of schema rules db))
-    exists_member = same_truth (some_there (filter in_it (all_quads schema rules db))) (list_any (term_eq (Iri i)) (graph_names (dataset_of schema rules db)))
+    exists_member : not (is_empty (filter in_it (all_quads schema rules db))) ≡ list_any (term_eq (Iri i)) (graph_names (dataset_of schema rules db))
+    exists_member = same_truth (not (is_empty (filter in_it (all_quads schema rules db)))) (list_any (term_eq (Iri i)) (graph_names (dataset_of schema rules db)))
         (λ h.
         let x = there_some (filter in_it (all_quads schema rules db)) h in
         let y = Contains-from_filter in_it (all_quads schema rules db) x.0 x.1 in

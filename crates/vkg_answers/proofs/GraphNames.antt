@@ -4,6 +4,7 @@ use Rattle.std.proofs.Math.Bool.{and-true}
 use Rattle.std.specs.Prelude.{Option, Some, None, not, ◌&&◌, Contains, flat_map, filter_map, is_some, if◌then◌else◌, option_map}
 use Rattle.std.specs.Option.{option_map_or, option_to_list}
 use Rattle.std.specs.List.Sorted.{IsPermutation}
+use Rattle.std.proofs.lemmas.List.Folds.{list_all-append}
 use Rattle.vkg_lists.specs.Sets.{HasSameMembers, distinct}
 use Rattle.vkg_lists.proofs.Bags.{bag_same, bag_trans, bag_map}
 use Rattle.vkg_lists.proofs.Counts.{eq_same}
@@ -32,7 +33,6 @@ use Rattle.vkg_row_rules.specs.RowDataset.{rule_rows, term_at, graph_at, quads_o
 use Rattle.vkg_unfold.specs.Unfolded.{default_graph, graph_test, unless_never, rule_member, graph_exprs, not_null, names_plan, graph_terms}
 use Rattle.vkg_unfold.specs.declared.mode.Mode.TheVariants.{Each}
 use Rattle.vkg_unfold.specs.FineRows.{NeverDefault, IsFineRow}
-use Rattle.vkg_answers.proofs.Agreement.{list_all-append}
 use Rattle.vkg_answers.proofs.Graphs.{name_row}
 use Rattle.vkg_answers.proofs.Sources.{all_hold, member_rows, rows_or_none, union_rows, not_nulls, term_expr_is, not_null_is, not_same_const_is, nulls_are}
 use Rattle.vkg_answers.proofs.Members.{map_filter_flat, flat_nothing}

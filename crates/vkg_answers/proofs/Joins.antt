@@ -1,8 +1,8 @@
 -- Joins of rows are joins of the solutions that they are.
 use Rattle.std.proofs.Common.{◌≡◌, ℕ, Bool, true, false, List, [], ◌∷◌, ◌++◌, map, refl, sym, ap, ◌∙◌}
-use Rattle.std.specs.Prelude.{⊤, Option, not, ◌&&◌, replicate, filter, flat_map, if◌then◌else◌}
+use Rattle.std.specs.Prelude.{Option, not, ◌&&◌, replicate, filter, flat_map, if◌then◌else◌}
 use Rattle.std.specs.Option.{option_or}
-use Rattle.std.specs.List.{list_all}
+use Rattle.std.specs.List.{list_all, AllByRecursion}
 use Rattle.std.specs.List.Sorted.{IsPermutation}
 use Rattle.std.proofs.lemmas.List.Elements.{filter-append}
 use Rattle.std.proofs.lemmas.List.{map-append}
@@ -15,11 +15,6 @@ use Rattle.vkg_cells.specs.declared.cell.Cell.TheVariants as cell
 use Rattle.vkg_schema.specs.Rows.{Row}
 use Rattle.vkg_algebra.specs.Solutions.{Solution, compatible, merge, join, difference, left_join}
 use Rattle.vkg_plan.specs.Rows.{pairs, is_alone, left_pairs}
-
--- P of each member
-abbrev pub Each : {X : Type 0} → (X → Type 0) → List X → Type 0
-Each P [] = ⊤
-Each P (x ∷ xs) = P x × Each P xs
 
 -- two terms agree unless both are there and differ
 abbrev pub agree : Option Term → Option Term → Bool
@@ -59,13 +54,13 @@ map-filter f p x xs = of (p x)
 module _ (P Q : Row → Type 0) (a b c : Row → Solution) (holds : Row → Bool)
     (agrees : (l r : Row) → P l → Q r → holds (l ++ r) ≡ compatible (a l) (b r))
     (merged : (l r : Row) → P l → Q r → c (l ++ r) ≡ merge (a l) (b r)) where
-  one_left : (l : Row) (rs : List Row) → P l → Each Q rs → map c (filter holds (map (λ r. l ++ r) rs)) ≡ merges (a l) (map b rs)
+  one_left : (l : Row) (rs : List Row) → P l → AllByRecursion Q rs → map c (filter holds (map (λ r. l ++ r) rs)) ≡ merges (a l) (map b rs)
   one_left l [] p q = refl
   one_left l (r ∷ rs) p q =
       map-filter c holds (l ++ r) (map (λ r. l ++ r) rs)
       ∙ (Prim.rw (agrees l r p q.0, merged l r p q.0, one_left l rs p q.1) (sym (map-filter (merge (a l)) (compatible (a l)) (b r) (map b rs))))
 
-  all_left : (ls rs : List Row) → Each P ls → Each Q rs → map c (filter holds (pairs ls rs)) ≡ flat_map (λ s. merges s (map b rs)) (map a ls)
+  all_left : (ls rs : List Row) → AllByRecursion P ls → AllByRecursion Q rs → map c (filter holds (pairs ls rs)) ≡ flat_map (λ s. merges s (map b rs)) (map a ls)
   all_left [] rs p q = refl
   all_left (l ∷ ls) rs p q =
       ap (map c) (filter-append holds (map (λ r. l ++ r) rs) (pairs ls rs))
@@ -73,7 +68,7 @@ module _ (P Q : Row → Type 0) (a b c : Row → Solution) (holds : Row → Bool
       ∙ Prim.rw (one_left l rs p.0 q, all_left ls rs p.1 q) refl
 
   -- what Join's rows are
-  pub join_rows : (ls rs : List Row) → Each P ls → Each Q rs → map c (filter holds (pairs ls rs)) ≡ join (map a ls) (map b rs)
+  pub join_rows : (ls rs : List Row) → AllByRecursion P ls → AllByRecursion Q rs → map c (filter holds (pairs ls rs)) ≡ join (map a ls) (map b rs)
   join_rows ls rs p q = all_left ls rs p q ∙ sym (join_is (map a ls) (map b rs))
 
 -- LeftJoin: the condition of the plan is compatibility and the filter
@@ -81,7 +76,7 @@ module _ (P Q : Row → Type 0) (a b c : Row → Solution) (pass : Row → Bool)
     (agrees : (l r : Row) → P l → Q r → pass (l ++ r) ≡ (compatible (a l) (b r) && hold (merge (a l) (b r))))
     (merged : (l r : Row) → P l → Q r → c (l ++ r) ≡ merge (a l) (b r)) where
   -- one left row with its passing pairs
-  one_passing : (l : Row) (rs : List Row) → P l → Each Q rs → map c (filter pass (map (λ r. l ++ r) rs)) ≡ filter hold (merges (a l) (map b rs))
+  one_passing : (l : Row) (rs : List Row) → P l → AllByRecursion Q rs → map c (filter pass (map (λ r. l ++ r) rs)) ≡ filter hold (merges (a l) (map b rs))
   one_passing l [] p q = refl
   one_passing l (r ∷ rs) p q =
       map-filter c pass (l ++ r) (map (λ r. l ++ r) rs)
@@ -95,7 +90,7 @@ module _ (P Q : Row → Type 0) (a b c : Row → Solution) (pass : Row → Bool)
       of true true e = Prim.rw e refl
       of true false e = Prim.rw e refl
 
-  all_passing : (ls rs : List Row) → Each P ls → Each Q rs → map c (filter pass (pairs ls rs)) ≡ filter hold (flat_map (λ s. merges s (map b rs)) (map a ls))
+  all_passing : (ls rs : List Row) → AllByRecursion P ls → AllByRecursion Q rs → map c (filter pass (pairs ls rs)) ≡ filter hold (flat_map (λ s. merges s (map b rs)) (map a ls))
   all_passing [] rs p q = refl
   all_passing (l ∷ ls) rs p q =
       ap (map c) (filter-append pass (map (λ r. l ++ r) rs) (pairs ls rs))
@@ -103,12 +98,12 @@ module _ (P Q : Row → Type 0) (a b c : Row → Solution) (pass : Row → Bool)
       ∙ Prim.rw (one_passing l rs p.0 q, all_passing ls rs p.1 q) (sym (filter-append hold (merges (a l) (map b rs)) (flat_map (λ s. merges s (map b rs)) (map a ls))))
 
   -- a left row has no passing pair exactly where its solution has no such merge
-  none_passes : (l : Row) (rs : List Row) → P l → Each Q rs → is_alone pass rs l ≡ list_all (λ s. not (compatible (a l) s && hold (merge (a l) s))) (map b rs)
+  none_passes : (l : Row) (rs : List Row) → P l → AllByRecursion Q rs → is_alone pass rs l ≡ list_all (λ s. not (compatible (a l) s && hold (merge (a l) s))) (map b rs)
   none_passes l [] p q = refl
   none_passes l (r ∷ rs) p q = Prim.rw (agrees l r p q.0, none_passes l rs p q.1) refl
 
   module _ (n : ℕ) (padded : (l : Row) → P l → c (l ++ replicate n cell.Null) ≡ a l) where
-    lonely_rows : (ls rs : List Row) → Each P ls → Each Q rs →
+    lonely_rows : (ls rs : List Row) → AllByRecursion P ls → AllByRecursion Q rs →
         map c (map (λ l. l ++ replicate n cell.Null) (filter (is_alone pass rs) ls)) ≡ difference hold (map a ls) (map b rs)
     lonely_rows [] rs p q = refl
     lonely_rows (l ∷ ls) rs p q = Prim.rw (none_passes l rs p.0 q) (of (lonely_rows ls rs p.1 q) (list_all (λ s. not (compatible (a l) s && hold (merge (a l) s))) (map b rs)))
@@ -120,7 +115,7 @@ module _ (P Q : Row → Type 0) (a b c : Row → Solution) (pass : Row → Bool)
         of rest false = rest
 
     -- what Left's rows are
-    pub left_rows : (ls rs : List Row) → Each P ls → Each Q rs → map c (left_pairs pass n ls rs) ≡ left_join hold (map a ls) (map b rs)
+    pub left_rows : (ls rs : List Row) → AllByRecursion P ls → AllByRecursion Q rs → map c (left_pairs pass n ls rs) ≡ left_join hold (map a ls) (map b rs)
     left_rows ls rs p q =
         map-append c (filter pass (pairs ls rs)) (map (λ l. l ++ replicate n cell.Null) (filter (is_alone pass rs) ls))
         ∙ (λ i. (all_passing ls rs p q ∙ ap (filter hold) (sym (join_is (map a ls) (map b rs)))) i ++ lonely_rows ls rs p q i)

@@ -4,6 +4,7 @@ use Rattle.std.specs.Prelude.{Option, Some, None, ◌&&◌, Contains, filter, fl
 use Rattle.std.specs.Option.{option_map_or}
 use Rattle.std.specs.List.Sorted.{IsPermutation}
 use Rattle.std.proofs.lemmas.List.Elements.{Contains-append_cases}
+use Rattle.std.specs.List.{zip}
 use Rattle.vkg_lists.proofs.Results.{some_of}
 use Rattle.vkg_lists.proofs.Bags.{bag_same, bag_trans, bag_sym}
 use Rattle.vkg_lists.proofs.Counts.{eq_itself}
@@ -44,7 +45,7 @@ use Rattle.vkg_unfold.specs.StandsFor.{IsIn}
 use Rattle.vkg_unfold.specs.FineRows.{IsFineRow, IsNarrowGraph, IsNarrow, NeverDefault}
 use Rattle.vkg_answers.proofs.Entries.{Entry, entry, same_entry, first, alike, named_solution, AreTerms, AreAlike}
 use Rattle.vkg_answers.proofs.Links.{are_alike, alike_is, alike_parts, terms-append, NamesBelow, AreBetween}
-use Rattle.vkg_answers.proofs.Columns.{named_cells, hidden_in, graphs_fit, HasGraphEntry, IsPatternRow, PatternStands}
+use Rattle.vkg_answers.proofs.Columns.{hidden_in, graphs_fit, HasGraphEntry, IsPatternRow, PatternStands}
 use Rattle.vkg_answers.proofs.Sources.{all_hold, member_rows, rows_or_none, union_rows, not_nulls, graph_is, graph_passes, graph_passes_is, term_expr_is, not_null_is}
 use Rattle.vkg_answers.proofs.Quads.{NodeBelow, node_entries, node_below, pattern_entries, pattern_ok}
 use Rattle.vkg_answers.proofs.Members.{hidden_of, names_are_places, member_exprs, row_cells, member_entries, member_conditions, conditions_are, rules_answer, row_fits, row_solution}
@@ -264,7 +265,7 @@ module _ (schema : Tables) (rules : List RowRule) (db : Database) (n : ℕ) (p :
     })
       where
         whole : (g : Option Term) → IsIn d mode g →
-            IsPermutation (map (λ row. named_solution n (named_cells (pattern_names mode p) row)) (filter (λ row. graphs_fit (hidden_in mode g) (named_cells (pattern_names mode p) row)) (distinct one_row all_rows))) (pattern_solutions n p (graph_of d g))
+            IsPermutation (map (λ row. named_solution n (zip (pattern_names mode p) row)) (filter (λ row. graphs_fit (hidden_in mode g) (zip (pattern_names mode p) row)) (distinct one_row all_rows))) (pattern_solutions n p (graph_of d g))
         whole g h = bag_trans (bag_same
             (ap (map solution) (filter_distinct_on one_row fits all_rows (λ x y a b e. ap fits ((one_row_says n d mode (pattern_names mode p) x y (any_row x a) (any_row y b)).0 e)))
             ∙ distinct_map_on one_row solution_eq solution (filter fits all_rows)

@@ -4,6 +4,8 @@ use Rattle.std.specs.Prelude.{Option, Some, None, not, ◌&&◌, Contains, filte
 use Rattle.std.specs.Option.{option_map_or, option_to_list}
 use Rattle.std.proofs.lemmas.List.{map-append}
 use Rattle.std.proofs.Math.Bool.{and-true}
+use Rattle.std.specs.List.{zip}
+use Rattle.std.proofs.lemmas.List.Folds.{list_all-append}
 use Rattle.vkg_unfold.proofs.PlanColumns.{names_of_places}
 use Rattle.vkg_lists.proofs.Distinct.{distinct-map}
 use Rattle.vkg_lists.proofs.Walks.{filter-map, filter-filter, map-map, filter_map_is_flat_map, filter-flat_map, flat_map-flat_map, map-flat_map}
@@ -37,15 +39,14 @@ use Rattle.vkg_unfold.specs.Unfolded.{Name, name_eq, Named, same_name, named, co
 use Rattle.vkg_unfold.specs.StandsFor.{IsIn, upto_from}
 use Rattle.vkg_unfold.specs.FineRows.{NeverDefault}
 use Rattle.vkg_unfold.proofs.AlgebraColumns.{name_test}
-use Rattle.vkg_answers.proofs.Agreement.{list_all-append}
 use Rattle.vkg_answers.proofs.Entries.{Entry, entry, same_entry, first, alike, named_solution, repeats_alike}
-use Rattle.vkg_answers.proofs.Columns.{named_cells, hidden_in, graph_fits, graphs_fit}
+use Rattle.vkg_answers.proofs.Columns.{hidden_in, graph_fits, graphs_fit}
 use Rattle.vkg_answers.proofs.Sources.{all_hold, member_rows, rows_or_none, not_nulls, graph_is, in_graph, graph_passes_is, term_expr_is, nulls_are}
 use Rattle.vkg_answers.proofs.Quads.{NodeBelow, node_entries, pattern_cells, pattern_entries, pattern_ok, quad_answers, constants_are, named_are}
 
 -- ---- the entries of a member's row
 
-entries_of : (row : Row) (xs : List Named) → named_cells (map (λ (x : Named). x.0) xs) (map (λ e. value_of e row) (map (λ (x : Named). x.1) xs)) ≡ map (entry row) xs
+entries_of : (row : Row) (xs : List Named) → zip (map (λ (x : Named). x.0) xs) (map (λ e. value_of e row) (map (λ (x : Named). x.1) xs)) ≡ map (entry row) xs
 entries_of row [] = refl
 entries_of row (x ∷ xs) = ap (λ zs. entry row x ∷ zs) (entries_of row xs)
 
@@ -120,14 +121,14 @@ module _ (mode : Mode) (p : TriplePattern) (rule : RowRule) (test : List Expr) (
   abbrev pub place_entries : List Entry
   place_entries = pattern_entries p (value_of (term_expr rule.subject) row) (value_of (term_expr rule.predicate) row) (value_of (term_expr rule.object) row)
 
-  pub member_entries : named_cells (pattern_names mode p) (row_cells row (member_exprs mode p rule)) ≡ distinct same_entry place_entries ++ map (entry row) (hidden_of mode rule.graph)
+  pub member_entries : zip (pattern_names mode p) (row_cells row (member_exprs mode p rule)) ≡ distinct same_entry place_entries ++ map (entry row) (hidden_of mode rule.graph)
   member_entries =
-      ap (λ ns. named_cells ns (row_cells row (member_exprs mode p rule))) (sym (names_are_places mode p rule test admits))
+      ap (λ ns. zip ns (row_cells row (member_exprs mode p rule))) (sym (names_are_places mode p rule test admits))
       ∙ entries_of row (pattern_places mode p rule)
       ∙ map-append (entry row) (distinct same_name (flat_map named (places p rule))) (hidden_places mode rule)
       ∙ (λ i. (sym (distinct-map same_name same_entry (entry row) (λ x y. refl) (flat_map named (places p rule))) ∙ ap (distinct same_entry) (named_are row (places p rule))) i ++ map (entry row) (hidden_is_of mode rule i))
 
-  pub member_solution : (n : ℕ) → named_solution n (named_cells (pattern_names mode p) (row_cells row (member_exprs mode p rule))) ≡ named_solution n place_entries
+  pub member_solution : (n : ℕ) → named_solution n (zip (pattern_names mode p) (row_cells row (member_exprs mode p rule))) ≡ named_solution n place_entries
   member_solution n = ap (named_solution n) member_entries ∙ (λ i. map (λ v. ap term_of (hidden_passed row v mode rule.graph (distinct same_entry place_entries) ∙ first-distinct (Some v) place_entries) i) (upto_from 0 n))
 
   -- the entries of places fit any graph
@@ -149,7 +150,7 @@ module _ (mode : Mode) (p : TriplePattern) (rule : RowRule) (test : List Expr) (
   fit-distinct o [] h = refl
   fit-distinct o (z ∷ zs) h = let b = and_parts (graph_fits o z) (graphs_fit o zs) h in λ i. b.0 i && fit-filter o (λ y. not (same_entry z y)) (distinct same_entry zs) (fit-distinct o zs b.1) i
 
-  pub member_fits : (d : Dataset) (g : Option Term) → IsIn d mode g → graphs_fit (hidden_in mode g) (named_cells (pattern_names mode p) (row_cells row (member_exprs mode p rule))) ≡ graph_is mode g rule.graph row
+  pub member_fits : (d : Dataset) (g : Option Term) → IsIn d mode g → graphs_fit (hidden_in mode g) (zip (pattern_names mode p) (row_cells row (member_exprs mode p rule))) ≡ graph_is mode g rule.graph row
   member_fits d g h =
       ap (graphs_fit (hidden_in mode g)) member_entries
       ∙ list_all-append (graph_fits (hidden_in mode g)) (distinct same_entry place_entries) (map (entry row) (hidden_of mode rule.graph))
@@ -252,10 +253,10 @@ flat_nothing f (x ∷ xs) h = λ i. h x (Contains-here x xs) i ++ flat_nothing f
 
 module _ (schema : Tables) (db : Database) (n : ℕ) (d : Dataset) (mode : Mode) (g : Option Term) (h : IsIn d mode g) (p : TriplePattern) (below : NodeBelow n p.subject × NodeBelow n p.predicate × NodeBelow n p.object) where
   abbrev pub row_solution : Row → Solution
-  row_solution row = named_solution n (named_cells (pattern_names mode p) row)
+  row_solution row = named_solution n (zip (pattern_names mode p) row)
 
   abbrev pub row_fits : Row → Bool
-  row_fits row = graphs_fit (hidden_in mode g) (named_cells (pattern_names mode p) row)
+  row_fits row = graphs_fit (hidden_in mode g) (zip (pattern_names mode p) row)
 
   quads_are : (rule : RowRule) → flat_map (triple_solutions n p) (filter (λ q. graph_eq q.graph g) (quads_of schema db rule)) ≡ flat_map (answers_at n d mode g h p below rule) (rule_rows schema db rule.table rule.join)
   quads_are rule =

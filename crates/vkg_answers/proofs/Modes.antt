@@ -4,6 +4,7 @@ use Rattle.std.proofs.Math.Bool.{and-false}
 use Rattle.std.specs.Prelude.{Option, Some, None, ◌&&◌, replicate, unwrap_or}
 use Rattle.std.specs.List.{list_all}
 use Rattle.std.specs.Option.{option_map_or}
+use Rattle.std.proofs.lemmas.List.Folds.{list_all-append}
 use Rattle.vkg_lists.proofs.Counts.{eq_same}
 use Rattle.vkg_terms.specs.declared.term.Term.{Term}
 use Rattle.vkg_terms.specs.Same.{term_eq}
@@ -23,7 +24,7 @@ use Rattle.vkg_unfold.specs.declared.mode.Mode.TheVariants.{Default, InGraph, Ea
 use Rattle.vkg_unfold.specs.Unfolded.{merged, merged_columns, agreement, columns_in, if_each}
 use Rattle.vkg_unfold.specs.StandsFor.{IsIn, belongs, hidden_is, HasGraph}
 use Rattle.vkg_answers.proofs.Reading.{AreTermCells}
-use Rattle.vkg_answers.proofs.Agreement.{agreements, list_all-append}
+use Rattle.vkg_answers.proofs.Agreement.{agreements}
 
 -- a row of a plan with these variables in a mode
 pub record IsRowOf (d : Dataset) (mode : Mode) (vs : List ℕ) (row : Row) : Type 0 where

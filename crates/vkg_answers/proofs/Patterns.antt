@@ -3,7 +3,7 @@ use Rattle.std.proofs.Common.{◌≡◌, ℕ, zero, suc, ◌+◌, ◌<◌, ◌�
 use Rattle.std.specs.Prelude.{Option, Some, None, ◌&&◌, ◌||◌, Contains, filter, flat_map, slice_set, nat_eq, if◌then◌else◌}
 use Rattle.std.specs.Option.{option_map_or}
 use Rattle.std.specs.List.Sorted.{IsPermutation}
-use Rattle.std.specs.List.{list_any}
+use Rattle.std.specs.List.{list_any, zip}
 use Rattle.std.proofs.lemmas.Bool.{eqb-true}
 use Rattle.std.proofs.lemmas.List.{map-append}
 use Rattle.std.proofs.lemmas.List.Elements.{Contains-append_cases}
@@ -46,7 +46,7 @@ use Rattle.vkg_answers.proofs.Modes.{IsRowOf, cell_at-after, hidden_found}
 use Rattle.vkg_answers.proofs.Steps.{Stands, projected, project_rows, IsGraphCell}
 use Rattle.vkg_answers.proofs.Entries.{Entry, first, alike, named_term, named_solution, repeats_alike, AreAlike}
 use Rattle.vkg_answers.proofs.Links.{first_cases, first_alike, are_alike}
-use Rattle.vkg_answers.proofs.Columns.{named_cells, cells-append, place_first, numbered_cells, graph_fits, graphs_fit, fits_term, HasGraphEntry, IsNamedRow, PatternStands, fits, product_row, product_bag}
+use Rattle.vkg_answers.proofs.Columns.{cells-append, place_first, numbered_cells, graph_fits, graphs_fit, fits_term, HasGraphEntry, IsNamedRow, PatternStands, fits, product_row, product_bag}
 
 -- ---- without labels
 
@@ -84,12 +84,12 @@ without-map n (w ∷ vs) f =
 
 -- ---- the names of patterns
 
-pub first_absent : (x : Name) (ns : List Name) (row : Row) → list_any (name_eq x) ns ≡ false → first x (named_cells ns row) ≡ cell.Null
+pub first_absent : (x : Name) (ns : List Name) (row : Row) → list_any (name_eq x) ns ≡ false → first x (zip ns row) ≡ cell.Null
 first_absent x [] row h = refl
 first_absent x (y ∷ ns) [] h = refl
 first_absent x (y ∷ ns) (c ∷ row) h = of (first_absent x ns row) (name_eq x y) h
   where
-    of : (list_any (name_eq x) ns ≡ false → first x (named_cells ns row) ≡ cell.Null) → (b : Bool) → (b || list_any (name_eq x) ns) ≡ false → (if b then c else first x (named_cells ns row)) ≡ cell.Null
+    of : (list_any (name_eq x) ns ≡ false → first x (zip ns row) ≡ cell.Null) → (b : Bool) → (b || list_any (name_eq x) ns) ≡ false → (if b then c else first x (zip ns row)) ≡ cell.Null
     of rest true k = absurd (true≢false k)
     of rest false k = rest k
 
@@ -168,26 +168,26 @@ abbrev pub AllStand : ℕ → Dataset → Mode → (TriplePattern → List Row) 
 AllStand n d mode R ps = (p : TriplePattern) → Contains ps p → PatternStands n d mode p (R p)
 
 no_graph : (n : ℕ) (d : Dataset) (mode : Mode) (R : TriplePattern → List Row) (ps : List TriplePattern) → ((zs : List Entry) → HasGraphEntry d mode zs → (x : Entry) → Contains zs x → x.0 ≡ None → ⊥) → AllStand n d mode R ps →
-    (row : Row) → Contains (product (map R ps)) row → (x : Entry) → Contains (named_cells (names mode ps) row) x → x.0 ≡ None → ⊥
+    (row : Row) → Contains (product (map R ps)) row → (x : Entry) → Contains (zip (names mode ps) row) x → x.0 ≡ None → ⊥
 no_graph n d mode R [] f h row c x k e = absurd (Contains-none x k)
 no_graph n d mode R (p ∷ ps) f h row c x k e =
     let y = Contains-from_flat_map (λ l. map (λ r. l ++ r) (product (map R ps))) (R p) row c in
     let z = Contains-from_map (λ r. y.0 ++ r) (product (map R ps)) row y.2 in
     let a = (h p (Contains-here p ps)).are_rows y.0 y.1 in
-    let k2 = subst (λ zs. Contains zs x) (ap (named_cells (names mode (p ∷ ps))) (sym z.2) ∙ cells-append (pattern_names mode p) (names mode ps) y.0 z.0 a.named.size) k in
-    ⊎_elim (λ l. f (named_cells (pattern_names mode p) y.0) a.graph x l e) (λ r. no_graph n d mode R ps f (λ q m. h q (Contains-there p ps q m)) z.0 z.1 x r e)
-    (Contains-append_cases (named_cells (pattern_names mode p) y.0) (named_cells (names mode ps) z.0) x k2)
+    let k2 = subst (λ zs. Contains zs x) (ap (zip (names mode (p ∷ ps))) (sym z.2) ∙ cells-append (pattern_names mode p) (names mode ps) y.0 z.0 a.named.size) k in
+    ⊎_elim (λ l. f (zip (pattern_names mode p) y.0) a.graph x l e) (λ r. no_graph n d mode R ps f (λ q m. h q (Contains-there p ps q m)) z.0 z.1 x r e)
+    (Contains-append_cases (zip (pattern_names mode p) y.0) (zip (names mode ps) z.0) x k2)
 
 product_graph : (n : ℕ) (d : Dataset) (mode : Mode) (R : TriplePattern → List Row) (p : TriplePattern) (ps : List TriplePattern) → AllStand n d mode R (p ∷ ps) →
-    (row : Row) → Contains (product (map R (p ∷ ps))) row → HasGraphEntry d mode (named_cells (names mode (p ∷ ps)) row)
+    (row : Row) → Contains (product (map R (p ∷ ps))) row → HasGraphEntry d mode (zip (names mode (p ∷ ps)) row)
 product_graph n d Default R p ps h row c = no_graph n d Default R (p ∷ ps) (λ zs f. f) h row c
 product_graph n d (InGraph i) R p ps h row c = no_graph n d (InGraph i) R (p ∷ ps) (λ zs f. f) h row c
 product_graph n d Each R p ps h row c =
     let y = Contains-from_flat_map (λ l. map (λ r. l ++ r) (product (map R ps))) (R p) row c in
     let z = Contains-from_map (λ r. y.0 ++ r) (product (map R ps)) row y.2 in
     let a = (h p (Contains-here p ps)).are_rows y.0 y.1 in
-    let whole = ap (named_cells (names Each (p ∷ ps))) (sym z.2) ∙ cells-append (pattern_names Each p) (names Each ps) y.0 z.0 a.named.size in
-    (a.graph.0, a.graph.1, ap (first None) whole ∙ first_stays None (named_cells (pattern_names Each p) y.0) (named_cells (names Each ps) z.0) a.graph.0 a.graph.2)
+    let whole = ap (zip (names Each (p ∷ ps))) (sym z.2) ∙ cells-append (pattern_names Each p) (names Each ps) y.0 z.0 a.named.size in
+    (a.graph.0, a.graph.1, ap (first None) whole ∙ first_stays None (zip (pattern_names Each p) y.0) (zip (names Each ps) z.0) a.graph.0 a.graph.2)
 
 -- whether a whole row belongs to a graph
 no_entries_fit : (o : Option Term) (zs : List Entry) → ((x : Entry) → Contains zs x → x.0 ≡ None → ⊥) → graphs_fit o zs ≡ true
@@ -234,7 +234,7 @@ module _ (schema : Tables) (rules : List RowRule) (n : ℕ) (d : Dataset) (db : 
     hidden mode = Col (place_of (name_eq None) (names mode (p ∷ ps)))
 
     abbrev cells : Mode → Row → List Entry
-    cells mode row = named_cells (names mode (p ∷ ps)) row
+    cells mode row = zip (names mode (p ∷ ps)) row
 
     abbrev proj : Mode → Row → Row
     proj mode row = map (λ e. value_of e row) (map (at mode) vis ++ if_each mode (hidden mode))

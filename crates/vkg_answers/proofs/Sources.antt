@@ -3,6 +3,7 @@ use Rattle.std.proofs.Common.{◌≡◌, ℕ, Bool, true, false, List, [], ◌�
 use Rattle.std.specs.Prelude.{Option, Some, None, not, ◌&&◌, filter, flat_map, filter_map, is_some, if◌then◌else◌, unwrap_or, option_map}
 use Rattle.std.specs.Option.{option_map_or}
 use Rattle.std.specs.List.{list_all, cons_option}
+use Rattle.std.proofs.lemmas.List.Folds.{list_all-append}
 use Rattle.vkg_lists.proofs.Counts.{eq_same, eq_comm}
 use Rattle.vkg_lists.proofs.Walks.{filter-filter}
 use Rattle.vkg_lists.specs.Sets.{distinct}
@@ -38,7 +39,6 @@ use Rattle.vkg_unfold.specs.declared.mode.Mode.{Mode}
 use Rattle.vkg_unfold.specs.declared.mode.Mode.TheVariants.{Default, InGraph, Each}
 use Rattle.vkg_unfold.specs.FineRows.{NeverDefault}
 use Rattle.vkg_unfold.specs.StandsFor.{IsIn}
-use Rattle.vkg_answers.proofs.Agreement.{list_all-append}
 use Rattle.vkg_answers.proofs.Steps.{product-two, project_rows}
 use Rattle.vkg_answers.proofs.Entries.{is_same}
 

@@ -1,13 +1,12 @@
 -- Pairs of rows that pass, where what passes belongs to a part of either side, are the pairs of those parts.
 use Rattle.std.proofs.Common.{◌≡◌, ℕ, Bool, true, false, List, [], ◌∷◌, ◌++◌, map, refl, sym, ◌∙◌}
 use Rattle.std.specs.Prelude.{not, ◌&&◌, replicate, filter, if◌then◌else◌}
-use Rattle.std.specs.List.{list_all}
+use Rattle.std.specs.List.{list_all, AllByRecursion as Every}
 use Rattle.std.proofs.lemmas.List.Elements.{filter-append}
 use Rattle.vkg_lists.proofs.Walks.{filter-filter}
 use Rattle.vkg_cells.specs.declared.cell.Cell.TheVariants as cell
 use Rattle.vkg_schema.specs.Rows.{Row}
 use Rattle.vkg_plan.specs.Rows.{is_alone, pairs, left_pairs}
-use Rattle.vkg_answers.proofs.Joins.{Each as Every}
 
 abbrev pub no_row : List Row
 no_row = []

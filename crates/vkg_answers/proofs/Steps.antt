@@ -1,7 +1,7 @@
 -- Each node's rows stand for the solutions of its algebra, if those of its parts do.
 use Rattle.std.proofs.Common.{◌≡◌, ℕ, ◌<◌, Bool, true, false, ⊎_elim, List, [], ◌∷◌, ◌++◌, map, length, refl, sym, ap, subst, ◌∙◌, arith, true≢false, append-nil}
 use Rattle.std.specs.Prelude.{Option, Some, None, not, ◌&&◌, ◌||◌, replicate, filter, Contains, ⊤}
-use Rattle.std.specs.List.{list_all}
+use Rattle.std.specs.List.{list_all, AllByRecursion as Every}
 use Rattle.std.specs.Option.{option_or}
 use Rattle.std.specs.List.Sorted.{IsPermutation}
 use Rattle.std.proofs.lemmas.List.Elements.{Contains-append_cases}
@@ -33,7 +33,7 @@ use Rattle.vkg_unfold.specs.declared.mode.Mode.TheVariants.{Default, InGraph, Ea
 use Rattle.vkg_unfold.specs.Unfolded.{merged, agreement, if_each, visible_column}
 use Rattle.vkg_unfold.specs.StandsFor.{IsIn, belongs, term_in, solution_of, solutions_of, upto_from}
 use Rattle.vkg_unfold.specs.FineRows.{IsNarrow}
-use Rattle.vkg_answers.proofs.Joins.{Each as Every, bag_join, join_rows, left_rows, merge-map}
+use Rattle.vkg_answers.proofs.Joins.{bag_join, join_rows, left_rows, merge-map}
 use Rattle.vkg_answers.proofs.Values.{IsNarrowCondition, IsNarrowIfAny, means, truth_meant}
 use Rattle.vkg_answers.proofs.Reading.{AreBelow, AreTermCells, IsTermCell, read_typed, has_union, term_merged, read_merged, solution-merged, merged_typed, nulls_typed, nulls_none, none_right, lookup-solution, cells-map, cells-cons, cells-nil, length-project, narrow_or}
 use Rattle.vkg_answers.proofs.Agreement.{agreements, agreements-compatible}

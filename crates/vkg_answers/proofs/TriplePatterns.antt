@@ -3,6 +3,7 @@ use Rattle.std.proofs.Common.{◌≡◌, ℕ, ◌+◌, ◌<◌, Bool, true, fals
 use Rattle.std.specs.Prelude.{Option, Some, None, ◌&&◌, Contains, if◌then◌else◌}
 use Rattle.std.specs.Bool.{Decides}
 use Rattle.std.proofs.lemmas.List.Elements.{Contains-append_cases, Contains-append_left, Contains-append_right}
+use Rattle.std.specs.List.{zip}
 use Rattle.vkg_lists.proofs.Counts.{eq_same}
 use Rattle.vkg_lists.proofs.Members.{Contains-none, Contains-here, Contains-there, Contains-cons_cases, map_agree_on, each_of_all}
 use Rattle.vkg_lists.proofs.Bools.{and_parts, and_true, same_truth}
@@ -29,7 +30,7 @@ use Rattle.vkg_unfold.specs.StandsFor.{IsIn}
 use Rattle.vkg_answers.proofs.Reading.{lookup-upto}
 use Rattle.vkg_answers.proofs.Entries.{Entry, first, alike, named_term, named_solution, AreTerms, AreAlike}
 use Rattle.vkg_answers.proofs.Links.{first_there, first_alike, are_alike, terms-append}
-use Rattle.vkg_answers.proofs.Columns.{named_cells, hidden_in, graph_fits, graphs_fit, fits_term, IsPatternRow}
+use Rattle.vkg_answers.proofs.Columns.{hidden_in, graph_fits, graphs_fit, fits_term, IsPatternRow}
 use Rattle.vkg_answers.proofs.Quads.{NodeBelow, node_entries, node_ok, node_terms, pattern_entries, pattern_ok, quad_solutions_are}
 
 -- ---- the solutions of a quad
@@ -113,16 +114,16 @@ module _ (n : ℕ) (p : TriplePattern) (below : NodeBelow n p.subject × NodeBel
 
 -- ---- rows of terms are one row to Distinct where they are equal
 
-cells_same : (ns : List Name) (x y : Row) → length x ≡ length ns → length y ≡ length ns → AreTerms (named_cells ns x) → AreTerms (named_cells ns y) → Decides (one_row x y) (x ≡ y)
+cells_same : (ns : List Name) (x y : Row) → length x ≡ length ns → length y ≡ length ns → AreTerms (zip ns x) → AreTerms (zip ns y) → Decides (one_row x y) (x ≡ y)
 cells_same [] [] [] e f a b = (λ h. refl, λ h. refl)
 cells_same [] (c ∷ x) y e f a b = absurd (omega arith)
 cells_same [] [] (c ∷ y) e f a b = absurd (omega arith)
 cells_same (m ∷ ns) [] y e f a b = absurd (omega arith)
 cells_same (m ∷ ns) (c ∷ x) [] e f a b = absurd (omega arith)
 cells_same (m ∷ ns) (c ∷ x) (k ∷ y) e f a b =
-    let rest = cells_same ns x y (omega arith) (omega arith) (λ z q. a z (Contains-there (m, c) (named_cells ns x) z q)) (λ z q. b z (Contains-there (m, k) (named_cells ns y) z q)) in
-    let t = a (m, c) (Contains-here (m, c) (named_cells ns x)) in
-    let u = b (m, k) (Contains-here (m, k) (named_cells ns y)) in (
+    let rest = cells_same ns x y (omega arith) (omega arith) (λ z q. a z (Contains-there (m, c) (zip ns x) z q)) (λ z q. b z (Contains-there (m, k) (zip ns y) z q)) in
+    let t = a (m, c) (Contains-here (m, c) (zip ns x)) in
+    let u = b (m, k) (Contains-here (m, k) (zip ns y)) in (
       λ h. let g = and_parts (one_cell c k) (one_row x y) h in
           let i : t.0 ≡ u.0 = eq_same terms_apart t.0 u.0 (sym (λ i. one_cell (t.1 i) (u.1 i)) ∙ g.0) in
           λ j. (t.1 ∙ ap cell.Term i ∙ sym u.1) j ∷ rest.0 g.1 j,
@@ -132,50 +133,50 @@ cells_same (m ∷ ns) (c ∷ x) (k ∷ y) e f a b =
     )
 
 -- a row is its first cells by name
-row_back : (zs : List Entry) (ns : List Name) (row : Row) → length row ≡ length ns → ((e : Entry) → Contains (named_cells ns row) e → first e.0 zs ≡ e.1) → map (λ m. first m zs) ns ≡ row
+row_back : (zs : List Entry) (ns : List Name) (row : Row) → length row ≡ length ns → ((e : Entry) → Contains (zip ns row) e → first e.0 zs ≡ e.1) → map (λ m. first m zs) ns ≡ row
 row_back zs [] [] e h = refl
 row_back zs [] (c ∷ row) e h = absurd (omega arith)
 row_back zs (m ∷ ns) [] e h = absurd (omega arith)
-row_back zs (m ∷ ns) (c ∷ row) e h = λ i. h (m, c) (Contains-here (m, c) (named_cells ns row)) i ∷ row_back zs ns row (omega arith) (λ x k. h x (Contains-there (m, c) (named_cells ns row) x k)) i
+row_back zs (m ∷ ns) (c ∷ row) e h = λ i. h (m, c) (Contains-here (m, c) (zip ns row)) i ∷ row_back zs ns row (omega arith) (λ x k. h x (Contains-there (m, c) (zip ns row) x k)) i
 
-has_cell : (ns : List Name) (row : Row) (m : Name) → length row ≡ length ns → Contains ns m → (c : Cell) × Contains (named_cells ns row) (m, c)
+has_cell : (ns : List Name) (row : Row) (m : Name) → length row ≡ length ns → Contains ns m → (c : Cell) × Contains (zip ns row) (m, c)
 has_cell [] row m e h = absurd (Contains-none m h)
 has_cell (k ∷ ns) [] m e h = absurd (omega arith)
 has_cell (k ∷ ns) (c ∷ row) m e h = ⊎_elim
     (λ f. (c, ap_here f))
-    (λ g. let r = has_cell ns row m (omega arith) g in (r.0, Contains-there (k, c) (named_cells ns row) (m, r.0) r.1))
+    (λ g. let r = has_cell ns row m (omega arith) g in (r.0, Contains-there (k, c) (zip ns row) (m, r.0) r.1))
     (Contains-cons_cases k ns m h)
   where
-    ap_here : k ≡ m → Contains ((k, c) ∷ named_cells ns row) (m, c)
-    ap_here f = subst (λ j. Contains ((k, c) ∷ named_cells ns row) (j, c)) f (Contains-here (k, c) (named_cells ns row))
+    ap_here : k ≡ m → Contains ((k, c) ∷ zip ns row) (m, c)
+    ap_here f = subst (λ j. Contains ((k, c) ∷ zip ns row) (j, c)) f (Contains-here (k, c) (zip ns row))
 
 module _ (n : ℕ) (d : Dataset) (mode : Mode) (ns : List Name) where
-  named_first : (row : Row) → IsPatternRow n d mode ns row → (m : Name) → Contains ns m → first m (named_cells ns row) ≡ term_cell (term_of (first m (named_cells ns row)))
+  named_first : (row : Row) → IsPatternRow n d mode ns row → (m : Name) → Contains ns m → first m (zip ns row) ≡ term_cell (term_of (first m (zip ns row)))
   named_first row a m c =
       let r = has_cell ns row m a.named.size c in
-      let s = first_there m (named_cells ns row) (m, r.0) r.1 refl in
+      let s = first_there m (zip ns row) (m, r.0) r.1 refl in
       let t = a.named.terms s.0 s.1 in
-      let e : first m (named_cells ns row) ≡ cell.Term t.0 = s.3 ∙ t.1 in
+      let e : first m (zip ns row) ≡ cell.Term t.0 = s.3 ∙ t.1 in
       e ∙ ap (λ z. term_cell (term_of z)) (sym e)
 
-  row_alike : (row : Row) → IsPatternRow n d mode ns row → AreAlike (named_cells ns row)
-  row_alike row a = are_alike (named_cells ns row) a.named.terms a.alone
+  row_alike : (row : Row) → IsPatternRow n d mode ns row → AreAlike (zip ns row)
+  row_alike row a = are_alike (zip ns row) a.named.terms a.alone
 
   pub one_row_says : (x y : Row) → IsPatternRow n d mode ns x → IsPatternRow n d mode ns y → Decides (one_row x y) (x ≡ y)
   one_row_says x y a b = cells_same ns x y a.named.size b.named.size a.named.terms b.named.terms
 
   pub solution_says : (g : Option Term) → IsIn d mode g → (x y : Row) → IsPatternRow n d mode ns x → IsPatternRow n d mode ns y →
-      graphs_fit (hidden_in mode g) (named_cells ns x) ≡ true → graphs_fit (hidden_in mode g) (named_cells ns y) ≡ true →
-      solution_eq (named_solution n (named_cells ns x)) (named_solution n (named_cells ns y)) ≡ one_row x y
-  solution_says g h x y a b k l = same_truth (solution_eq (named_solution n (named_cells ns x)) (named_solution n (named_cells ns y))) (one_row x y)
-      (λ e. (one_row_says x y a b).1 (equal (eq_same solution_test (named_solution n (named_cells ns x)) (named_solution n (named_cells ns y)) e)))
-      (λ e. (solution_test.decides (named_solution n (named_cells ns x)) (named_solution n (named_cells ns y))).1 (ap (λ r. named_solution n (named_cells ns r)) ((one_row_says x y a b).0 e)))
+      graphs_fit (hidden_in mode g) (zip ns x) ≡ true → graphs_fit (hidden_in mode g) (zip ns y) ≡ true →
+      solution_eq (named_solution n (zip ns x)) (named_solution n (zip ns y)) ≡ one_row x y
+  solution_says g h x y a b k l = same_truth (solution_eq (named_solution n (zip ns x)) (named_solution n (zip ns y))) (one_row x y)
+      (λ e. (one_row_says x y a b).1 (equal (eq_same solution_test (named_solution n (zip ns x)) (named_solution n (zip ns y)) e)))
+      (λ e. (solution_test.decides (named_solution n (zip ns x)) (named_solution n (zip ns y))).1 (ap (λ r. named_solution n (zip ns r)) ((one_row_says x y a b).0 e)))
     where
       zs : List Entry
-      zs = named_cells ns x
+      zs = zip ns x
 
       ws : List Entry
-      ws = named_cells ns y
+      ws = zip ns y
 
       terms_at : named_solution n zs ≡ named_solution n ws → (m : Name) → Contains ns m → term_of (first m zs) ≡ term_of (first m ws)
       terms_at e None c =

@@ -1,26 +1,23 @@
 -- What reading a field says when it answers a cell.
-use Rattle.std.proofs.Common.{◌≡◌, refl, List, ℕ, nat_lt, cond, Bool, true, false, Option, Some, None, Result, Ok, Err}
+use Rattle.std.proofs.Common.{◌≡◌, refl, List, ℕ, nat_lt, cond, Bool, true, false, Option, Some, None, Ok, Err}
+use Rattle.vkg_lists.proofs.Results.{ok_same}
 use Rattle.vkg_cells.specs.declared.cell.Cell.{Cell}
 use Rattle.vkg_cells.specs.declared.cell.Cell.TheVariants as cell
-use Rattle.vkg_cells.specs.declared.cell.FieldFault.{FieldFault}
 use Rattle.vkg_cells.specs.declared.cell.FieldFault.TheVariants as field
 use Rattle.vkg_cells.specs.Field.{where_field, where_number, where_stamp}
 use Rattle.vkg_cells.specs.Number.{width}
 
-pub ok_is : (a b : Cell) → ◌≡◌ {A = Result Cell FieldFault} (Ok a) (Ok b) → a ≡ b
-ok_is a b e = cc
-
 pub field_ok : (b : Bool) (d c : Cell) → where_field b d ≡ Ok c → (b ≡ true) × (d ≡ c)
-field_ok true d c e = (refl, ok_is d c e)
+field_ok true d c e = (refl, ok_same d c e)
 field_ok false d c e = cc
 
 pub number_ok : (b : Bool) (text : List ℕ) (d c : Cell) → where_number b text d ≡ Ok c → (b ≡ true) × (nat_lt 38 (width text) ≡ false) × (d ≡ c)
 number_ok false text d c e = cc
 number_ok true text d c e = elim (nat_lt 38 (width text)) as (λ b. nat_lt 38 (width text) ≡ b → cond b (Err field.TooWide) (Ok d) ≡ Ok c → (true ≡ true) × (nat_lt 38 (width text) ≡ false) × (d ≡ c)) [
   | true ↦ λ n f. cc
-  | false ↦ λ n f. (refl, n, ok_is d c f)
+  | false ↦ λ n f. (refl, n, ok_same d c f)
 ] refl e
 
 pub stamp_ok : (o : Option (List ℕ)) (c : Cell) → where_stamp o ≡ Ok c → (form : List ℕ) × (o ≡ Some form) × (cell.Stamp form ≡ c)
 stamp_ok None c e = cc
-stamp_ok (Some form) c e = (form, refl, ok_is (cell.Stamp form) c e)
+stamp_ok (Some form) c e = (form, refl, ok_same (cell.Stamp form) c e)

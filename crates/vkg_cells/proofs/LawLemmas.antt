@@ -3,6 +3,7 @@ use Rattle.std.proofs.Common.{◌≡◌, ◌∙◌, ◌↔◌, ℕ, Bool, true, 
 use Rattle.std.specs.Prelude.{IsSome, IfOk}
 use Rattle.std.specs.Str.{bytes_eq}
 use Rattle.std.proofs.lemmas.Slice.Eq.{bytes_eq-Decides}
+use Rattle.vkg_lists.proofs.Results.{ok_same, ok_err}
 use Rattle.hex.specs.Hex.{decode_of, encode_upper}
 use Rattle.hex.proofs.HexLemmas.{decode_of-encode_upper, decode_of-ok}
 use Rattle.hex.specs.declared.error.FromHexError.{FromHexError}
@@ -24,7 +25,7 @@ use Rattle.vkg_cells.proofs.StampLemmas.{stamp-again}
 use Rattle.vkg_cells.proofs.SameLemmas.{one-form, one-value}
 use Rattle.vkg_cells.proofs.OrderLemmas.{number-total}
 use Rattle.vkg_cells.proofs.ValueLemmas.{then-equal}
-use Rattle.vkg_cells.proofs.FieldLemmas.{field_ok, number_ok, ok_is}
+use Rattle.vkg_cells.proofs.FieldLemmas.{field_ok, number_ok}
 use Rattle.vkg_cells.specs.Number.{number_cmp}
 use Rattle.std.specs.Ordering.{bool_cmp, is_eq}
 use Rattle.std.specs.Prelude.{◌&&◌}
@@ -63,9 +64,6 @@ by-form (cell.Stamp a) (cell.Stamp b) e h = by-bytes a b
 by-form (cell.Bin a) (cell.Bin b) e h = by-bytes a b
 by-form c d e h = absurd (omega (arith, e))
 
-no-fault : (f : FieldFault) (c : Cell) → ◌≡◌ {A = Result Cell FieldFault} (Err f) (Ok c) → ⊥
-no-fault f c e = cc
-
 number-kept : (b : Bool) (text : List ℕ) (c : Cell) → b ≡ true → nat_lt 38 (width text) ≡ false → where_number b text c ≡ Ok c
 number-kept b text c e f = rw (e, f) refl
 
@@ -86,24 +84,24 @@ read-bool true = refl
 read-bool false = refl
 
 read-stamp : (text : List ℕ) (o : Option (List ℕ)) (c : Cell) → stamp_form text ≡ o → where_stamp o ≡ Ok c → IsReadBack kind.Stamp c
-read-stamp text None c h e = absurd (no-fault BadValue c e)
-read-stamp text (Some form) c h e = subst (IsReadBack kind.Stamp) (ok_is (cell.Stamp form) c e) (ap where_stamp (stamp-again text form h))
+read-stamp text None c h e = absurd (ok_err c BadValue (sym e))
+read-stamp text (Some form) c h e = subst (IsReadBack kind.Stamp) (ok_same (cell.Stamp form) c e) (ap where_stamp (stamp-again text form h))
 
 read-octets : (text : List ℕ) (o : Result (List ℕ) FromHexError) (c : Cell) → decode_of text ≡ o → where_octets o ≡ Ok c → IsReadBack kind.Bin c
-read-octets text (Err f) c h e = absurd (no-fault BadValue c e)
+read-octets text (Err f) c h e = absurd (ok_err c BadValue (sym e))
 read-octets text (Ok octets) c h e =
-    subst (IsReadBack kind.Bin) (ok_is (cell.Bin (encode_upper octets)) c e)
+    subst (IsReadBack kind.Bin) (ok_same (cell.Bin (encode_upper octets)) c e)
     (ap where_octets (decode_of-encode_upper octets (decode_of-ok text octets h).3))
 
 pub read-back : (k : SqlType) (text : List ℕ) (c : Cell) → cell_of_field k text ≡ Ok c → IsReadBack k c
-read-back kind.Text text c e = subst (IsReadBack kind.Text) (ok_is (cell.Text text) c e) refl
+read-back kind.Text text c e = subst (IsReadBack kind.Text) (ok_same (cell.Text text) c e) refl
 read-back kind.Int text c e = let h = number_ok (is_integer text) text (cell.Int (canonical text)) c e in subst (IsReadBack kind.Int) h.2 (read-int text h.0 h.1)
 read-back kind.Dec text c e = let h = number_ok (is_decimal text) text (cell.Dec (canonical text)) c e in subst (IsReadBack kind.Dec) h.2 (read-dec text h.0 h.1)
 read-back kind.Bool text c e = let h = field_ok _ _ c e in subst (IsReadBack kind.Bool) h.1 (read-bool (is_true_word text))
 read-back kind.Date text c e = let h = field_ok (is_date text) (cell.Date text) c e in subst (IsReadBack kind.Date) h.1 (rw h.0 refl)
 read-back kind.Stamp text c e = read-stamp text (stamp_form text) c refl e
 read-back kind.Bin text c e = read-octets text (decode_of text) c refl e
-read-back kind.Term text c e = absurd (no-fault BadValue c e)
+read-back kind.Term text c e = absurd (ok_err c BadValue (sym e))
 
 -- the form, where there is one
 some-form : (o : Option (List ℕ)) → IsSome o → (form : List ℕ) × (o ≡ Some form)
@@ -118,7 +116,7 @@ from-form k c form of e = rw e at (read-back k of.0 c of.2)
 pub own-form : (c : Cell) → HasOwnForm c
 own-form c k d of of' h e =
     let f = some-form (lexical_form c) h in
-    ok_is c d (sym (from-form k c f.0 of f.1) ∙ from-form k d f.0 of' (sym e ∙ f.1))
+    ok_same c d (sym (from-form k c f.0 of f.1) ∙ from-form k d f.0 of' (sym e ∙ f.1))
 
 -- what is known of a cell of a kind: it is not NULL, and a number is its own canonical form
 abbrev pub IsProper : Cell → Type 0
@@ -128,7 +126,7 @@ IsProper (cell.Dec text) = (is_decimal text ≡ true) × (canonical text ≡ tex
 IsProper c = Unit {0}
 
 proper : (k : SqlType) (text : List ℕ) (c : Cell) → cell_of_field k text ≡ Ok c → IsProper c × HasValueOf text c
-proper kind.Text text c e = subst (λ d. IsProper d × HasValueOf text d) (ok_is (cell.Text text) c e) (tt, tt)
+proper kind.Text text c e = subst (λ d. IsProper d × HasValueOf text d) (ok_same (cell.Text text) c e) (tt, tt)
 proper kind.Int text c e =
     let h = number_ok (is_integer text) text (cell.Int (canonical text)) c e in
     let d = integer-decimal text h.0 in
@@ -143,14 +141,14 @@ proper kind.Date text c e = let h = field_ok (is_date text) (cell.Date text) c e
 proper kind.Stamp text c e = by (stamp_form text) e
   where
     by : (o : Option (List ℕ)) → where_stamp o ≡ Ok c → IsProper c × HasValueOf text c
-    by None f = absurd (no-fault BadValue c f)
-    by (Some form) f = subst (λ d. IsProper d × HasValueOf text d) (ok_is (cell.Stamp form) c f) (tt, tt)
+    by None f = absurd (ok_err c BadValue (sym f))
+    by (Some form) f = subst (λ d. IsProper d × HasValueOf text d) (ok_same (cell.Stamp form) c f) (tt, tt)
 proper kind.Bin text c e = by (decode_of text) e
   where
     by : (o : Result (List ℕ) FromHexError) → where_octets o ≡ Ok c → IsProper c × HasValueOf text c
-    by (Err f) g = absurd (no-fault BadValue c g)
-    by (Ok octets) g = subst (λ d. IsProper d × HasValueOf text d) (ok_is (cell.Bin (encode_upper octets)) c g) (tt, tt)
-proper kind.Term text c e = absurd (no-fault BadValue c e)
+    by (Err f) g = absurd (ok_err c BadValue (sym g))
+    by (Ok octets) g = subst (λ d. IsProper d × HasValueOf text d) (ok_same (cell.Bin (encode_upper octets)) c g) (tt, tt)
+proper kind.Term text c e = absurd (ok_err c BadValue (sym e))
 
 proper-of-kind : (k : SqlType) (c : Cell) → IsOfKind k c → IsProper c
 proper-of-kind kind.Term c of = subst IsProper (sym of.1) tt

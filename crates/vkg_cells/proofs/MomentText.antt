@@ -6,9 +6,10 @@ use Rattle.std.specs.Str.{IsAscii}
 use Rattle.std.proofs.lemmas.Str.{IsAscii-append}
 use Rattle.std.proofs.lemmas.Str.Ascii.{IsAscii-nil, IsAscii-cons}
 use Rattle.std.proofs.lemmas.Option.{same_Some}
+use Rattle.std.specs.Option.{option_or}
 use Rattle.vkg_lists.proofs.Bools.{and_parts}
 use Rattle.vkg_cells.specs.Number.{is_digits, after_point, without_trailing_zeros}
-use Rattle.vkg_cells.specs.Moment.{two_digits_at, day_of_text, clock_of_text, is_date, is_clock, cut, or_cut, form_if, form_at, form_of_parts, stamp_form}
+use Rattle.vkg_cells.specs.Moment.{two_digits_at, day_of_text, clock_of_text, is_date, is_clock, cut, form_if, form_at, form_of_parts, stamp_form}
 use Rattle.vkg_cells.proofs.Digits.{Digits, after_ascii, all_digits, small_digit, trail_digits}
 
 some_then : {A B : Type 0} (f : A → Option B) (o : Option A) → is_some (option_and_then f o) ≡ true → (a : A) × (o ≡ Some a) × (is_some (f a) ≡ true)
@@ -132,7 +133,7 @@ made_of None form e = cc
 made_of (Some p) form e = made_at p.0 p.1 (cut 46 p.1) form e
 
 pub stamp_made : (text form : List ℕ) → stamp_form text ≡ Some form → Made form
-stamp_made text form e = made_of (or_cut (cut 84 text) (cut 32 text)) form e
+stamp_made text form e = made_of (option_or (cut 84 text) (cut 32 text)) form e
 
 pub stamp_ascii : (text form : List ℕ) → stamp_form text ≡ Some form → IsAscii form
 stamp_ascii text form e = let m = stamp_made text form e in subst IsAscii (sym m.is) (form_ascii m.date m.clock m.fraction m.is_date m.is_clock m.is_digits)

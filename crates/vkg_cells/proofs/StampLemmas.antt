@@ -2,8 +2,9 @@
 use Rattle.std.proofs.Common.{◌≡◌, ◌∙◌, ◌≤◌, ◌++◌, ◌∷◌, ◌&&◌, ℕ, Bool, true, false, List, [], Option, Some, None, refl, ap, subst, arith, length, nat_le, codes, append-nil, append_assoc, leb-true}
 use Rattle.std.proofs.lemmas.Bool.{le-leb}
 use Rattle.std.proofs.lemmas.Option.{none-some}
+use Rattle.std.specs.Option.{option_or}
 use Rattle.vkg_lists.proofs.Bools.{and_parts}
-use Rattle.vkg_cells.specs.Moment.{cut, form_at, form_if, form_of_parts, is_clock, is_date, or_cut, stamp_form}
+use Rattle.vkg_cells.specs.Moment.{cut, form_at, form_if, form_of_parts, is_clock, is_date, stamp_form}
 use Rattle.vkg_cells.specs.Number.{after_point, is_digits, without_trailing_zeros}
 use Rattle.vkg_cells.proofs.CanonicalLemmas.{are-digits, trailing-kept}
 use Rattle.vkg_cells.proofs.PlaceLemmas.{Lacks, cut-none, cut-some, lacks-cut, lacks-front, lacks-front-of}
@@ -23,7 +24,7 @@ written-none : (date clock : List ℕ) → Lacks 84 date → Lacks 46 clock → 
 written-none date clock d c h =
     let text : written date clock [] ≡ date ++ 84 ∷ clock = append-nil (date ++ codes "T" ++ clock) ∙ append_assoc date (84 ∷ []) clock in
     let first : cut 84 (written date clock []) ≡ Some (date, clock) = ap (cut 84) text ∙ cut-some 84 date clock d in
-    (λ i. form_of_parts (or_cut (first i) (cut 32 (written date clock []))))
+    (λ i. form_of_parts (option_or (first i) (cut 32 (written date clock []))))
     ∙ (λ i. form_at date clock (cut-none 46 clock c i))
     ∙ form-if-kept (is_date date && is_clock clock) date clock [] h refl
 
@@ -35,7 +36,7 @@ written-some date clock b bs d c h k =
     append_assoc (date ++ codes "T") clock (46 ∷ b ∷ bs) ∙ append_assoc date (84 ∷ []) (clock ++ 46 ∷ b ∷ bs) in
     let first : cut 84 (written date clock (b ∷ bs)) ≡ Some (date, clock ++ 46 ∷ b ∷ bs) =
     ap (cut 84) text ∙ cut-some 84 date (clock ++ 46 ∷ b ∷ bs) d in
-    (λ i. form_of_parts (or_cut (first i) (cut 32 (written date clock (b ∷ bs)))))
+    (λ i. form_of_parts (option_or (first i) (cut 32 (written date clock (b ∷ bs)))))
     ∙ (λ i. form_at date (clock ++ 46 ∷ b ∷ bs) (cut-some 46 clock (b ∷ bs) c i))
     ∙ form-if-kept (is_date date && is_clock clock && is_digits (b ∷ bs) && nat_le (length (b ∷ bs)) 9) date clock (b ∷ bs) h k
 
@@ -83,9 +84,9 @@ again-parts : (o : Option (List ℕ × List ℕ)) (form : List ℕ) → ((p : Li
 again-parts None form d e = absurd (none-some form e)
 again-parts (Some p) form d e = again-at p.0 p.1 form (cut 46 p.1) (d p refl) refl e
 
-front : (text : List ℕ) (q o : Option (List ℕ × List ℕ)) → cut 84 text ≡ q → cut 32 text ≡ o → (p : List ℕ × List ℕ) → or_cut q o ≡ Some p → Lacks 84 p.0
+front : (text : List ℕ) (q o : Option (List ℕ × List ℕ)) → cut 84 text ≡ q → cut 32 text ≡ o → (p : List ℕ × List ℕ) → option_or q o ≡ Some p → Lacks 84 p.0
 front text (Some r) o a b p e = lacks-front 84 text p (a ∙ e)
 front text None o a b p e = lacks-front-of 84 32 text p (b ∙ e) (lacks-cut 84 text a)
 
 pub stamp-again : (text form : List ℕ) → stamp_form text ≡ Some form → stamp_form form ≡ Some form
-stamp-again text form e = again-parts (or_cut (cut 84 text) (cut 32 text)) form (front text (cut 84 text) (cut 32 text) refl refl) e
+stamp-again text form e = again-parts (option_or (cut 84 text) (cut 32 text)) form (front text (cut 84 text) (cut 32 text) refl refl) e

@@ -6,6 +6,7 @@ use Rattle.std.proofs.lemmas.Option.{slice_get-get_or}
 use Rattle.std.proofs.Math.Seq.{get_or-append_seam, set-append_seam}
 use Rattle.std.specs.List.{AllZip, slice_get, slice_set}
 use Rattle.std.specs.Prelude.{Option, None, Result}
+use Rattle.vkg_lists.specs.Results.{unless}
 use Rattle.vkg_lists.proofs.Results.{ok_same, ok_err}
 use Rattle.vkg_base.specs.Outside.{Files, held}
 use Rattle.vkg_schema.specs.declared.table.Table.{Table}
@@ -29,7 +30,7 @@ use Rattle.vkg_cli.specs.declared.stops.Stop.{Stop}
 use Rattle.vkg_schema.specs.Reading.{IsSchemaOf}
 use Rattle.vkg_tables.specs.Checks.{key_fault, reference_fault}
 use Rattle.vkg_tables.specs.Seen.{Seen, columns_at, columns_of, with_read, with_rows, without_rows}
-use Rattle.vkg_tables.specs.TableFile.{table_of_bytes, unless_fault}
+use Rattle.vkg_tables.specs.TableFile.{table_of_bytes}
 use Rattle.vkg_cli.specs.Stages.{Loads, Settles, Then, found, goes_on, stops}
 use Rattle.vkg_cli.specs.Words.{Command, DumpWords, QueryWords, SqlWords, dump, query, sql}
 use Rattle.vkg_cli.specs.Work.{Checks, Dumps, GivesAnswer, GivesText, LoadsDatabase, LoadsFaultless, LoadsMapping, LoadsQuery, LoadsSchema, LoadsTable, LoadsTables, LoadsText, MapsDirectly, MapsTriples, ReadsQuery, ReadsSchema, ReadsTriples, SaysQueryUnlessLong, SaysUnlessLong, UnlessLong, Works, checks, direct_or, loaded_or, mapping_or, table_file, unless_data}
@@ -59,7 +60,7 @@ rows_read : (db next : Seen) (k : ℕ) (read : Result (List Row) _) → (let one
 rows_read db next k (Ok rows) e = (rows, refl, cc e)
 rows_read db next k (Err f) e = cc e
 
-not_long : {F : Type 0} (long : Bool) (f : F) (faults : List F) (rows others : List Row) → (let one : Result (List Row) F = Ok others in one ≡ unless_fault (slice_get (if long then f ∷ [] else faults) 0) rows) → long ≡ false
+not_long : {F : Type 0} (long : Bool) (f : F) (faults : List F) (rows others : List Row) → (let one : Result (List Row) F = Ok others in one ≡ unless (slice_get (if long then f ∷ [] else faults) 0) (Ok rows)) → long ≡ false
 not_long true f faults rows others e = cc e
 not_long false f faults rows others e = refl
 

@@ -70,11 +70,6 @@ Answers comes (Err Memory) = Unit {0}
 abbrev pub IsOneOutcome : {A : Type 0} → (Result A Stop → Type 0) → Type 0
 IsOneOutcome {A} comes = (o p : Result A Stop) → comes o → comes p → o ≡ p
 
--- a result whose value is seen through a function
-abbrev pub seen : {A B : Type 0} → (B → A) → Result B Stop → Result A Stop
-seen view (Ok v) = Ok (view v)
-seen view (Err stop) = Err stop
-
 -- a result at whose success a place holds the value
 abbrev pub carried : {A B : Type 0} → A → Result B Stop → Result A Stop
 carried value (Ok v) = Ok value

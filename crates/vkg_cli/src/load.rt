@@ -1,6 +1,7 @@
 // Files loaded from a store, and read.
 ghost use Rattle.std.specs.Prelude.{◌≡◌, ◌≤◌, ◌<◌, length, string_bytes, IfErr, IfOk, false};
-ghost use Rattle.vkg_cli.specs.Stages.{Answers, Loads, Ran, carried, seen};
+ghost use Rattle.vkg_lists.specs.Results.{mapped};
+ghost use Rattle.vkg_cli.specs.Stages.{Answers, Loads, Ran, carried};
 ghost use Rattle.vkg_tables.specs.Seen.{loaded, without_rows};
 ghost use Rattle.vkg_cli.specs.Work.{LoadsSchema, LoadsTable, LoadsTables, ReadsSchema, is_of_query, is_of_tables, loaded_or, table_file, table_stop as stop_at};
 
@@ -15,7 +16,7 @@ use vkg_terms::iri_safe;
 pub const LIMIT: u64 = 2147483648;
 
 pub fn load_file<S: Store>(alloc: Global, store: &mut S, name: &str) -> Result<Vec<u8>, Stop>
-    ensures ran { Ran (λ files. Loads LIMIT files name.now) (S.state store.old) (S.state store.new) (seen (λ v. v.items) result) }
+    ensures ran { Ran (λ files. Loads LIMIT files name.now) (S.state store.old) (S.state store.new) (mapped (λ v. v.items) result) }
     ensures kind { IfErr result (λ why. (is_of_query why ≡ false) × (is_of_tables why ≡ false)) }
 {
     match store.load(alloc, name, LIMIT) {

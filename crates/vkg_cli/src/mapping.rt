@@ -3,7 +3,7 @@ ghost use Rattle.std.specs.Prelude.{◌≡◌, IfErr, IfOk, None, false, option_
 ghost use Rattle.vkg_terms.specs.Iri.{is_absolute};
 ghost use Rattle.vkg_direct.specs.Laws.{MakesEachTerm};
 ghost use Rattle.vkg_maps.specs.Within.{IsWithin};
-ghost use Rattle.vkg_cli.specs.Stages.{Answers, Ran, seen};
+ghost use Rattle.vkg_cli.specs.Stages.{Answers, Ran};
 ghost use Rattle.vkg_cli.specs.Work.{LoadsMapping, LoadsText, MapsDirectly, MapsTriples, ReadsTriples, is_of_query, is_of_tables};
 
 use crate::load::load_file;

@@ -9,9 +9,9 @@ use Rattle.std.proofs.lemmas.Slice.Eq.{bytes_eq-Decides}
 use Rattle.std.proofs.lemmas.Str.{IsAscii-append, IsUtf8-from_ascii}
 use Rattle.std.proofs.lemmas.Str.Ascii.{IsAscii-nil, IsAscii-push}
 use Rattle.std.proofs.lemmas.Bool.{cases_order}
+use Rattle.vkg_schema.proofs.Fitting.{null_fits}
 use Rattle.vkg_lists.proofs.Bools.{or_left, or_right}
 use Rattle.vkg_cells.specs.Order.{same}
-use Rattle.vkg_cells.specs.declared.cell.SqlType.{SqlType}
 use Rattle.vkg_cells.specs.declared.cell.SqlType.TheVariants as kind
 use Rattle.vkg_cells.specs.declared.cell.Cell.{Cell}
 use Rattle.vkg_cells.specs.declared.cell.Cell.TheVariants as cell
@@ -31,9 +31,6 @@ number_fits text b n h = record { kind = inr (number_kind n h); not_null = λ _ 
 
 tagged_fits : (text letter : List ℕ) (n : ℕ) → n < 2 ^ 64 → IsAscii letter → FitsColumn (record { name = text; kind = kind.Text; not_null = false }) (cell.Text (letter ++ decimal n))
 tagged_fits text letter n h a = record { kind = inr (letter ++ decimal n, IsUtf8-from_ascii (letter ++ decimal n) (IsAscii-append letter (decimal n) a (IsAscii-decimal n h)), refl); not_null = λ _ is. cc }
-
-null_fits : (text : List ℕ) (k : SqlType) → FitsColumn (record { name = text; kind = k; not_null = false }) cell.Null
-null_fits text k = record { kind = inl refl; not_null = λ h. cc }
 
 either_fits : (column : Column) (b : Bool) (c : Cell) → FitsColumn column cell.Null → FitsColumn column c → FitsColumn column (if b then cell.Null else c)
 either_fits column true c h k = h

@@ -8,6 +8,8 @@ use Rattle.std.proofs.lemmas.Bool.Decides.{nat_tests}
 use Rattle.std.proofs.lemmas.List.{length_push}
 use Rattle.std.proofs.lemmas.List.Sums.{fold_more}
 use Rattle.std.proofs.lemmas.Option.{same_Some}
+use Rattle.std.specs.Bool.{then_some}
+use Rattle.vkg_lists.specs.Results.{in_front}
 use Rattle.vkg_tokens.specs.declared.cutting.Piece.{Piece}
 use Rattle.vkg_tokens.specs.declared.cutting.Piece.TheVariants.{Gap, Word as Found, Nothing}
 use Rattle.vkg_tokens.specs.declared.cutting.Token.{Token}
@@ -15,8 +17,8 @@ use Rattle.vkg_tokens.specs.declared.ddl.Ddl.{Ddl}
 use Rattle.vkg_tokens.specs.declared.ddl.Ddl.TheVariants.{Start, Word, Opened, Emptied, Inside, Closed, Digits, Open, Comma, Close, Semicolon}
 use Rattle.vkg_tokens.specs.declared.lang.Lang.TheVariants as lang
 use Rattle.vkg_tokens.specs.declared.lang.State.TheVariants.{OfDdl}
-use Rattle.vkg_tokens.specs.Cut.{piece, word_or_nothing, before, cut_piece, cut, tokens_of}
-use Rattle.vkg_tokens.specs.Ddl.{is_word_part, if_token, ddl_begin, ddl_step, ddl_class}
+use Rattle.vkg_tokens.specs.Cut.{piece, word_or_nothing, cut_piece, cut, tokens_of}
+use Rattle.vkg_tokens.specs.Ddl.{is_word_part, ddl_begin, ddl_step, ddl_class}
 use Rattle.vkg_tokens.specs.Lang.{kind_of, is_blank, begins_comment, line_length, stepped, classed, token_class, or_shorter, longest_to, longest}
 use Rattle.vkg_ddl.specs.Names.{HasAsciiEnds}
 
@@ -53,12 +55,12 @@ IsNoEnd o = (o ≡ None) ⊎ (o ≡ Some Inside)
 
 ends_low : (s : Ddl) (b : ℕ) → 128 ≤ b → IsNoEnd (ddl_step s b)
 ends_low Start b h = inl (begins_low b h)
-ends_low Word b h = inl (ap (λ t. if_token t Word) (no_word b h))
+ends_low Word b h = inl (ap (λ t. then_some t Word) (no_word b h))
 ends_low Opened b h = inr (ap (λ t. Some (cond t Emptied Inside)) (other_byte b 34 (lit< tt) h))
-ends_low Emptied b h = inl (ap (λ t. if_token t Inside) (other_byte b 34 (lit< tt) h))
+ends_low Emptied b h = inl (ap (λ t. then_some t Inside) (other_byte b 34 (lit< tt) h))
 ends_low Inside b h = inr (ap (λ t. Some (cond t Closed Inside)) (other_byte b 34 (lit< tt) h))
-ends_low Closed b h = inl (ap (λ t. if_token t Inside) (other_byte b 34 (lit< tt) h))
-ends_low Digits b h = inl (ap (λ t. if_token t Digits) (no_digit b h))
+ends_low Closed b h = inl (ap (λ t. then_some t Inside) (other_byte b 34 (lit< tt) h))
+ends_low Digits b h = inl (ap (λ t. then_some t Digits) (no_digit b h))
 ends_low Open b h = inl refl
 ends_low Comma b h = inl refl
 ends_low Close b h = inl refl
@@ -172,7 +174,7 @@ placed front rest at n kind e a =
       subst (λ k. get_or (front ++ rest) k 0 < 128) (sym last) (subst (λ v. v < 128) (sym (get_behind front rest (n - 1))) a.last),
     )
 
-taken : (t : Token) (r : Result (List Token) ℕ) (ts : List Token) → before t r ≡ Ok ts → (us : List Token) × (r ≡ Ok us) × (t ∷ us ≡ ts)
+taken : (t : Token) (r : Result (List Token) ℕ) (ts : List Token) → in_front t r ≡ Ok ts → (us : List Token) × (r ≡ Ok us) × (t ∷ us ≡ ts)
 taken t (Ok us) ts e = (us, refl, cc)
 taken t (Err at) ts e = absurd (cc)
 

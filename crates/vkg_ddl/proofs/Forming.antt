@@ -105,6 +105,3 @@ pub written_formed : (ns : List Note) (ts : List Name) (tables : List WrittenTab
 unfolding written_of
 written_formed [] ts tables w f = f
 written_formed (n ∷ ns) ts tables w f = note_kept n ns (λ us next. written_formed ns us next) (is_choice (role_of n.symbol)) ts tables w f
-
-pub words_push : (ts : List Name) (t : Name) → AllByRecursion IsWord ts → IsWord t → AllByRecursion IsWord (ts ++ t ∷ [])
-words_push ts t w h = recursion_push IsWord ts t w h

@@ -1,6 +1,6 @@
 -- What a token says is UTF-8.
 use Rattle.std.proofs.Common.{◌≡◌, ℕ, ◌+◌, ◌-◌, ◌<◌, ◌≤◌, Bool, true, false, cond, not, ◌&&◌, ◌==◌, List, [], ◌∷◌, ◌++◌, length, get_or, drop, refl, sym, ap, ◌∙◌, subst, arith, append-nil, length-drop, add-zero}
-use Rattle.std.specs.Prelude.{IsUtf8, chars, nat_le, if◌then◌else◌}
+use Rattle.std.specs.Prelude.{IsUtf8, chars, nat_le, if◌then◌else◌, slice_range}
 use Rattle.std.specs.List.{list_all}
 use Rattle.std.specs.Str.{IsCharBoundary}
 use Rattle.std.proofs.lemmas.Bool.Decides.{nat_tests}
@@ -11,7 +11,7 @@ use Rattle.std.proofs.Math.Bool.{and-false, and-true}
 use Rattle.vkg_lists.proofs.Bools.{and_parts, not_true}
 use Rattle.vkg_terms.proofs.Octets.{encode_all, scalar_below}
 use Rattle.vkg_tokens.specs.declared.cutting.Token.{Token}
-use Rattle.vkg_ddl.specs.Names.{HasAsciiEnds, undoubled_from, undoubled, slice, within, name_bytes}
+use Rattle.vkg_ddl.specs.Names.{HasAsciiEnds, undoubled_from, undoubled, within, name_bytes}
 use Rattle.vkg_ddl.proofs.Naming.{first_byte}
 
 -- where no quote stands, nothing is left out
@@ -52,7 +52,7 @@ undoubled_utf8 : (bs : List ℕ) → IsUtf8 bs → IsUtf8 (undoubled bs)
 undoubled_utf8 bs u = subst (λ xs. IsUtf8 (undoubled_from false xs)) (encodes-chars bs u) (undoubled_chars (chars bs) false (scalars-chars bs u))
 
 -- between ends of which both are ASCII stands UTF-8, with them and without them
-between_ends : (bs : List ℕ) (i j : ℕ) → IsUtf8 bs → i < j → j ≤ length bs → get_or bs i 0 < 128 → get_or bs (j - 1) 0 < 128 → IsUtf8 (slice bs i j)
+between_ends : (bs : List ℕ) (i j : ℕ) → IsUtf8 bs → i < j → j ≤ length bs → get_or bs i 0 < 128 → get_or bs (j - 1) 0 < 128 → IsUtf8 (slice_range bs i j)
 between_ends bs i j u s l first last =
     let end : j - 1 + 1 ≡ j = omega arith in
     IsUtf8-between bs i j u (omega (arith, s)) (IsCharBoundary-before_ascii bs i (omega (arith, s, l)) first) (subst (IsCharBoundary bs) end (IsCharBoundary-after_ascii bs (j - 1) u (omega (arith, s, l)) last))
@@ -71,8 +71,8 @@ said_utf8 kind bs u first last = by_test ((kind == 16) && nat_le 2 (length bs)) 
 pub word_utf8 : (text : List ℕ) (t : Token) → IsUtf8 text → t.start < t.end → t.end ≤ length text → HasAsciiEnds text t → IsUtf8 (name_bytes text t)
 word_utf8 text t u s l h =
     let n : ℕ = t.end - t.start in
-    let size : length (slice text t.start t.end) ≡ n = length-take-le n (drop t.start text) (omega (arith, length-drop t.start text, l)) in
-    let first : get_or (slice text t.start t.end) 0 0 ≡ get_or text t.start 0 = get_or-take n (drop t.start text) 0 0 (omega (arith, s)) ∙ get_or-drop t.start text 0 0 ∙ ap (λ k. get_or text k 0) (add-zero t.start) in
+    let size : length (slice_range text t.start t.end) ≡ n = length-take-le n (drop t.start text) (omega (arith, length-drop t.start text, l)) in
+    let first : get_or (slice_range text t.start t.end) 0 0 ≡ get_or text t.start 0 = get_or-take n (drop t.start text) 0 0 (omega (arith, s)) ∙ get_or-drop t.start text 0 0 ∙ ap (λ k. get_or text k 0) (add-zero t.start) in
     let end : t.start + (n - 1) ≡ t.end - 1 = omega (arith, s) in
-    let last : get_or (slice text t.start t.end) (length (slice text t.start t.end) - 1) 0 ≡ get_or text (t.end - 1) 0 = ap (λ k. get_or (slice text t.start t.end) (k - 1) 0) size ∙ get_or-take n (drop t.start text) (n - 1) 0 (omega (arith, s)) ∙ get_or-drop t.start text (n - 1) 0 ∙ ap (λ k. get_or text k 0) end in
-    said_utf8 t.kind (slice text t.start t.end) (between_ends text t.start t.end u s l h.0 h.1) (subst (λ v. v < 128) (sym first) h.0) (subst (λ v. v < 128) (sym last) h.1)
+    let last : get_or (slice_range text t.start t.end) (length (slice_range text t.start t.end) - 1) 0 ≡ get_or text (t.end - 1) 0 = ap (λ k. get_or (slice_range text t.start t.end) (k - 1) 0) size ∙ get_or-take n (drop t.start text) (n - 1) 0 (omega (arith, s)) ∙ get_or-drop t.start text (n - 1) 0 ∙ ap (λ k. get_or text k 0) end in
+    said_utf8 t.kind (slice_range text t.start t.end) (between_ends text t.start t.end u s l h.0 h.1) (subst (λ v. v < 128) (sym first) h.0) (subst (λ v. v < 128) (sym last) h.1)

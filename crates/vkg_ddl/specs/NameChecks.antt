@@ -1,5 +1,5 @@
 -- Names that are given twice or name nothing, and the limits: for each check the least place at which it fails.
-use Rattle.std.specs.Prelude.{ℕ, Bool, false, not, nat_eq, position, ◌&&◌, List, length, take, slice_get, Option, Some, None, if◌then◌else◌}
+use Rattle.std.specs.Prelude.{ℕ, Bool, false, not, nat_eq, position, ◌&&◌, List, length, take, slice_get, Option, Some, None, if◌then◌else◌, option_map}
 use Rattle.std.specs.List.{list_any, range_with_len}
 use Rattle.std.specs.Str.{bytes_eq, str_eq_ignore_ascii_case}
 use Rattle.vkg_ddl.specs.declared.name.Name.{Name}
@@ -110,13 +110,8 @@ unknown_target tables r = place_if (not (names_table tables r.table)) r.table.at
 abbrev pub table_unknown : List WrittenTable → Option ℕ
 table_unknown tables = least_of (λ t. least_of (unknown_target tables) t.references) tables
 
--- the place of this, if it is there
-abbrev pub at_none : {A : Type 0} → (A → ℕ) → Option A → Option ℕ
-at_none place None = None
-at_none place (Some x) = Some (place x)
-
 -- the 257th table, or the 129th column of a table
 abbrev pub limit_passed : List WrittenTable → Option ℕ
 limit_passed tables = lesser
-    (at_none (λ t. t.name.at) (slice_get tables 256))
-    (least_of (λ t. at_none (λ c. c.name.at) (slice_get t.columns 128)) tables)
+    (option_map (λ t. t.name.at) (slice_get tables 256))
+    (least_of (λ t. option_map (λ c. c.name.at) (slice_get t.columns 128)) tables)

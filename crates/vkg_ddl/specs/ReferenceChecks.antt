@@ -1,11 +1,11 @@
 -- Foreign keys that refer to no key: for each check the least place at which it fails.
-use Rattle.std.specs.Prelude.{ℕ, Bool, not, ◌&&◌, List, length, find, slice_get, Option, Some, None, option_map, if◌then◌else◌, ◌==◌}
+use Rattle.std.specs.Prelude.{ℕ, Bool, not, ◌&&◌, List, length, find, slice_get, Option, Some, None, option_map, if◌then◌else◌, ◌==◌, is_none}
 use Rattle.std.specs.List.{list_any, list_all, range_with_len}
 use Rattle.vkg_ddl.specs.declared.name.Name.{Name}
 use Rattle.vkg_ddl.specs.declared.written.WrittenColumn.{WrittenColumn}
 use Rattle.vkg_ddl.specs.declared.written.WrittenReference.{WrittenReference}
 use Rattle.vkg_ddl.specs.declared.written.WrittenTable.{WrittenTable}
-use Rattle.vkg_lists.specs.Places.{least_of, place_if, is_nowhere}
+use Rattle.vkg_lists.specs.Places.{least_of, place_if}
 use Rattle.vkg_ddl.specs.NameChecks.{matches, unknown_columns, one_column, name_twice}
 use Rattle.vkg_ddl.specs.TypeChecks.{column_kind}
 use Rattle.vkg_cells.specs.Order.{family}
@@ -15,7 +15,7 @@ abbrev pub targets_in : WrittenTable → WrittenReference → Option (List Name)
 targets_in t r = if length r.targets == 0 then option_map (λ k. k.columns) (find (λ k. k.primary) t.keys) else Some r.targets
 
 abbrev pub are_columns : WrittenTable → List Name → List Name → Bool
-are_columns t left right = (length right == length left) && is_nowhere (unknown_columns t.columns right) && is_nowhere (name_twice t.columns right)
+are_columns t left right = (length right == length left) && is_none (unknown_columns t.columns right) && is_none (name_twice t.columns right)
 
 abbrev pub columns_fault : WrittenTable → WrittenReference → Option (List Name) → Option ℕ
 columns_fault t r None = None

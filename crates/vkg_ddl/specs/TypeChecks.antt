@@ -1,5 +1,5 @@
 -- Types that are unknown or take no such numbers: for each check the least place at which it fails.
-use Rattle.std.specs.Prelude.{unwrap_or, ℕ, ◌+◌, ◌-◌, ◌*◌, Bool, true, false, not, ◌&&◌, List, [], ◌∷◌, codes, fold, Option, Some, None, if◌then◌else◌, nat_le, min}
+use Rattle.std.specs.Prelude.{unwrap_or, ℕ, ◌+◌, ◌-◌, ◌*◌, Bool, true, false, not, ◌&&◌, List, [], ◌∷◌, codes, fold, Option, Some, None, if◌then◌else◌, nat_le, min, is_none}
 use Rattle.std.specs.List.{list_any}
 use Rattle.std.specs.Str.{str_eq_ignore_ascii_case}
 use Rattle.vkg_ddl.specs.declared.name.Name.{Name}
@@ -25,12 +25,8 @@ kind_named word =
 abbrev pub column_kind : WrittenColumn → SqlType
 column_kind c = unwrap_or (kind_named c.kind.text) kind.Text
 
-abbrev pub is_no_kind : Option SqlType → Bool
-is_no_kind None = true
-is_no_kind (Some s) = false
-
 abbrev pub unknown_type : WrittenColumn → Option ℕ
-unknown_type c = place_if (is_no_kind (kind_named c.kind.text)) c.kind.at
+unknown_type c = place_if (is_none (kind_named c.kind.text)) c.kind.at
 
 -- a type's word that names no kind
 abbrev pub type_unknown : List WrittenTable → Option ℕ

@@ -1,11 +1,11 @@
-ghost use Rattle.std.specs.Prelude.{◌≡◌, slice_get};
-ghost use Rattle.vkg_ddl.specs.NameChecks.{limit_passed, at_none};
+ghost use Rattle.std.specs.Prelude.{◌≡◌, slice_get, option_map};
+ghost use Rattle.vkg_ddl.specs.NameChecks.{limit_passed};
 
 use crate::written::{WrittenColumn, WrittenTable};
 use vkg_base::lesser;
 
 fn table_past(tables: &[WrittenTable]) -> Option<usize>
-    ensures { result ≡ at_none (λ t. t.name.at) (slice_get tables.now 256) }
+    ensures { result ≡ option_map (λ t. t.name.at) (slice_get tables.now 256) }
 {
     match tables.get(256) {
         None => None,
@@ -14,7 +14,7 @@ fn table_past(tables: &[WrittenTable]) -> Option<usize>
 }
 
 fn column_past(columns: &[WrittenColumn]) -> Option<usize>
-    ensures { result ≡ at_none (λ c. c.name.at) (slice_get columns.now 128) }
+    ensures { result ≡ option_map (λ c. c.name.at) (slice_get columns.now 128) }
 {
     match columns.get(128) {
         None => None,

@@ -1,5 +1,5 @@
-ghost use Rattle.std.specs.Prelude.{◌≡◌};
-ghost use Rattle.vkg_ddl.specs.TypeChecks.{column_kind, is_no_kind, unknown_type, type_unknown, capped, takes_one, takes_two, takes, wrong_numbers, precision_wrong};
+ghost use Rattle.std.specs.Prelude.{◌≡◌, is_none};
+ghost use Rattle.vkg_ddl.specs.TypeChecks.{column_kind, unknown_type, type_unknown, capped, takes_one, takes_two, takes, wrong_numbers, precision_wrong};
 ghost use Rattle.vkg_lists.specs.Places.{least_of};
 
 use crate::name::Name;
@@ -9,7 +9,7 @@ use vkg_base::{lesser, place_if};
 use vkg_cells::SqlType;
 
 fn is_no_kind(kind: Option<SqlType>) -> bool
-    ensures { result ≡ is_no_kind kind }
+    ensures { result ≡ is_none kind }
 {
     kind.is_none()
 }

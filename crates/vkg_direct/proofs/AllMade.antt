@@ -5,6 +5,7 @@ use Rattle.std.specs.List.{AllByRecursion, AllZip, enumerate_from, find, list_an
 use Rattle.std.proofs.lemmas.Str.{scalars-chars}
 use Rattle.std.proofs.lemmas.Option.{same_Some}
 use lib.Utf8.{scalars}
+use Rattle.vkg_lists.specs.Lists.{AllBelow}
 use Rattle.vkg_terms.specs.declared.term.Term.TheVariants.{Lit}
 use Rattle.vkg_terms.specs.Iri.{is_absolute}
 use Rattle.vkg_cells.specs.declared.cell.Cell.{Cell}
@@ -14,7 +15,7 @@ use Rattle.vkg_schema.specs.declared.table.Table.{Table}
 use Rattle.vkg_schema.specs.declared.table.Column.{Column}
 use Rattle.vkg_schema.specs.declared.table.Key.{Key}
 use Rattle.vkg_schema.specs.Rows.{Row, Database, rows_of, cell_at}
-use Rattle.vkg_schema.specs.Meets.{IsWellFormed, IsTable, IsColumn, IsKey, IsReference, FitsColumn, MeetsSchema, TableMeets, Below}
+use Rattle.vkg_schema.specs.Meets.{IsWellFormed, IsTable, IsColumn, IsKey, IsReference, FitsColumn, MeetsSchema, TableMeets}
 use Rattle.vkg_maps.specs.declared.term_map.TermMap.TheVariants as from
 use Rattle.vkg_maps.specs.declared.term_map.TermType.TheVariants as sort
 use Rattle.vkg_maps.specs.Terms.{term_of, where_value, against}
@@ -59,7 +60,7 @@ module _ (table : Table) (row : Row) (cells : AllZip FitsColumn table.columns ro
         | inr f ↦ record { form = f.form; is = ap lexical_form at ∙ f.is; spelled = f.spelled }
       ]
 
-  all_known : (js : List ℕ) → Below (length table.columns) js → AllByRecursion (λ k. IfSome (slice_get table.columns k) (λ c. IsTrue c.not_null)) js → AllByRecursion (Known row) js
+  all_known : (js : List ℕ) → AllBelow (length table.columns) js → AllByRecursion (λ k. IfSome (slice_get table.columns k) (λ c. IsTrue c.not_null)) js → AllByRecursion (Known row) js
   all_known [] b n = tt
   all_known (j ∷ js) b n =
       let s = some_at table.columns j b.0 in

@@ -1,12 +1,12 @@
 -- A cell of a kind has a form, and the form is of the kind's natural datatype.
-use Rattle.std.proofs.Common.{◌≡◌, ◌≢◌, ℕ, ◌<◌, refl, sym, ◌∙◌, ap, subst, List, [], ◌∷◌, codes, Bool, true, false, cond, ◌&&◌, ◌||◌, arith, nat_lt, Option, Some, None, Result, Ok, Err}
+use Rattle.std.proofs.Common.{◌≡◌, ◌≢◌, ℕ, refl, sym, ◌∙◌, ap, subst, List, [], ◌∷◌, codes, Bool, true, false, cond, ◌||◌, arith, nat_lt, Some, Result, Ok, Err}
 use Rattle.std.specs.Prelude.{chars, IsUtf8}
 use Rattle.std.specs.List.{list_all}
-use Rattle.std.specs.Char.{is_ascii_digit}
 use Rattle.std.specs.Str.{IsAscii}
 use Rattle.std.proofs.lemmas.Str.{scalars-chars, IsUtf8-from_ascii}
 use Rattle.std.proofs.lemmas.Str.Ascii.{IsAscii-nil, IsAscii-cons}
 use lib.Utf8.{scalars}
+use Rattle.vkg_lists.proofs.Results.{ok_same}
 use Rattle.hex.specs.Hex.{decode_of, encode_upper, upper_digits}
 use Rattle.hex.specs.declared.error.FromHexError.{FromHexError}
 use Rattle.hex.proofs.HexLemmas.{IsAscii-encode_with}
@@ -15,21 +15,19 @@ use Rattle.vkg_cells.specs.declared.cell.SqlType.{SqlType}
 use Rattle.vkg_cells.specs.declared.cell.SqlType.TheVariants as kind
 use Rattle.vkg_cells.specs.declared.cell.Cell.{Cell}
 use Rattle.vkg_cells.specs.declared.cell.Cell.TheVariants as cell
-use Rattle.vkg_cells.specs.declared.cell.FieldFault.{FieldFault}
-use Rattle.vkg_cells.specs.declared.cell.FieldFault.TheVariants as field
-use Rattle.vkg_cells.specs.Field.{where_field, where_number, where_stamp, where_octets, is_true_word, is_false_word}
+use Rattle.vkg_cells.specs.Field.{where_octets, is_true_word, is_false_word}
 use Rattle.vkg_cells.specs.Form.{lexical_form, IsOfKind, natural}
-use Rattle.vkg_cells.specs.Number.{is_integer, is_decimal, whole, fraction, width, canonical, is_negative, without_leading_zeros, without_trailing_zeros}
+use Rattle.vkg_cells.specs.Number.{is_integer, is_decimal, width, canonical}
 use Rattle.vkg_cells.specs.Moment.{is_date, stamp_form}
 use Rattle.vkg_cells.specs.WellTyped.{is_xsd_date, is_xsd_date_time}
-use Rattle.vkg_cells.proofs.FieldLemmas.{field_ok, number_ok, ok_is, stamp_ok}
+use Rattle.vkg_cells.proofs.CanonicalLemmas.{is-read, integer-decimal, integer-read}
+use Rattle.vkg_cells.proofs.FieldLemmas.{field_ok, number_ok, stamp_ok}
 use Rattle.vkg_cells.proofs.MomentText.{Made, form_ascii, stamp_made}
 use Rattle.vkg_direct.proofs.Moments.{date_is, form_is}
 use Rattle.vkg_maps.specs.Terms.{literal}
 use Rattle.vkg_maps.specs.declared.data_fault.TermFault.TheVariants.{IllTyped, TooWide}
 use Rattle.vkg_lists.proofs.Bools.{and_parts}
-use Rattle.vkg_direct.proofs.Numbers.{width_is, decimal_is, ascii_is, integer_is, decimal_parts, integer_parts, written}
-use Rattle.vkg_cells.proofs.Digits.{Digits}
+use Rattle.vkg_direct.proofs.Numbers.{canonical_ascii}
 
 pub record Formed (k : SqlType) (c : Cell) : Type 0 where
   pub form : List ℕ
@@ -52,26 +50,22 @@ typed_decimal t e n =
 
 formed_integer : (text : List ℕ) → is_integer text ≡ true → nat_lt 38 (width text) ≡ false → Formed kind.Int (cell.Int (canonical text))
 formed_integer text e n =
-    let p = integer_parts text e in
-    let s = is_negative text && nat_lt 0 (width text) in
-    let g : Digits (fraction text) = ap (λ t. list_all is_ascii_digit t) p.1 in
-    let i : is_integer (canonical text) ≡ true = ap (λ t. is_integer (written s (without_leading_zeros (whole text)) (without_trailing_zeros t))) p.1 ∙ integer_is s (whole text) p.0 in
+    let d = integer-decimal text e in
     record {
       form = canonical text;
       is = refl;
-      spelled = ascii_spelled (canonical text) (ascii_is s (whole text) (fraction text) p.0 g);
-      typed = typed_integer (canonical text) i (ap (λ k. nat_lt 38 k) (width_is s (whole text) (fraction text) p.0 g) ∙ n);
+      spelled = ascii_spelled (canonical text) (canonical_ascii text d);
+      typed = typed_integer (canonical text) (integer-read text e) (ap (nat_lt 38) (is-read text d).width_same ∙ n);
     }
 
 formed_decimal : (text : List ℕ) → is_decimal text ≡ true → nat_lt 38 (width text) ≡ false → Formed kind.Dec (cell.Dec (canonical text))
-formed_decimal text e n =
-    let p = decimal_parts text e in
-    let s = is_negative text && nat_lt 0 (width text) in
+formed_decimal text d n =
+    let reads = is-read text d in
     record {
       form = canonical text;
       is = refl;
-      spelled = ascii_spelled (canonical text) (ascii_is s (whole text) (fraction text) p.0 p.1);
-      typed = typed_decimal (canonical text) (decimal_is s (whole text) (fraction text) p.0 p.1) (ap (λ k. nat_lt 38 k) (width_is s (whole text) (fraction text) p.0 p.1) ∙ n);
+      spelled = ascii_spelled (canonical text) (canonical_ascii text d);
+      typed = typed_decimal (canonical text) reads.decimal (ap (nat_lt 38) reads.width_same ∙ n);
     }
 
 small_ascii : (text : List ℕ) → list_all (λ b. nat_lt b 128) text ≡ true → IsAscii text
@@ -108,11 +102,11 @@ formed_stamp form m = record {
 }
 
 octets_formed : (r : Result (List ℕ) FromHexError) (c : Cell) → where_octets r ≡ Ok c → Formed kind.Bin c
-octets_formed (Ok octets) c e = subst (Formed kind.Bin) (ok_is (cell.Bin (encode_upper octets)) c e) (formed_binary octets)
+octets_formed (Ok octets) c e = subst (Formed kind.Bin) (ok_same (cell.Bin (encode_upper octets)) c e) (formed_binary octets)
 octets_formed (Err f) c e = cc
 
 pub formed : (k : SqlType) (c : Cell) → k ≢ kind.Term → IsOfKind k c → Formed k c
-formed kind.Text c n (text, u, e) = subst (Formed kind.Text) (ok_is (cell.Text text) c e) (record { form = text; is = refl; spelled = scalars-chars text u; typed = refl })
+formed kind.Text c n (text, u, e) = subst (Formed kind.Text) (ok_same (cell.Text text) c e) (record { form = text; is = refl; spelled = scalars-chars text u; typed = refl })
 formed kind.Int c n (text, u, e) = let h = number_ok (is_integer text) text (cell.Int (canonical text)) c e in subst (Formed kind.Int) h.2 (formed_integer text h.0 h.1)
 formed kind.Dec c n (text, u, e) = let h = number_ok (is_decimal text) text (cell.Dec (canonical text)) c e in subst (Formed kind.Dec) h.2 (formed_decimal text h.0 h.1)
 formed kind.Bool c n (text, u, e) = let h = field_ok (is_true_word text || is_false_word text) (cell.Bool (is_true_word text)) c e in subst (Formed kind.Bool) h.1 (formed_bool (is_true_word text))

@@ -1,13 +1,13 @@
 -- Worked examples: the direct graph and the direct mapping of two tables, of a table with all kinds and of one with a key of
 -- two columns.
-use Rattle.std.proofs.Common.{◌≡◌, refl, ℕ, Bool, true, false, List, [], ◌∷◌, ◌++◌, codes, map, inl, inr, Ok, Err, arith}
+use Rattle.std.proofs.Common.{◌≡◌, refl, ℕ, Bool, true, false, List, [], ◌∷◌, ◌++◌, codes, map, inr, Ok, Err, arith}
 use Rattle.std.specs.Prelude.{IsUtf8}
 use Rattle.std.specs.Str.{chars}
 use Rattle.std.specs.Char.{encode_utf8}
 use Rattle.std.specs.Fmt.{digits}
+use Rattle.vkg_schema.proofs.Fitting.{null_fits}
 use Rattle.vkg_lists.specs.Ascending.{ascending_once}
 use Rattle.vkg_terms.specs.NQuads.{Quad, line}
-use Rattle.vkg_cells.specs.declared.cell.SqlType.{SqlType}
 use Rattle.vkg_cells.specs.declared.cell.SqlType.TheVariants as kind
 use Rattle.vkg_cells.specs.declared.cell.Cell.TheVariants as cell
 use Rattle.vkg_cells.specs.Field.{cell_of_field}
@@ -80,9 +80,6 @@ int_fits name text n u e = record { kind = inr (text, u, e); not_null = λ _ is.
 
 text_fits : (name text : List ℕ) → IsUtf8 text → FitsColumn (record { name = name; kind = kind.Text; not_null = false }) (cell.Text text)
 text_fits name text u = record { kind = inr (text, u, refl); not_null = λ _ is. cc }
-
-null_fits : (name : List ℕ) (k : SqlType) → FitsColumn (record { name = name; kind = k; not_null = false }) cell.Null
-null_fits name k = record { kind = inl refl; not_null = λ h. cc }
 
 meets_schema : MeetsSchema company db
 unfolding opened

@@ -4,10 +4,11 @@ use Rattle.std.specs.Prelude.{chars, option_map, unwrap_or}
 use Rattle.std.specs.List.{list_all, join_with_byte, AllByRecursion}
 use Rattle.std.proofs.lemmas.List.Folds.{list_all-append}
 use lib.Utf8.{scalars}
+use Rattle.vkg_lists.specs.Options.{joined}
 use Rattle.vkg_terms.specs.declared.term.Term.TheVariants.{Iri}
 use Rattle.vkg_terms.specs.Iri.{is_absolute, is_iri_character}
 use Rattle.vkg_terms.specs.Safe.{safe}
-use Rattle.vkg_cells.specs.Form.{lexical_form, joined}
+use Rattle.vkg_cells.specs.Form.{lexical_form}
 use Rattle.vkg_schema.specs.declared.table.Table.{Table}
 use Rattle.vkg_schema.specs.Rows.{Row, cell_at}
 use Rattle.vkg_maps.specs.declared.term_map.Piece.{Piece}

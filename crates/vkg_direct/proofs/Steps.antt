@@ -1,5 +1,5 @@
 -- One more element of a list that is numbered.
-use Rattle.std.proofs.Common.{◌≡◌, ℕ, zero, suc, ◌+◌, ◌<◌, sym, ◌∙◌, ap, List, [], ◌∷◌, ◌++◌, map, drop, length, get_or, arith, append_assoc}
+use Rattle.std.proofs.Common.{◌≡◌, ℕ, ◌+◌, ◌<◌, sym, ◌∙◌, ap, List, [], ◌∷◌, ◌++◌, map, drop, length, get_or, append_assoc}
 use Rattle.std.specs.List.{enumerate_from}
 use Rattle.vkg_lists.proofs.Firsts.{opened}
 

@@ -1,9 +1,10 @@
 -- The direct mapping of a well-formed schema is within it.
-use Rattle.std.proofs.Common.{◌≡◌, ◌∙◌, ℕ, zero, suc, ◌+◌, ◌<◌, Bool, true, false, cond, inl, inr, List, [], ◌∷◌, ◌++◌, map, length, refl, sym, ap, subst, arith}
+use Rattle.std.proofs.Common.{◌≡◌, ◌∙◌, ℕ, zero, suc, ◌+◌, ◌<◌, Bool, true, false, cond, inl, inr, List, [], ◌∷◌, map, length, refl, sym, ap, subst, arith}
 use Rattle.std.specs.Prelude.{◌≢◌, not, position, nat_lt, if◌then◌else◌, Result, Ok, Err, Option, Some, None, option_map, unwrap_or, slice_get, IfSome, flat_map, find, codes, Contains}
 use Rattle.std.specs.List.{AllByRecursion, enumerate_from}
 use Rattle.std.proofs.lemmas.List.{length-map}
 use Rattle.std.proofs.lemmas.Option.{slice_get-map, slice_get_within}
+use Rattle.vkg_lists.specs.Lists.{AllBelow}
 use Rattle.vkg_lists.proofs.Members.{each_from_recursion, recursion_from_each, Contains-from_map, Contains-cons_cases, Contains-none}
 use Rattle.std.proofs.lemmas.List.Elements.{Contains-append_cases}
 use Rattle.std.proofs.lemmas.List.FromFn.{length-enumerate_from}
@@ -13,7 +14,7 @@ use Rattle.vkg_schema.specs.declared.table.Column.{Column}
 use Rattle.vkg_schema.specs.declared.table.Key.{Key}
 use Rattle.vkg_schema.specs.declared.table.Reference.{Reference}
 use Rattle.vkg_schema.specs.declared.table.Table.{Table}
-use Rattle.vkg_schema.specs.Meets.{Below, Comparable, IsKey, IsReference, IsTable, IsWellFormed, RefersTo}
+use Rattle.vkg_schema.specs.Meets.{Comparable, IsKey, IsReference, IsTable, IsWellFormed, RefersTo}
 use Rattle.vkg_maps.specs.declared.mapping.ObjectMap.TheVariants.{Parent}
 use Rattle.vkg_maps.specs.declared.mapping.PredicateObjectMap.{PredicateObjectMap}
 use Rattle.vkg_maps.specs.declared.mapping.TriplesMap.{TriplesMap}
@@ -49,28 +50,24 @@ below_place xs k x e = slice_get_within xs k x e
 
 -- ---- places that are below a bound
 
-below_more : (n : ℕ) (xs ys : List ℕ) → Below n xs → Below n ys → Below n (xs ++ ys)
-below_more n [] ys h k = k
-below_more n (x ∷ xs) ys h k = (h.0, below_more n xs ys h.1 k)
-
 module _ (table : Table) where
   abbrev ks : List SqlType
   ks = map (λ (c : Column). c.kind) table.columns
 
-  later_pieces : (n : ℕ) (cs : List ℕ) → Below n cs → Below n (flat_map piece_columns (flat_map (node_pieces table (codes ";")) cs))
+  later_pieces : (n : ℕ) (cs : List ℕ) → AllBelow n cs → AllBelow n (flat_map piece_columns (flat_map (node_pieces table (codes ";")) cs))
   later_pieces n [] h = tt
   later_pieces n (c ∷ cs) h = (h.0, later_pieces n cs h.1)
 
-  pieces_below : (n : ℕ) (cs : List ℕ) → Below n cs → Below n (flat_map piece_columns (key_pieces table cs))
+  pieces_below : (n : ℕ) (cs : List ℕ) → AllBelow n cs → AllBelow n (flat_map piece_columns (key_pieces table cs))
   pieces_below n [] h = tt
   pieces_below n (c ∷ cs) h = (h.0, later_pieces n cs h.1)
 
-  first_below : (b : Bool) (k : Key) (o : Option Key) → Below (length table.columns) k.columns → Below (length table.columns) (unwrap_or (option_map (λ (k : Key). k.columns) o) []) →
-      Below (length table.columns) (unwrap_or (option_map (λ (k : Key). k.columns) (cond b (Some k) o)) [])
+  first_below : (b : Bool) (k : Key) (o : Option Key) → AllBelow (length table.columns) k.columns → AllBelow (length table.columns) (unwrap_or (option_map (λ (k : Key). k.columns) o) []) →
+      AllBelow (length table.columns) (unwrap_or (option_map (λ (k : Key). k.columns) (cond b (Some k) o)) [])
   first_below true k o h g = h
   first_below false k o h g = g
 
-  found_below : (keys : List Key) → AllByRecursion (IsKey table) keys → Below (length table.columns) (unwrap_or (option_map (λ (k : Key). k.columns) (find (λ (k : Key). k.primary) keys)) [])
+  found_below : (keys : List Key) → AllByRecursion (IsKey table) keys → AllBelow (length table.columns) (unwrap_or (option_map (λ (k : Key). k.columns) (find (λ (k : Key). k.primary) keys)) [])
   found_below [] h = tt
   found_below (k ∷ keys) h = first_below k.primary k (find (λ (k : Key). k.primary) keys) h.0.columns (found_below keys h.1)
 
@@ -105,7 +102,7 @@ module _ (base : List ℕ) (schema : List Table) (well : IsWellFormed schema) wh
         of (Some c) None h = tt
         of (Some c) (Some d) h = h
 
-    conditions_are : (other : ℕ) (u : Table) → slice_get schema other ≡ Some u → (ps : List (ℕ × ℕ)) → Below (length t.columns) (map (λ (p : ℕ × ℕ). p.0) ps) → Below (length u.columns) (map (λ (p : ℕ × ℕ). p.1) ps) → AllByRecursion (Comparable t u) ps →
+    conditions_are : (other : ℕ) (u : Table) → slice_get schema other ≡ Some u → (ps : List (ℕ × ℕ)) → AllBelow (length t.columns) (map (λ (p : ℕ × ℕ). p.0) ps) → AllBelow (length u.columns) (map (λ (p : ℕ × ℕ). p.1) ps) → AllByRecursion (Comparable t u) ps →
         AllByRecursion (IsCondition (kinds_at schema k) (kinds_at schema other)) ps
     conditions_are other u e [] h i j = tt
     conditions_are other u e (p ∷ ps) h i j = (
@@ -164,7 +161,7 @@ module _ (base : List ℕ) (schema : List Table) (well : IsWellFormed schema) wh
     map_within : IsMapWithin schema maps m
     map_within = record {
       table = below_place schema k t here;
-      subject = record { columns = pieces_below t (length (kinds_at schema k)) (primary_key t) (subst (λ n. Below n (primary_key t)) width (found_below t t.keys fine.keys)); narrow = refl };
+      subject = record { columns = pieces_below t (length (kinds_at schema k)) (primary_key t) (subst (λ n. AllBelow n (primary_key t)) width (found_below t t.keys fine.keys)); narrow = refl };
       graphs = tt;
       predicate_objects = recursion_from_each (IsPairWithin schema maps m) (properties_of base t) pair_within;
     }

@@ -1,16 +1,17 @@
 -- Kinds of lists of expressions, from their first.
-use Rattle.std.proofs.Common.{◌≡◌, true, ◌&&◌, List, [], ◌∷◌, ◌++◌, refl, ap, append_assoc, map, length, suc}
+use Rattle.std.proofs.Common.{◌≡◌, true, ◌&&◌, List, [], ◌∷◌, refl, ap, map, length, suc}
 use Rattle.std.proofs.Math.Bool.{and-false}
 use Rattle.std.specs.Prelude.{Option, Some, None}
-use Rattle.vkg_lists.proofs.Onto.{onto, onto_none}
+use Rattle.vkg_lists.specs.Options.{with_first}
+use Rattle.vkg_lists.proofs.Onto.{onto_none, onto_first}
 use Rattle.vkg_cells.specs.declared.cell.SqlType.{SqlType}
 use Rattle.vkg_cells.specs.declared.cell.SqlType.TheVariants as kind
 use Rattle.vkg_expr.specs.declared.expr.Expr.{Expr as ExprValue}
 use Rattle.vkg_expr.specs.Seen.{expr_seen}
 use Rattle.vkg_expr.specs.Expr.{each, exprs}
-use Rattle.vkg_expr.specs.Typing.{are_all, common, giving, is_one, same_kind, with_kind}
+use Rattle.vkg_expr.specs.Typing.{are_all, common, giving, is_one, same_kind}
 
-pub are_all-more : (k : SqlType) (a : Option SqlType) (o : Option (List SqlType)) → are_all k (with_kind a o) ≡ (is_one k a && are_all k o)
+pub are_all-more : (k : SqlType) (a : Option SqlType) (o : Option (List SqlType)) → are_all k (with_first a o) ≡ (is_one k a && are_all k o)
 are_all-more k None o = refl
 are_all-more k (Some l) None = rw and-false
 are_all-more k (Some l) (Some ls) = refl
@@ -25,16 +26,12 @@ itself kind.Stamp = refl
 itself kind.Bin = refl
 itself kind.Term = refl
 
-pub common-more : (k : SqlType) (o : Option (List SqlType)) → common (with_kind (Some k) o) ≡ giving k (are_all k (with_kind (Some k) o))
+pub common-more : (k : SqlType) (o : Option (List SqlType)) → common (with_first (Some k) o) ≡ giving k (are_all k (with_first (Some k) o))
 common-more k None = refl
 common-more k (Some ls) = rw (itself k)
-
-pub onto_more : (ks : List SqlType) (k : SqlType) (o : Option (List SqlType)) → onto ks (with_kind (Some k) o) ≡ onto (ks ++ k ∷ []) o
-onto_more ks k None = refl
-onto_more ks k (Some ls) = rw append_assoc
 
 pub length-each : (xs : List ExprValue) → length (each (exprs (map expr_seen xs))) ≡ length xs
 length-each [] = refl
 length-each (x ∷ xs) = ap suc (length-each xs)
 
-pub ruleset kind_lists = (are_all-more, common-more, onto_none, onto_more, length-each)
+pub ruleset kind_lists = (are_all-more, common-more, onto_none, onto_first, length-each)

@@ -1,4 +1,3 @@
-pub mod Texts
 pub mod KindLists
 pub mod ReadBack
 pub mod Conjuncts

@@ -5,6 +5,7 @@ use Rattle.std.specs.List.{AllByRecursion, list_all}
 use Rattle.std.proofs.lemmas.Bool.{eqb-true}
 use Rattle.std.proofs.lemmas.Option.{same_Some}
 use Rattle.std.proofs.lemmas.List.Elements.{All-from_recursion}
+use Rattle.vkg_lists.proofs.Onto.{first_given}
 use Rattle.vkg_terms.specs.declared.term.Annotation.{Annotation}
 use Rattle.vkg_cells.specs.declared.cell.Cell.{Cell}
 use Rattle.vkg_cells.specs.declared.cell.SqlType.{SqlType}
@@ -22,7 +23,7 @@ use Rattle.vkg_expr.specs.Seen.{expr_seen, expr_step}
 use Rattle.vkg_expr.specs.Steps.{AllFit, Fits, TakesEach, TakesOne}
 use Rattle.vkg_expr.specs.Typing.{are_all, arity, equality_kind, giving, is_one, kind_of, kinds_of, lexical_kind, no_column, result_kind, same_kind}
 use Rattle.vkg_expr.specs.Value.{value_of, values_of}
-use Rattle.vkg_expr.proofs.ValueFits.{along, common_given, given-is, kind_same, more_given, value-fits, values-fit}
+use Rattle.vkg_expr.proofs.ValueFits.{along, common_given, given-is, kind_same, value-fits, values-fit}
 use Rattle.vkg_expr.proofs.Weights.{item-weighs, weight, weight_of, weight_of_each}
 use Rattle.vkg_lists.proofs.Bools.{and_parts}
 
@@ -160,7 +161,7 @@ AreTyped xs row = All (λ x. IsTyped (expr_seen x) row) xs
 each_typed : (xs : List ExprValue) (ks ls : List SqlType) (row : Row) → HasKinds ks row → kinds_of (exprs (map expr_seen xs)) ks ≡ Some ls → AllByRecursion (λ x. IsTyped (expr_seen x) row) xs
 each_typed [] ks ls row h t = tt
 each_typed (x ∷ xs) ks ls row h t =
-    let m = more_given (kind_of (expr_seen x) ks) (kinds_of (exprs (map expr_seen xs)) ks) ls t in
+    let m = first_given (kind_of (expr_seen x) ks) (kinds_of (exprs (map expr_seen xs)) ks) ls t in
     (typed_by ks m.0 (expr_seen x) row h m.1, each_typed xs ks m.2.0 row h m.2.1)
 
 pub are_typed : (xs : List ExprValue) (ks ls : List SqlType) (row : Row) → HasKinds ks row → kinds_of (exprs (map expr_seen xs)) ks ≡ Some ls → AreTyped xs row

@@ -3,6 +3,7 @@ use Rattle.std.proofs.Common.{◌≡◌, ℕ, Bool, true, false, not, List, [], 
 use Rattle.std.specs.Prelude.{Option, Some, None, option_map, find, unwrap_or, if◌then◌else◌}
 use Rattle.std.specs.List.{list_all}
 use Rattle.std.proofs.lemmas.Option.{same_Some}
+use Rattle.vkg_lists.proofs.Onto.{first_given}
 use Rattle.vkg_terms.specs.declared.term.Term.{Term}
 use Rattle.vkg_cells.specs.declared.cell.Cell.{Cell}
 use Rattle.vkg_cells.specs.declared.cell.Cell.TheVariants as cell
@@ -14,7 +15,7 @@ use Rattle.vkg_expr.specs.declared.expr.Operator.TheVariants.{Test, Take, Compar
 use Rattle.vkg_expr.specs.Expr.{Expr, Exprs, Col, Const, MakeIri, IriOf, MakeBlank, MakeLit, Lex, IriSafe, Concat, Same, IsNull, Not, And, Or, Coalesce, Sparql, Ebv, Nil, More}
 use Rattle.vkg_expr.specs.Laws.{FitsRow, HasKinds, IsOfItsKind}
 use Rattle.vkg_expr.specs.Steps.{Fits}
-use Rattle.vkg_expr.specs.Typing.{common, equality_kind, fits, giving, kind_of, kinds_of, lexical_kind, result_kind, same_family, same_kind, with_kind}
+use Rattle.vkg_expr.specs.Typing.{common, equality_kind, fits, giving, kind_of, kinds_of, lexical_kind, result_kind, same_family, same_kind}
 use Rattle.vkg_expr.specs.Value.{coalesced, operator_value, term_cell, text_cell, truth_cell, value_of, values_of}
 use Rattle.vkg_expr.proofs.KindLists.{itself}
 use Rattle.vkg_lists.proofs.Bools.{and_parts, and_true}
@@ -60,11 +61,6 @@ equality-is : (a b : Option SqlType) (l : SqlType) → equality_kind a b ≡ Som
 equality-is (Some m) (Some n) l e = (given-is kind.Bool l (same_family m n) e).1
 equality-is (Some m) None l e = cc
 equality-is None b l e = cc
-
-pub more_given : (a : Option SqlType) (o : Option (List SqlType)) (ls : List SqlType) → with_kind a o ≡ Some ls → (k : SqlType) × (a ≡ Some k) × ((ms : List SqlType) × (o ≡ Some ms) × (k ∷ ms ≡ ls))
-more_given (Some k) (Some ms) ls e = (k, refl, (ms, refl, same_Some (k ∷ ms) ls e))
-more_given (Some k) None ls e = cc
-more_given None o ls e = cc
 
 pub kind_same : (k l : SqlType) → same_kind k l ≡ true → k ≡ l
 kind_same kind.Text kind.Text e = refl
@@ -197,7 +193,7 @@ mutual
   pub values-fit : (es : Exprs) (ks ls : List SqlType) (row : Row) → FitsRow ks row → kinds_of es ks ≡ Some ls → HasKinds ls (values_of es row)
   values-fit Nil ks ls row w t = subst (λ z. HasKinds z []) (same_Some [] ls t) tt
   values-fit (More e es) ks ls row w t =
-      let m = more_given (kind_of e ks) (kinds_of es ks) ls t in
+      let m = first_given (kind_of e ks) (kinds_of es ks) ls t in
       subst (λ z. HasKinds z (value_of e row ∷ values_of es row)) m.2.2 (value-fits e ks m.0 row w m.1, values-fit es ks m.2.0 row w m.2.1)
 
 pub of_its_kind : (e : Expr) (row : Row) (c : Cell) → c ≡ value_of e row → IsOfItsKind e row c

@@ -1,6 +1,7 @@
 -- The kind of an expression over columns of some kinds; none where it is ill typed.
 use Rattle.std.specs.Prelude.{ℕ, Bool, true, false, ◌&&◌, not, List, [], ◌∷◌, length, slice_get, Option, Some, None, option_map, if◌then◌else◌, ◌==◌}
 use Rattle.std.specs.List.{list_all}
+use Rattle.vkg_lists.specs.Options.{with_first}
 use Rattle.vkg_cells.specs.declared.cell.Cell.{Cell}
 use Rattle.vkg_cells.specs.declared.cell.Cell.TheVariants as cell
 use Rattle.vkg_cells.specs.declared.cell.SqlType.{SqlType}
@@ -88,10 +89,6 @@ abbrev pub no_column : Exprs → Bool
 no_column Nil = true
 no_column (More e es) = not (is_column e) && no_column es
 
-abbrev pub with_kind : Option SqlType → Option (List SqlType) → Option (List SqlType)
-with_kind (Some k) (Some ls) = Some (k ∷ ls)
-with_kind k ls = None
-
 abbrev mutual
   pub kind_of : Expr → List SqlType → Option SqlType
   kind_of (Col at) ks = slice_get ks at
@@ -114,4 +111,4 @@ abbrev mutual
 
   pub kinds_of : Exprs → List SqlType → Option (List SqlType)
   kinds_of Nil ks = Some []
-  kinds_of (More e es) ks = with_kind (kind_of e ks) (kinds_of es ks)
+  kinds_of (More e es) ks = with_first (kind_of e ks) (kinds_of es ks)

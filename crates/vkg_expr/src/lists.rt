@@ -12,7 +12,7 @@ use vkg_cells::Cell;
 use vkg_values::{conjunction, disjunction};
 
 /// The texts after each other, and NULL where one is.
-#[tactic(auto, using(crate::proofs::Texts::texts))]
+#[tactic(auto, using(vkg_lists::proofs::Onto::onto_rules))]
 pub fn concatenation(alloc: Global, cells: &[Cell]) -> Result<Cell, Memory>
     requires { AllFit kind.Text cells.now }
     ensures { IfOk result (λ c. c ≡ text_cell (concat_of cells.now)) }

@@ -2,10 +2,11 @@
 use Rattle.std.proofs.Common.{◌≡◌, ℕ, zero, suc, ◌<◌, List, [], ◌∷◌, ◌++◌, map, length, sym, subst, arith}
 use Rattle.std.specs.Prelude.{Contains, flat_map}
 use Rattle.std.specs.List.{AllByRecursion, AllZip}
+use Rattle.vkg_lists.specs.Lists.{AllBelow}
 use Rattle.vkg_lists.proofs.Members.{Contains-none, each_from_recursion}
 use Rattle.vkg_cells.specs.declared.cell.SqlType.{SqlType}
 use Rattle.vkg_schema.specs.declared.table.Column.{Column}
-use Rattle.vkg_schema.specs.Meets.{Below, FitsColumn, IsColumn, IsTable, MeetsSchema, TableMeets}
+use Rattle.vkg_schema.specs.Meets.{FitsColumn, IsColumn, IsTable, MeetsSchema, TableMeets}
 use Rattle.vkg_schema.specs.Rows.{Database, Row, cell_at, rows_of}
 use Rattle.vkg_schema.proofs.RowCells.{cell_at-left}
 use Rattle.vkg_maps.specs.declared.term_map.Piece.{Piece as TemplatePiece}
@@ -45,7 +46,7 @@ module _ (ks : List SqlType) (r s : Row) (width : length ks ≡ length r) (fits 
   fits_before : (c : ℕ) → c < length ks → FitsHole (kind_at ks c) (cell_at (r ++ s) c)
   fits_before c l = subst (FitsHole (kind_at ks c)) (sym (cell_at-left r s c (subst (λ n. c < n) width l))) (fits c l)
 
-  fits_pieces : (ps : List TemplatePiece) → Below (length ks) (flat_map piece_columns ps) → AllByRecursion (FitsPiece (r ++ s)) (map (piece_of ks) ps)
+  fits_pieces : (ps : List TemplatePiece) → AllBelow (length ks) (flat_map piece_columns ps) → AllByRecursion (FitsPiece (r ++ s)) (map (piece_of ks) ps)
   fits_pieces [] h = tt
   fits_pieces (piece.Fixed text ∷ ps) h = (tt, fits_pieces ps h)
   fits_pieces (piece.Column c ∷ ps) h = (fits_before c h.0, fits_pieces ps h.1)

@@ -2,13 +2,14 @@
 use Rattle.std.proofs.Common.{◌≡◌, ◌∙◌, ℕ, zero, suc, ◌+◌, ◌<◌, false, List, [], ◌∷◌, ◌++◌, map, length, refl, ap, subst, arith}
 use Rattle.std.specs.Prelude.{◌≢◌, Contains, flat_map, IfSome, Option, Some, None, option_map, slice_get}
 use Rattle.std.specs.List.{AllByRecursion}
+use Rattle.vkg_lists.specs.Lists.{AllBelow}
 use Rattle.vkg_lists.proofs.Members.{Contains-from_map, recursion_from_each}
 use Rattle.vkg_lists.proofs.Tests.{nat_test}
 use Rattle.vkg_cells.specs.declared.cell.SqlType.{SqlType}
 use Rattle.vkg_cells.specs.declared.cell.SqlType.TheVariants as kind
 use Rattle.vkg_cells.specs.Order.{family}
 use Rattle.vkg_schema.specs.declared.table.Column.{Column}
-use Rattle.vkg_schema.specs.Meets.{Below, IsColumn, IsTable as IsTableOf, IsWellFormed}
+use Rattle.vkg_schema.specs.Meets.{IsColumn, IsTable as IsTableOf, IsWellFormed}
 use Rattle.vkg_maps.specs.declared.mapping.Mapping.{Mapping}
 use Rattle.vkg_maps.specs.declared.quad_rule.Join.{Join}
 use Rattle.vkg_maps.specs.declared.quad_rule.QuadRule.{QuadRule}
@@ -71,7 +72,7 @@ hole_fits (k ∷ ks) h zero l = (refl, h.0)
 hole_fits (k ∷ ks) h (suc at) l = hole_fits ks h.1 at (omega (arith, l))
 
 module _ (ks : List SqlType) (none : NoTerms ks) where
-  pieces_fit : (ps : List TemplatePiece) → Below (length ks) (flat_map piece_columns ps) → AllByRecursion (FitsPiece ks) (map (piece_of ks) ps)
+  pieces_fit : (ps : List TemplatePiece) → AllBelow (length ks) (flat_map piece_columns ps) → AllByRecursion (FitsPiece ks) (map (piece_of ks) ps)
   pieces_fit [] h = tt
   pieces_fit (piece.Fixed text ∷ ps) h = (tt, pieces_fit ps h)
   pieces_fit (piece.Column c ∷ ps) h = (hole_fits ks none c h.0, pieces_fit ps h.1)

@@ -4,6 +4,7 @@ use Rattle.std.specs.Prelude.{IsUtf8}
 use Rattle.std.specs.List.{list_all, range_with_len}
 use Rattle.std.proofs.lemmas.Bool.{cases_order}
 use Rattle.std.proofs.lemmas.Option.{none-some}
+use Rattle.vkg_lists.proofs.Heads.{head_same}
 use Rattle.vkg_lists.proofs.Bools.{and_parts}
 use Rattle.vkg_lists.proofs.Results.{ok_err, ok_same}
 use Rattle.vkg_grammar.specs.declared.note.Note.{Note}
@@ -24,16 +25,13 @@ use Rattle.vkg_sparql.specs.declared.query.Query.{Query}
 use Rattle.vkg_sparql.specs.Reading.{IsFaultOf, IsQueryText, Read, Says, checked, cut_off, dead, fault_of, no_token, no_utf8, query_of, read, sparql, sparql_tokens, too_deep}
 use Rattle.vkg_company.proofs.SchemaTexts.{front_alive}
 
-one_item : {A : Type 0} (x y : A) → x ∷ [] ≡ y ∷ [] → x ≡ y
-one_item x y e = cc e
-
 -- what is built of a derivation is a tree of the text
 pub tree_found : (g : List Rule) (kinds : List ℕ) (ws : List Note) (t : Tree) → Derives g (0 ∷ []) kinds ws → (decoded (length kinds) (acts_of ws)).trees ≡ t ∷ [] → IsTreeOf g kinds t
 tree_found g kinds ws t d e =
     let r = has_tree (from_engine d) in
     let m = decodes (length kinds) 0 r.0 [] r.1.from (let same : length kinds ≡ 0 + size r.0 = omega (arith, r.1.all) in same) in
     let built : (decoded (length kinds) (acts_of ws)).trees ≡ r.0 ∷ [] = ap (λ q. (decoded (length kinds) q).trees) (r.2 ∙ sym (append-nil (steps_of r.0))) ∙ m.1 in
-    subst (IsTreeOf g kinds) (one_item r.0 t (sym built ∙ e)) r.1
+    subst (IsTreeOf g kinds) (head_same r.0 t [] [] (sym built ∙ e)) r.1
 
 at_each : (p : ℕ → Bool) (a m k : ℕ) → list_all p (range_with_len a m) ≡ true → a ≤ k → k < a + m → p k ≡ true
 at_each p a zero k e low high = absurd (omega (arith, low, high))

@@ -1,6 +1,8 @@
 -- A grammar whose claims pass the test keeps ways apart.
 use Rattle.std.proofs.Common.{◌≡◌, ℕ, zero, suc, ◌+◌, ◌<◌, Bool, true, false, not, ◌⊎◌, inl, inr, List, [], ◌∷◌, ◌++◌, length, get_or, Option, Some, None, refl, sym, subst, arith, nat_eq, nat_lt}
 use Rattle.std.proofs.lemmas.Bool.{eqb-true, eq-eqb, ltb-true}
+use Rattle.vkg_lists.proofs.Members.{recursion_append}
+use Rattle.vkg_lists.specs.Lists.{AllBelow}
 use Rattle.vkg_grammar.specs.declared.note.Note.{Note}
 use Rattle.vkg_grammar.specs.declared.note.Act.TheVariants.{Leaf}
 use Rattle.vkg_grammar.specs.Tables.{HasText}
@@ -8,12 +10,11 @@ use Rattle.vkg_grammar.proofs.Core.{join, moved}
 use Rattle.std.proofs.lemmas.List.{append-nil}
 use Rattle.vkg_grammar.specs.declared.rule.Rule.{Rule}
 use Rattle.vkg_grammar.specs.declared.rule.Rule.TheVariants.{Token, Empty, Then, Either, Optional, Repeated}
-use Rattle.vkg_grammar.specs.Grammar.{noted, at_parts, at_first, at_second, Shape, One, Parts, Choice, shape, shape_of, Derives, done, read, parts, first, second, MayBeEmpty, MayFollow, within, at_end, IsWay, the_parts, the_first, the_second, Starts, IsGrammar, IsProductive, IsLL1, AllBelow}
+use Rattle.vkg_grammar.specs.Grammar.{noted, at_parts, at_first, at_second, Shape, One, Parts, Choice, shape, shape_of, Derives, done, read, parts, first, second, MayBeEmpty, MayFollow, within, at_end, IsWay, the_parts, the_first, the_second, Starts, IsGrammar, IsProductive, IsLL1}
 use Rattle.vkg_grammar.specs.Machine.{Sees, at_token, at_end_of}
 use Rattle.vkg_grammar.specs.Certified.{Claim, none_claimed, holds, within_all, apart_all, both, if_so, claim_at, empty_way, begin_more, begin_way, follow_way, way_claimed, starts_way, shape_claimed, all_claimed, lower_way, either, shape_lower, all_lower, all_below, shape_below, all_closed, rule_fits, all_fit}
 use Rattle.vkg_grammar.specs.Form.{HasKinds}
 use Rattle.vkg_grammar.specs.Laws.{CertificatesHold}
-use Rattle.vkg_grammar.proofs.Stepping.{below_way}
 use Rattle.vkg_grammar.proofs.Following.{way_inside}
 
 both_first : (a b : Bool) → both a b ≡ true → a ≡ true
@@ -142,9 +143,9 @@ module _ (g : List Rule) (wf : IsGrammar g) (cs : List Claim) (claimed : (n : �
   pub claims_of : {s ts : List ℕ} {ws : List Note} (c : Option ℕ) → AllBelow (length g) s → Sees c ts → Derives g s ts ws → ClaimedAt cs c s
   claims_of c b at_end_of done = refl
   claims_of c b at_token (read {n = n} {k = k} {s = s} q d) = let h : shape_claimed cs (claim_at cs n) (One k) ≡ true = subst (λ y. shape_claimed cs (claim_at cs n) y ≡ true) q (claimed n b.0) in more_holds k (claim_at cs n).empty (claim_at cs n).begin (begin_way cs s) h
-  claims_of c b see (parts {n = n} {xs = xs} {s = s} q d) = of_way n xs s c (way_of (the_parts q)) (claims_of c (below_way (length g) xs s (wf.closed n xs b.0 (the_parts q)) b.1) see d)
-  claims_of c b see (first {n = n} {xs = xs} {s = s} q d) = of_way n xs s c (way_of (the_first q)) (claims_of c (below_way (length g) xs s (wf.closed n xs b.0 (the_first q)) b.1) see d)
-  claims_of c b see (second {n = n} {ys = xs} {s = s} q d) = of_way n xs s c (way_of (the_second q)) (claims_of c (below_way (length g) xs s (wf.closed n xs b.0 (the_second q)) b.1) see d)
+  claims_of c b see (parts {n = n} {xs = xs} {s = s} q d) = of_way n xs s c (way_of (the_parts q)) (claims_of c (recursion_append (λ k. k < length g) xs s (wf.closed n xs b.0 (the_parts q)) b.1) see d)
+  claims_of c b see (first {n = n} {xs = xs} {s = s} q d) = of_way n xs s c (way_of (the_first q)) (claims_of c (recursion_append (λ k. k < length g) xs s (wf.closed n xs b.0 (the_first q)) b.1) see d)
+  claims_of c b see (second {n = n} {ys = xs} {s = s} q d) = of_way n xs s c (way_of (the_second q)) (claims_of c (recursion_append (λ k. k < length g) xs s (wf.closed n xs b.0 (the_second q)) b.1) see d)
 
   follow_place : (k : ℕ) (behind before : List ℕ) (n : ℕ) (after : List ℕ) → follow_way cs behind (before ++ n ∷ after) ≡ true → (holds k (begin_way cs after) ≡ true) ⊎ ((empty_way cs after ≡ true) × (holds k behind ≡ true)) → holds k (claim_at cs n).follow ≡ true
   follow_place k behind [] n after e (inl h) = within_holds k (begin_way cs after) (claim_at cs n).follow (both_first (within_all (begin_way cs after) (claim_at cs n).follow) _ e) h

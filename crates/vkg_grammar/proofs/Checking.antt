@@ -1,7 +1,8 @@
 -- The tables tell whether a grammar is LL(1).
 use Rattle.std.proofs.Common.{Bool, false, IsTrue, ◌≡◌, ℕ, ◌+◌, ◌<◌, ◌≤◌, inl, inr, List, [], ◌∷◌, length, Some, None, refl, subst, arith}
+use Rattle.vkg_lists.specs.Lists.{AllBelow}
 use Rattle.vkg_grammar.specs.declared.rule.Rule.{Rule}
-use Rattle.vkg_grammar.specs.Grammar.{Shape, One, Parts, Choice, shape_of, MayBeEmpty, Starts, the_first, the_second, IsLL1, IsGrammar, IsProductive, AllBelow}
+use Rattle.vkg_grammar.specs.Grammar.{Shape, One, Parts, Choice, shape_of, MayBeEmpty, Starts, the_first, the_second, IsLL1, IsGrammar, IsProductive}
 use Rattle.vkg_grammar.specs.Rank.{rank_in, Begins, IsTable}
 use Rattle.vkg_grammar.specs.Machine.{at_token, at_end_of}
 use Rattle.vkg_grammar.specs.Tables.{StartsBy, WaysApart, ShapeApart, IsFollowTable}

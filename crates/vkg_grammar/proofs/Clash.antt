@@ -1,10 +1,12 @@
 -- A symbol that may be empty does not begin with what may follow it.
 use Rattle.std.proofs.Common.{◌≡◌, ℕ, ◌<◌, inl, inr, List, [], ◌∷◌, ◌++◌, length, refl, sym, subst, append_assoc}
+use Rattle.vkg_lists.proofs.Members.{recursion_append}
+use Rattle.vkg_lists.specs.Lists.{AllBelow}
 use Rattle.vkg_grammar.specs.declared.note.Note.{Note}
 use Rattle.vkg_grammar.specs.declared.rule.Rule.{Rule}
-use Rattle.vkg_grammar.specs.Grammar.{Derives, done, parts, first, second, MayBeEmpty, MayBegin, IsWay, the_parts, the_first, the_second, MayFollow, within, at_end, IsLL1, IsGrammar, AllBelow}
+use Rattle.vkg_grammar.specs.Grammar.{Derives, done, parts, first, second, MayBeEmpty, MayBegin, IsWay, the_parts, the_first, the_second, MayFollow, within, at_end, IsLL1, IsGrammar}
 use Rattle.vkg_grammar.proofs.Core.{Split, split, spelled, starts_seen}
-use Rattle.vkg_grammar.proofs.Stepping.{of_parts, OfChoice, by_first, by_second, of_choice, below_way, OfParts, by_parts}
+use Rattle.vkg_grammar.proofs.Stepping.{of_parts, OfChoice, by_first, by_second, of_choice, OfParts, by_parts}
 
 -- What begins what stands behind a symbol may follow it, and k may follow it where nothing else need stand there.
 abbrev pub FitsBefore : List Rule → ℕ → List ℕ → Type 0
@@ -33,18 +35,18 @@ before_way {g = g} {n = n} k s before (x ∷ xs) w f e fs =
 clash : {g : List Rule} {k : ℕ} {s ts : List ℕ} {ws vs : List Note} → IsGrammar g → IsLL1 g → FitsBefore g k s → AllBelow (length g) s → Derives g s [] ws → Derives g s (k ∷ ts) vs → ⊥
 clash w ll f b done e = elim e [ ]
 clash {g = g} {k = k} {ts = ts} w ll f b (parts {n = n} {xs = xs} {s = s} q d) e =
-    by_way (λ us d'. clash {ws = _} {vs = us} w ll (before_way k s [] xs (the_parts q) f.0 f.1 f.2) (below_way (length g) xs s (w.closed n xs b.0 (the_parts q)) b.1) d d') (of_parts q e)
+    by_way (λ us d'. clash {ws = _} {vs = us} w ll (before_way k s [] xs (the_parts q) f.0 f.1 f.2) (recursion_append (λ k. k < length g) xs s (w.closed n xs b.0 (the_parts q)) b.1) d d') (of_parts q e)
   where
     by_way : {us : List Note} → ((l : List Note) → Derives g (xs ++ s) (k ∷ ts) l → ⊥) → OfParts g n xs s (k ∷ ts) us → ⊥
     by_way again (by_parts {left = l} d') = again l d'
 clash {g = g} {k = k} {ts = ts} w ll f b (first {n = n} {xs = xs} {ys = ys} {s = s} q d) e =
-    by_way (λ us d'. clash {ws = _} {vs = us} w ll (before_way k s [] xs (the_first q) f.0 f.1 f.2) (below_way (length g) xs s (w.closed n xs b.0 (the_first q)) b.1) d d') (of_choice q e)
+    by_way (λ us d'. clash {ws = _} {vs = us} w ll (before_way k s [] xs (the_first q) f.0 f.1 f.2) (recursion_append (λ k. k < length g) xs s (w.closed n xs b.0 (the_first q)) b.1) d d') (of_choice q e)
   where
     by_way : {us : List Note} → ((l : List Note) → Derives g (xs ++ s) (k ∷ ts) l → ⊥) → OfChoice g n xs ys s (k ∷ ts) us → ⊥
     by_way again (by_first {left = l} d') = again l d'
     by_way again (by_second d') = let both : MayBeEmpty g xs × MayBeEmpty g s = empty_parts xs s d in ll.one_begins n xs ys k b.0 q (inr (both.0, f.1 both.1)) (starts_seen ys f.0 d')
 clash {g = g} {k = k} {ts = ts} w ll f b (second {n = n} {xs = xs} {ys = ys} {s = s} q d) e =
-    by_way (λ us d'. clash {ws = _} {vs = us} w ll (before_way k s [] ys (the_second q) f.0 f.1 f.2) (below_way (length g) ys s (w.closed n ys b.0 (the_second q)) b.1) d d') (of_choice q e)
+    by_way (λ us d'. clash {ws = _} {vs = us} w ll (before_way k s [] ys (the_second q) f.0 f.1 f.2) (recursion_append (λ k. k < length g) ys s (w.closed n ys b.0 (the_second q)) b.1) d d') (of_choice q e)
   where
     by_way : {us : List Note} → ((l : List Note) → Derives g (ys ++ s) (k ∷ ts) l → ⊥) → OfChoice g n xs ys s (k ∷ ts) us → ⊥
     by_way again (by_second {left = l} d') = again l d'

@@ -3,9 +3,10 @@ use Rattle.std.proofs.Common.{◌≡◌, ℕ, zero, suc, ◌+◌, ◌*◌, ◌/�
 use Rattle.std.proofs.lemmas.List.{take_all, length-replicate}
 use Rattle.std.proofs.lemmas.Nat.{mul-add-lt, div-mul-add, mod-mul-add}
 use Rattle.std.proofs.Math.ListN.{get_or-eq_default}
+use Rattle.vkg_lists.specs.Lists.{AllBelow}
 use Rattle.vkg_grammar.specs.declared.rule.Rule.{Rule}
 use Rattle.vkg_grammar.specs.declared.rule.Rule.TheVariants.{Token}
-use Rattle.vkg_grammar.specs.Grammar.{Shape, One, Parts, Choice, shape_of, MayFollow, within, at_end, IsWay, the_parts, the_first, the_second, IsGrammar, IsProductive, AllBelow}
+use Rattle.vkg_grammar.specs.Grammar.{Shape, One, Parts, Choice, shape_of, MayFollow, within, at_end, IsWay, the_parts, the_first, the_second, IsGrammar, IsProductive}
 use Rattle.vkg_grammar.specs.Rank.{column, rank_in, Begins, IsTable}
 use Rattle.vkg_grammar.specs.Machine.{at_token, at_end_of}
 use Rattle.vkg_grammar.specs.Tables.{seen_at, IsNextCell, zeros, IsRound, PlaceFollows, ShapeFollows, HasPlace, FollowReason, IsFollowTable}

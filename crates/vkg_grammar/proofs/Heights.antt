@@ -1,15 +1,16 @@
 -- What the table says, and why the parser ends.
 use Rattle.std.proofs.Common.{◌≡◌, ℕ, zero, suc, ◌+◌, ◌*◌, ◌<◌, ◌≤◌, ◌⊎◌, inl, inr, List, [], ◌∷◌, ◌++◌, length, get_or, Option, Some, None, refl, ap, sym, subst, append-nil, arith}
 use Rattle.std.proofs.Math.Nat.{eq-zero-or-pos}
+use Rattle.vkg_lists.proofs.Members.{recursion_append}
+use Rattle.vkg_lists.specs.Lists.{AllBelow}
 use Rattle.vkg_grammar.specs.declared.note.Note.{Note}
 use Rattle.vkg_grammar.specs.declared.note.Act.TheVariants.{Leaf}
 use Rattle.vkg_grammar.specs.declared.rule.Rule.{Rule}
 use Rattle.vkg_grammar.specs.declared.rule.Rule.TheVariants.{Token, Empty, Then, Either, Optional, Repeated}
 use Rattle.vkg_grammar.specs.Machine.{Sees, at_end_of, at_token, Ahead, Picked, begins, empties}
-use Rattle.vkg_grammar.specs.Grammar.{noted, Shape, One, Parts, Choice, shape, shape_of, Derives, done, read, parts, first, second, MayBeEmpty, MayBegin, IsWay, the_parts, the_first, the_second, within, IsLL1, IsProductive, IsGrammar, AllBelow}
+use Rattle.vkg_grammar.specs.Grammar.{noted, Shape, One, Parts, Choice, shape, shape_of, Derives, done, read, parts, first, second, MayBeEmpty, MayBegin, IsWay, the_parts, the_first, the_second, within, IsLL1, IsProductive, IsGrammar}
 use Rattle.vkg_grammar.specs.Rank.{Begins, ShapeBegins, Falls, falls_end, falls_here, falls_later, ShapeFalls, IsTable, tri, at_rank, height}
 use Rattle.vkg_grammar.proofs.Core.{spelled, join, ahead_empty, ahead_begin, Apart, apart, apart_other}
-use Rattle.vkg_grammar.proofs.Stepping.{below_way}
 use Rattle.vkg_grammar.proofs.Outer.{completed}
 use Rattle.vkg_grammar.proofs.Clash.{one_or_follows}
 
@@ -107,9 +108,9 @@ module _ (g : List Rule) (rank : ℕ → Option ℕ → ℕ) where
   begins_of : {s ts : List ℕ} {ws : List Note} (c : Option ℕ) → IsGrammar g → IsTable g rank → AllBelow (length g) s → Sees c ts → Derives g s ts ws → Begins rank c s
   begins_of c w t b at_end_of done = refl
   begins_of c w t b at_token (read {n = n} {k = k} {s = s} q d) = inl (k, refl, t.closed n (Some k) b.0 (subst (λ y. ShapeBegins rank (Some k) y) (sym q) refl))
-  begins_of c w t b see (parts {n = n} {xs = xs} {s = s} q d) = on_top xs s (λ c' p. t.closed n c' b.0 (subst (λ y. ShapeBegins rank c' y) (sym q) p)) (begins_of c w t (below_way (length g) xs s (w.closed n xs b.0 (the_parts q)) b.1) see d)
-  begins_of c w t b see (first {n = n} {xs = xs} {s = s} q d) = on_top xs s (λ c' p. t.closed n c' b.0 (subst (λ y. ShapeBegins rank c' y) (sym q) (inl p))) (begins_of c w t (below_way (length g) xs s (w.closed n xs b.0 (the_first q)) b.1) see d)
-  begins_of c w t b see (second {n = n} {ys = xs} {s = s} q d) = on_top xs s (λ c' p. t.closed n c' b.0 (subst (λ y. ShapeBegins rank c' y) (sym q) (inr p))) (begins_of c w t (below_way (length g) xs s (w.closed n xs b.0 (the_second q)) b.1) see d)
+  begins_of c w t b see (parts {n = n} {xs = xs} {s = s} q d) = on_top xs s (λ c' p. t.closed n c' b.0 (subst (λ y. ShapeBegins rank c' y) (sym q) p)) (begins_of c w t (recursion_append (λ k. k < length g) xs s (w.closed n xs b.0 (the_parts q)) b.1) see d)
+  begins_of c w t b see (first {n = n} {xs = xs} {s = s} q d) = on_top xs s (λ c' p. t.closed n c' b.0 (subst (λ y. ShapeBegins rank c' y) (sym q) (inl p))) (begins_of c w t (recursion_append (λ k. k < length g) xs s (w.closed n xs b.0 (the_first q)) b.1) see d)
+  begins_of c w t b see (second {n = n} {ys = xs} {s = s} q d) = on_top xs s (λ c' p. t.closed n c' b.0 (subst (λ y. ShapeBegins rank c' y) (sym q) (inr p))) (begins_of c w t (recursion_append (λ k. k < length g) xs s (w.closed n xs b.0 (the_second q)) b.1) see d)
 
   pub begins_ahead : {c : Option ℕ} {xs : List ℕ} → IsGrammar g → IsTable g rank → AllBelow (length g) xs → Ahead g xs c → Begins rank c xs
   begins_ahead {c = c} w t b a = begins_of c w t b a.sees a.derives

@@ -1,9 +1,10 @@
 -- From token to token.
 use Rattle.std.proofs.Common.{◌≡◌, ℕ, List, [], ◌∷◌, ◌++◌, length, Some, None, refl, ap, sym, ◌∙◌, subst, append_assoc, append-nil}
+use Rattle.vkg_lists.specs.Lists.{AllBelow}
 use Rattle.vkg_grammar.specs.declared.note.Note.{Note}
 use Rattle.vkg_grammar.specs.declared.rule.Rule.{Rule}
 use Rattle.vkg_grammar.specs.Machine.{at_end_of, at_token, Reach, Takes, IsDead, Parsed}
-use Rattle.vkg_grammar.specs.Grammar.{Derives, done, MayBegin, MayFollow, IsLL1, IsProductive, IsAlive, IsGrammar, AllBelow}
+use Rattle.vkg_grammar.specs.Grammar.{Derives, done, MayBegin, MayFollow, IsLL1, IsProductive, IsAlive, IsGrammar}
 use Rattle.vkg_grammar.specs.Parsing.{IsCutOff, IsTheText}
 use Rattle.vkg_grammar.proofs.Core.{spelled, join}
 

@@ -2,6 +2,7 @@
 use Rattle.std.proofs.Common.{◌≡◌, ℕ, zero, suc, ◌+◌, ◌*◌, ◌<◌, ◌⊎◌, inl, inr, List, [], ◌∷◌, ◌++◌, length, get_or, Option, Some, None, refl, ap, sym, ◌∙◌, subst, arith, reverse}
 use Rattle.std.proofs.lemmas.List.{reverse-append}
 use Rattle.std.proofs.lemmas.Nat.{mul-add-lt}
+use Rattle.vkg_lists.specs.Lists.{AllBelow}
 use Rattle.vkg_grammar.specs.declared.note.Note.{Note}
 use Rattle.vkg_grammar.specs.declared.note.Act.TheVariants.{Leaf}
 use Rattle.vkg_grammar.specs.declared.rule.Rule.{Rule}
@@ -9,7 +10,7 @@ use Rattle.vkg_grammar.specs.declared.machine.Step.{Step}
 use Rattle.vkg_grammar.specs.declared.machine.Step.TheVariants.{Taken, More}
 use Rattle.std.specs.Prelude.{Result, Ok, Err, IfOk}
 use Rattle.std.specs.declared.alloc.AllocError.{AllocError}
-use Rattle.vkg_grammar.specs.Grammar.{noted, at_parts, at_first, at_second, One, Parts, Choice, shape_of, IsLL1, IsGrammar, AllBelow}
+use Rattle.vkg_grammar.specs.Grammar.{noted, at_parts, at_first, at_second, One, Parts, Choice, shape_of, IsLL1, IsGrammar}
 use Rattle.vkg_grammar.specs.Rank.{column, Begins, IsTable, height, HasRows, AllHaveRows, ShapeFalls}
 use Rattle.vkg_grammar.specs.Machine.{Ahead, move_parts, move_first, move_second, HasStepped, Picked}
 use Rattle.vkg_grammar.proofs.Heights.{complete, parts_drop, first_drop, second_drop, picked_first, picked_second}

@@ -4,8 +4,9 @@ use Rattle.std.proofs.lemmas.List.{length-replicate}
 use Rattle.std.proofs.lemmas.List.{get_or_append_left, length_push, take_more, take_all}
 use Rattle.std.proofs.lemmas.Nat.{mul-add-lt, div-mul-add, mod-mul-add}
 use Rattle.std.proofs.Math.Nat.{div-lt_iff_lt-mul, mul_comm}
+use Rattle.vkg_lists.specs.Lists.{AllBelow}
 use Rattle.vkg_grammar.specs.declared.rule.Rule.{Rule}
-use Rattle.vkg_grammar.specs.Grammar.{Shape, One, Parts, Choice, shape_of, IsGrammar, AllBelow, the_parts, the_first, the_second}
+use Rattle.vkg_grammar.specs.Grammar.{Shape, One, Parts, Choice, shape_of, IsGrammar, the_parts, the_first, the_second}
 use Rattle.vkg_grammar.specs.Rank.{column, rank_in, Begins, ShapeBegins, Falls, falls_end, falls_here, falls_later, ShapeFalls, IsTable}
 use Rattle.vkg_grammar.specs.Tables.{HasColumns, seen_at, IsNextCell, stays, comes, waits, zeros, IsRound, BeginReason}
 

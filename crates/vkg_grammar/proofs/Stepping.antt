@@ -1,11 +1,13 @@
 -- What the steps of the parser keep, over derivations alone.
-use Rattle.std.proofs.Common.{◌≡◌, ℕ, ◌⊎◌, inl, inr, List, [], ◌∷◌, ◌++◌, length, Option, Some, None, refl, ap, sym, ◌∙◌, subst, append_assoc}
+use Rattle.std.proofs.Common.{◌<◌, ◌≡◌, ℕ, ◌⊎◌, inl, inr, List, [], ◌∷◌, ◌++◌, length, Option, Some, None, refl, ap, sym, ◌∙◌, subst, append_assoc}
+use Rattle.vkg_lists.proofs.Members.{recursion_append}
+use Rattle.vkg_lists.specs.Lists.{AllBelow}
 use Rattle.vkg_lists.proofs.Heads.{head_same, tail_same}
 use Rattle.vkg_grammar.specs.declared.note.Act.TheVariants.{Leaf}
 use Rattle.vkg_grammar.specs.declared.note.Note.{Note}
 use Rattle.vkg_grammar.specs.declared.rule.Rule.{Rule}
 use Rattle.vkg_grammar.specs.Machine.{Sees, at_end_of, at_token, Ahead, Fits, Picked, begins, empties, Reach, Takes, IsDead}
-use Rattle.vkg_grammar.specs.Grammar.{noted, at_parts, at_first, at_second, One, Parts, Choice, shape_of, Derives, read, parts, first, second, MayBegin, IsWay, the_parts, the_first, the_second, MayFollow, within, at_end, IsLL1, IsGrammar, AllBelow}
+use Rattle.vkg_grammar.specs.Grammar.{noted, at_parts, at_first, at_second, One, Parts, Choice, shape_of, Derives, read, parts, first, second, MayBegin, IsWay, the_parts, the_first, the_second, MayFollow, within, at_end, IsLL1, IsGrammar}
 use Rattle.vkg_grammar.proofs.Core.{Split, split, spelled, Apart, apart, apart_other, starts_seen, forced, forced_empty}
 
 pub fits_way : {g : List Rule} {n : ℕ} {s : List ℕ} (before xs : List ℕ) → IsWay g n (before ++ xs) → ((k : ℕ) → MayBegin g s k → MayFollow g n k) → Fits g s → Fits g (xs ++ s)
@@ -45,10 +47,6 @@ of_choice e (parts q d) = absurd (cc)
 of_choice {g = g} {n = n} {xs = xs} {ys = ys} {s = s} {ts = ts} e (first {xs = zs} {ws = ws} q d) = let same : zs ≡ xs = cc in subst (λ y. OfChoice g n y ys s ts (noted n (at_first zs) ∷ ws)) same (by_first d)
 of_choice {g = g} {n = n} {xs = xs} {ys = ys} {s = s} {ts = ts} e (second {ys = zs} {ws = ws} q d) = let same : zs ≡ ys = cc in subst (λ y. OfChoice g n xs y s ts (noted n (at_second zs) ∷ ws)) same (by_second d)
 
-pub below_way : (m : ℕ) (xs s : List ℕ) → AllBelow m xs → AllBelow m s → AllBelow m (xs ++ s)
-below_way m [] s p q = q
-below_way m (x ∷ xs) s p q = (p.0, below_way m xs s p.1 q)
-
 pub not_other : {g : List Rule} {n : ℕ} {xs ys s : List ℕ} {c : Option ℕ} {ts : List ℕ} {ws : List Note} → Apart g n xs ys → ((k : ℕ) → MayBegin g s k → MayFollow g n k) → Picked g xs ys c → Sees c ts → Derives g (ys ++ s) ts ws → ⊥
 not_other a f (begins h) see d = forced a f h see d
 not_other a f (empties h never) at_token d = forced_empty a f h never d
@@ -61,7 +59,7 @@ reach_parts {g = g} {old = old} {s = s} {xs = xs} {n = n} {taken = taken} w e r 
   forward = λ ts ws d. subst (λ y. Derives g old ts y) (sym (append_assoc taken (noted n (at_parts xs) ∷ []) ws)) (r.forward ts (noted n (at_parts xs) ∷ ws) (parts e d));
   backward = λ ts ws see d. let b : (left : List Note) × (ws ≡ taken ++ left) × Derives g (n ∷ s) ts left = r.backward ts ws see d in on ts ws b.0 b.1 (of_parts e b.2);
   fits = fits_way [] xs (the_parts e) r.fits.0 r.fits.1;
-  below = below_way (length g) xs s (w.closed n xs r.below.0 (the_parts e)) r.below.1;
+  below = recursion_append (λ k. k < length g) xs s (w.closed n xs r.below.0 (the_parts e)) r.below.1;
 }
   where
     on : (ts : List ℕ) (ws left : List Note) → ws ≡ taken ++ left → OfParts g n xs s ts left → (left' : List Note) × (ws ≡ (taken ++ noted n (at_parts xs) ∷ []) ++ left') × Derives g (xs ++ s) ts left'
@@ -72,7 +70,7 @@ reach_first {g = g} {c = c} {old = old} {s = s} {xs = xs} {ys = ys} {n = n} {tak
   forward = λ ts ws d. subst (λ y. Derives g old ts y) (sym (append_assoc taken (noted n (at_first xs) ∷ []) ws)) (r.forward ts (noted n (at_first xs) ∷ ws) (first e d));
   backward = λ ts ws see d. let b : (left : List Note) × (ws ≡ taken ++ left) × Derives g (n ∷ s) ts left = r.backward ts ws see d in on ts ws b.0 see b.1 (of_choice e b.2);
   fits = fits_way [] xs (the_first e) r.fits.0 r.fits.1;
-  below = below_way (length g) xs s (w.closed n xs r.below.0 (the_first e)) r.below.1;
+  below = recursion_append (λ k. k < length g) xs s (w.closed n xs r.below.0 (the_first e)) r.below.1;
 }
   where
     on : (ts : List ℕ) (ws left : List Note) → Sees c ts → ws ≡ taken ++ left → OfChoice g n xs ys s ts left → (left' : List Note) × (ws ≡ (taken ++ noted n (at_first xs) ∷ []) ++ left') × Derives g (xs ++ s) ts left'
@@ -84,7 +82,7 @@ reach_second {g = g} {c = c} {old = old} {s = s} {xs = xs} {ys = ys} {n = n} {ta
   forward = λ ts ws d. subst (λ y. Derives g old ts y) (sym (append_assoc taken (noted n (at_second ys) ∷ []) ws)) (r.forward ts (noted n (at_second ys) ∷ ws) (second e d));
   backward = λ ts ws see d. let b : (left : List Note) × (ws ≡ taken ++ left) × Derives g (n ∷ s) ts left = r.backward ts ws see d in on ts ws b.0 see b.1 (of_choice e b.2);
   fits = fits_way [] ys (the_second e) r.fits.0 r.fits.1;
-  below = below_way (length g) ys s (w.closed n ys r.below.0 (the_second e)) r.below.1;
+  below = recursion_append (λ k. k < length g) ys s (w.closed n ys r.below.0 (the_second e)) r.below.1;
 }
   where
     on : (ts : List ℕ) (ws left : List Note) → Sees c ts → ws ≡ taken ++ left → OfChoice g n xs ys s ts left → (left' : List Note) × (ws ≡ (taken ++ noted n (at_second ys) ∷ []) ++ left') × Derives g (ys ++ s) ts left'

@@ -1,13 +1,14 @@
 -- Which symbols derive some list of tokens.
 use Rattle.std.proofs.Common.{◌≡◌, ℕ, zero, suc, ◌<◌, Bool, true, false, ◌⊎◌, inl, inr, List, [], ◌∷◌, ◌++◌, length, get_or, take, refl, ap, sym, ◌∙◌, subst, arith, replicate}
 use Rattle.std.proofs.lemmas.List.{take_all, append-nil, length-replicate}
+use Rattle.vkg_lists.proofs.Members.{recursion_append}
+use Rattle.vkg_lists.specs.Lists.{AllBelow}
 use Rattle.vkg_grammar.specs.declared.note.Note.{Note}
 use Rattle.vkg_grammar.specs.declared.note.Act.TheVariants.{Leaf}
 use Rattle.vkg_grammar.specs.declared.rule.Rule.{Rule}
-use Rattle.vkg_grammar.specs.Grammar.{noted, at_parts, at_first, at_second, Shape, One, Parts, Choice, shape_of, Derives, done, read, parts, first, second, IsGrammar, AllBelow, the_parts, the_first, the_second}
+use Rattle.vkg_grammar.specs.Grammar.{noted, at_parts, at_first, at_second, Shape, One, Parts, Choice, shape_of, Derives, done, read, parts, first, second, IsGrammar, the_parts, the_first, the_second}
 use Rattle.vkg_grammar.specs.Tables.{zeros, IsRound, AllFound, ShapeFound, TextReason, HasText}
 use Rattle.vkg_grammar.proofs.Core.{join, moved}
-use Rattle.vkg_grammar.proofs.Stepping.{below_way}
 use Rattle.vkg_grammar.proofs.Rounds.{cell_why, cell_done, zero_read}
 
 module _ (g : List Rule) (wf : IsGrammar g) where
@@ -31,9 +32,9 @@ module _ (g : List Rule) (wf : IsGrammar g) where
   found_all : {s ts : List ℕ} {ws : List Note} (t : List ℕ) → ((n : ℕ) → n < length g → TextReason g t n → 0 < get_or t n 0) → AllBelow (length g) s → Derives g s ts ws → AllFound t s
   found_all t closed b done = tt
   found_all t closed b (read {n = n} {k = k} q d) = (closed n b.0 (subst (ShapeFound t) (sym q) tt), found_all t closed b.1 d)
-  found_all t closed b (parts {n = n} {xs = xs} {s = s} q d) = let r : AllFound t xs × AllFound t s = found_split t xs s (found_all t closed (below_way (length g) xs s (wf.closed n xs b.0 (the_parts q)) b.1) d) in (closed n b.0 (subst (ShapeFound t) (sym q) r.0), r.1)
-  found_all t closed b (first {n = n} {xs = xs} {s = s} q d) = let r : AllFound t xs × AllFound t s = found_split t xs s (found_all t closed (below_way (length g) xs s (wf.closed n xs b.0 (the_first q)) b.1) d) in (closed n b.0 (subst (ShapeFound t) (sym q) (inl r.0)), r.1)
-  found_all t closed b (second {n = n} {ys = xs} {s = s} q d) = let r : AllFound t xs × AllFound t s = found_split t xs s (found_all t closed (below_way (length g) xs s (wf.closed n xs b.0 (the_second q)) b.1) d) in (closed n b.0 (subst (ShapeFound t) (sym q) (inr r.0)), r.1)
+  found_all t closed b (parts {n = n} {xs = xs} {s = s} q d) = let r : AllFound t xs × AllFound t s = found_split t xs s (found_all t closed (recursion_append (λ k. k < length g) xs s (wf.closed n xs b.0 (the_parts q)) b.1) d) in (closed n b.0 (subst (ShapeFound t) (sym q) r.0), r.1)
+  found_all t closed b (first {n = n} {xs = xs} {s = s} q d) = let r : AllFound t xs × AllFound t s = found_split t xs s (found_all t closed (recursion_append (λ k. k < length g) xs s (wf.closed n xs b.0 (the_first q)) b.1) d) in (closed n b.0 (subst (ShapeFound t) (sym q) (inl r.0)), r.1)
+  found_all t closed b (second {n = n} {ys = xs} {s = s} q d) = let r : AllFound t xs × AllFound t s = found_split t xs s (found_all t closed (recursion_append (λ k. k < length g) xs s (wf.closed n xs b.0 (the_second q)) b.1) d) in (closed n b.0 (subst (ShapeFound t) (sym q) (inr r.0)), r.1)
 
 -- What holds before each round.
 pub record AreTexts (g : List Rule) (t : List ℕ) : Type 0 where

@@ -1,5 +1,6 @@
 -- Grammars, what they derive, and when they are LL(1).
 use Rattle.std.specs.Prelude.{◌≡◌, ℕ, ◌<◌, ◌⊎◌, List, [], ◌∷◌, ◌++◌, length, get_or}
+use Rattle.vkg_lists.specs.Lists.{AllBelow}
 use Rattle.vkg_grammar.specs.declared.note.Act.{Act}
 use Rattle.vkg_grammar.specs.declared.note.Note.{Note}
 use Rattle.vkg_grammar.specs.declared.note.Act.TheVariants.{Leaf, Nothing, Pair, First, Second}
@@ -87,11 +88,6 @@ pub record IsLL1 (g : List Rule) : Type 0 where
 -- Some text of the symbol 0 begins with these tokens.
 abbrev pub IsAlive : List Rule → List ℕ → Type 0
 IsAlive g ts = (more : List ℕ) × (ws : List Note) × Derives g (0 ∷ []) (ts ++ more) ws
-
--- Each of these symbols has a rule.
-abbrev pub AllBelow : ℕ → List ℕ → Type 0
-AllBelow m [] = Unit {0}
-AllBelow m (n ∷ s) = (n < m) × AllBelow m s
 
 -- Each symbol that a rule names has a rule, and so has the symbol 0.
 pub record IsGrammar (g : List Rule) : Type 0 where

@@ -1,11 +1,12 @@
 -- What the parser keeps from step to step: what its private functions promise each other.
 use Rattle.std.specs.Prelude.{◌≡◌, ℕ, ◌<◌, Bool, true, false, List, [], ◌∷◌, ◌++◌, length, Option, Some, None}
+use Rattle.vkg_lists.specs.Lists.{AllBelow}
 use Rattle.vkg_grammar.specs.declared.note.Note.{Note}
 use Rattle.vkg_grammar.specs.declared.rule.Rule.{Rule}
 use Rattle.vkg_grammar.specs.declared.machine.Step.{Step}
 use Rattle.vkg_grammar.specs.declared.machine.Step.TheVariants.{Taken, Stuck, More}
 use Rattle.vkg_grammar.specs.declared.note.Act.TheVariants.{Leaf}
-use Rattle.vkg_grammar.specs.Grammar.{noted, at_parts, at_first, at_second, One, Parts, Choice, shape_of, Derives, MayBeEmpty, MayBegin, MayFollow, AllBelow}
+use Rattle.vkg_grammar.specs.Grammar.{noted, at_parts, at_first, at_second, One, Parts, Choice, shape_of, Derives, MayBeEmpty, MayBegin, MayFollow}
 use Rattle.vkg_grammar.specs.Rank.{height}
 
 -- ts begins as the next token says: with a token of that kind, or with none at the end.

@@ -1,6 +1,7 @@
 ghost use Rattle.std.specs.Prelude.{◌≡◌, ◌*◌, ◌<◌, ◌⊎◌, ◌++◌, ◌∷◌, [], length, reverse, IsTrue, IfOk, None, false};
+ghost use Rattle.vkg_lists.specs.Lists.{AllBelow};
 ghost use Rattle.vkg_grammar.specs.declared.machine.Step.TheVariants.{More};
-ghost use Rattle.vkg_grammar.specs.Grammar.{noted as noted_lem, IsGrammar, IsLL1, AllBelow};
+ghost use Rattle.vkg_grammar.specs.Grammar.{noted as noted_lem, IsGrammar, IsLL1};
 ghost use Rattle.vkg_grammar.specs.Rank.{column, rank_in, Begins, IsTable, HasRows, AllHaveRows};
 ghost use Rattle.vkg_grammar.specs.Machine.{Fits, HasStepped, Advances};
 

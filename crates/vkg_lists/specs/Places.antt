@@ -1,5 +1,5 @@
 -- Places, and the least of them.
-use Rattle.std.specs.Prelude.{◌≡◌, ℕ, ◌≤◌, Bool, true, false, List, fold, Option, Some, None, if◌then◌else◌, min}
+use Rattle.std.specs.Prelude.{◌≡◌, ℕ, ◌≤◌, Bool, List, fold, Option, Some, None, if◌then◌else◌, min}
 use Rattle.std.specs.List.{Contains}
 
 -- the lesser of two places, where there are any
@@ -20,11 +20,6 @@ least_of place xs = fold (λ best x. lesser best (place x)) None xs
 -- the place, if the test fails there
 abbrev pub place_if : Bool → ℕ → Option ℕ
 place_if fails at = if fails then Some at else None
-
--- there is no place
-abbrev pub is_nowhere : Option ℕ → Bool
-is_nowhere None = true
-is_nowhere (Some at) = false
 
 -- some item has this place, and none a lesser one
 pub record IsLeastPlace {A : Type 0} (place : A → Option ℕ) (xs : List A) (at : ℕ) : Type 0 where

@@ -2,6 +2,7 @@
 use Rattle.std.proofs.Common.{◌≡◌, refl, sym, ◌∙◌, ap, subst, ℕ, ◌+◌, ◌<◌, ◌≤◌, ◌⊎◌, inl, inr, List, [], ◌∷◌, ◌++◌, map, flat_map, Option, Some, None, Ok, Err, true, false, nat_lt, arith}
 use Rattle.std.specs.Prelude.{Contains}
 use Rattle.std.specs.List.{enumerate_from}
+use Rattle.vkg_lists.proofs.Results.{err_same}
 use Rattle.vkg_lists.specs.Firsts.{first_of}
 use Rattle.vkg_lists.proofs.Members.{Contains-none, Contains-here, Contains-there, Contains-cons_cases, Contains-flat_map}
 use Rattle.vkg_schema.specs.Rows.{Row, Database, rows_of}
@@ -78,9 +79,6 @@ no_earlier F n xs a f p b c d = elim (nat_lt p.0 f.place) as (λ t. nat_lt p.0 f
 
 some_same : {A : Type 0} (a b : A) → ◌≡◌ {A = Option A} (Some a) (Some b) → a ≡ b
 some_same a b e = ap (λ o. elim o [ Some x ↦ x | None ↦ a ]) e
-
-err_same : (a b : TermFault) → ◌≡◌ {A = Made} (Err a) (Err b) → a ≡ b
-err_same a b e = cc
 
 -- ---- the places of a data error
 

@@ -1,5 +1,6 @@
 -- The term that a term map makes of a row (R2RML, 11.2, generated RDF term).
 use Rattle.std.specs.Prelude.{ℕ, List, [], ◌∷◌, ◌++◌, Option, Some, None, Result, Ok, Err, option_map, if◌then◌else◌}
+use Rattle.vkg_lists.specs.Options.{joined}
 use Rattle.vkg_terms.specs.declared.term.Term.{Term}
 use Rattle.vkg_terms.specs.declared.term.Term.TheVariants.{Iri, Blank, Lit}
 use Rattle.vkg_terms.specs.declared.term.Annotation.{Annotation}
@@ -7,7 +8,7 @@ use Rattle.vkg_terms.specs.declared.term.Annotation.TheVariants.{Typed}
 use Rattle.vkg_terms.specs.Safe.{safe}
 use Rattle.vkg_terms.specs.Iri.{is_absolute}
 use Rattle.vkg_terms.specs.Label.{blank_label}
-use Rattle.vkg_cells.specs.Form.{lexical_form, joined}
+use Rattle.vkg_cells.specs.Form.{lexical_form}
 use Rattle.vkg_cells.specs.WellTyped.{is_well_typed, is_too_wide}
 use Rattle.vkg_schema.specs.Rows.{Row, cell_at}
 use Rattle.vkg_maps.specs.declared.term_map.TermMap.{TermMap}

@@ -1,11 +1,11 @@
 -- A mapping whose tables, columns and parents are those of a schema.
 use Rattle.std.specs.Prelude.{◌≡◌, ℕ, ◌<◌, Bool, false, IsFalse, List, [], ◌∷◌, flat_map, map, length, IfSome, option_map, slice_get, unwrap_or}
 use Rattle.std.specs.List.{AllByRecursion}
+use Rattle.vkg_lists.specs.Lists.{AllBelow}
 use Rattle.vkg_cells.specs.declared.cell.SqlType.{SqlType}
 use Rattle.vkg_cells.specs.Order.{family}
 use Rattle.vkg_cells.specs.WellTyped.{is_wide_number}
 use Rattle.vkg_schema.specs.declared.table.Table.{Table}
-use Rattle.vkg_schema.specs.Meets.{Below}
 use Rattle.vkg_maps.specs.declared.term_map.TermMap.{TermMap}
 use Rattle.vkg_maps.specs.declared.term_map.TermMap.TheVariants as from
 use Rattle.vkg_maps.specs.declared.term_map.Piece.{Piece}
@@ -39,7 +39,7 @@ is_wide_constant t = false
 
 -- a term map over rows of these kinds: its columns are there, and its constant is no such number
 pub record IsOver (ks : List SqlType) (t : TermMap) : Type 0 where
-  pub columns : Below (length ks) (term_columns t)
+  pub columns : AllBelow (length ks) (term_columns t)
   pub narrow : IsFalse (is_wide_constant t)
 
 -- R2RML, 8, join condition: a column of the child and one of the parent, which are comparable

@@ -4,7 +4,8 @@ use Rattle.std.specs.Prelude.{Some, fold, chars}
 use Rattle.std.specs.List.{AllByRecursion}
 use Rattle.std.specs.Str.{NoCharPasses}
 use Rattle.std.proofs.lemmas.Str.{encodes-chars, NoCharPasses-append, NoCharPasses-nil}
-use Rattle.vkg_lists.proofs.Members.{recursion_push}
+use Rattle.vkg_lists.specs.Options.{joined}
+use Rattle.vkg_lists.proofs.Members.{recursion_push, recursion_append}
 use lib.Utf8.{encode, encodes}
 use Rattle.vkg_cells.specs.declared.cell.SqlType.{SqlType}
 use Rattle.vkg_schema.specs.Rows.{Row}
@@ -17,7 +18,6 @@ use Rattle.vkg_match.specs.Cut.{Cut, cut_at, cut_character, cut_piece, cut_piece
 use Rattle.vkg_match.specs.Laws.{IsTextPiece}
 use Rattle.vkg_match.proofs.Splits.{Clear, clear_joined, whole}
 use Rattle.vkg_match.proofs.Values.{Text, joined_assoc, joined_nil, nil_joined, piece_text, pieces_text}
-use Rattle.vkg_cells.specs.Form.{joined}
 
 whole-append : (xs : List (Text × ℕ)) (o : Text) (c : ℕ) (l : Text) → whole (xs ++ (o, c) ∷ []) l ≡ joined (whole xs o) (joined (Some (encode c)) l)
 whole-append [] o c l = refl
@@ -130,10 +130,6 @@ module _ (sort : Sort) (row : Row) where
       pub pieces : AllByRecursion Fine cut.pieces
       pub text : NoCharPasses (is_break sort) cut.text
 
-    all-append : (xs ys : List Piece) → AllByRecursion Fine xs → AllByRecursion Fine ys → AllByRecursion Fine (xs ++ ys)
-    all-append [] ys h k = k
-    all-append (x ∷ xs) ys h k = (h.0, all-append xs ys h.1 k)
-
     text_fine : (s : List ℕ) → AllByRecursion Fine (text_pieces s)
     text_fine [] = tt
     text_fine (b ∷ bs) = (constants (b ∷ bs), tt)
@@ -142,7 +138,7 @@ module _ (sort : Sort) (row : Row) where
     last_clear cut h = subst (Clear (is_break sort)) (sym (last_text cut)) (clear_joined (is_break sort) (pieces_text sort row cut.pieces) (Some cut.text) h.unbroken h.text)
 
     pub last_fine : (cut : Cut) → IsFine cut → AllByRecursion Fine (last_pieces cut)
-    last_fine cut h = all-append cut.pieces (text_pieces cut.text) h.pieces (text_fine cut.text)
+    last_fine cut h = recursion_append Fine cut.pieces (text_pieces cut.text) h.pieces (text_fine cut.text)
 
     empty_clear : NoCharPasses (is_break sort) []
     empty_clear = NoCharPasses-nil (is_break sort)
@@ -178,7 +174,7 @@ module _ (sort : Sort) (row : Row) where
     hole_fine cut at k h f = record {
       done = h.done;
       unbroken = subst (Clear (is_break sort)) (sym (pieces_text-append (last_pieces cut) (Hole at k ∷ []) ∙ ap (joined (last cut)) (one_piece (Hole at k)))) (clear_joined (is_break sort) (last cut) (piece_text sort row (Hole at k)) (last_clear cut h) (clear at k f));
-      pieces = all-append (last_pieces cut) (Hole at k ∷ []) (last_fine cut h) (f, tt);
+      pieces = recursion_append Fine (last_pieces cut) (Hole at k ∷ []) (last_fine cut h) (f, tt);
       text = empty_clear;
     }
 

@@ -8,6 +8,7 @@ use Rattle.std.proofs.lemmas.Slice.Eq.{bytes_eq-Decides}
 use Rattle.std.proofs.lemmas.List.Folds.{list_all-append}
 use Rattle.std.proofs.lemmas.Option.{none-some, same_Some}
 use Rattle.std.proofs.Math.Bool.{and-false, and-true}
+use Rattle.vkg_lists.specs.Options.{joined}
 use Rattle.hex.specs.Hex.{decode_of, encode_lower, IsBytes}
 use Rattle.hex.specs.declared.error.FromHexError.{FromHexError}
 use Rattle.hex.proofs.HexLemmas.{decode_of-encode_lower}
@@ -24,7 +25,7 @@ use Rattle.vkg_terms.proofs.LabelLemmas.{label_same, label_kit}
 use Rattle.vkg_terms.proofs.SameLemmas.{term_itself, terms_apart}
 use Rattle.vkg_terms.proofs.SafeLemmas.{octets}
 use Rattle.vkg_cells.specs.declared.cell.SqlType.{SqlType}
-use Rattle.vkg_cells.specs.Form.{lexical_form, joined}
+use Rattle.vkg_cells.specs.Form.{lexical_form}
 use Rattle.vkg_cells.specs.Order.{same_form}
 use Rattle.vkg_schema.specs.Rows.{Row, cell_at}
 use Rattle.vkg_expr.specs.declared.term_expr.Sort.{Sort}

@@ -1,11 +1,12 @@
 -- A cell that a field is read as: its form is a text, is read as that cell again, and the cell is of the kind's family.
-use Rattle.std.proofs.Common.{◌≡◌, ℕ, suc, ◌+◌, refl, sym, ◌∙◌, ap, subst, List, [], ◌∷◌, ◌++◌, codes, Bool, true, false, cond, not, ◌||◌, ◌==◌, arith, nat_lt, take, drop, Option, Some, None, Result, Ok, Err, IsUtf8}
+use Rattle.std.proofs.Common.{◌≡◌, ℕ, suc, ◌+◌, refl, sym, ◌∙◌, ap, subst, List, [], ◌∷◌, ◌++◌, codes, Bool, true, false, cond, not, ◌||◌, ◌==◌, arith, nat_lt, take, drop, Some, Result, Ok, Err, IsUtf8}
 use Rattle.std.specs.List.{list_all, before_first, after_first, position_or_len}
 use Rattle.std.specs.Char.{is_ascii_digit}
 use Rattle.std.specs.Str.{IsAscii}
 use Rattle.std.proofs.lemmas.Str.{IsUtf8-from_ascii}
 use Rattle.std.proofs.lemmas.Str.Ascii.{IsAscii-nil, IsAscii-cons}
 use Rattle.std.proofs.lemmas.List.Folds.{list_all-append}
+use Rattle.vkg_lists.proofs.Results.{ok_same}
 use Rattle.hex.specs.Hex.{decode_of, encode_upper, upper_digits}
 use Rattle.hex.specs.declared.error.FromHexError.{FromHexError}
 use Rattle.hex.proofs.HexLemmas.{IsAscii-encode_with}
@@ -14,16 +15,15 @@ use Rattle.vkg_cells.specs.declared.cell.SqlType.{SqlType}
 use Rattle.vkg_cells.specs.declared.cell.SqlType.TheVariants as kind
 use Rattle.vkg_cells.specs.declared.cell.Cell.{Cell}
 use Rattle.vkg_cells.specs.declared.cell.Cell.TheVariants as cell
-use Rattle.vkg_cells.specs.declared.cell.FieldFault.{FieldFault}
 use Rattle.vkg_cells.specs.declared.cell.FieldFault.TheVariants as field
-use Rattle.vkg_cells.specs.Field.{cell_of_field, where_field, where_number, where_stamp, where_octets, is_true_word, is_false_word}
+use Rattle.vkg_cells.specs.Field.{cell_of_field, where_octets, is_true_word, is_false_word}
 use Rattle.vkg_cells.specs.Form.{lexical_form, bool_form}
 use Rattle.vkg_cells.specs.Moment.{is_date, stamp_form}
-use Rattle.vkg_cells.specs.Number.{is_integer, is_decimal, is_digits, unsigned, whole, fraction, width, canonical}
+use Rattle.vkg_cells.specs.Number.{is_integer, is_decimal, is_digits, unsigned, whole, fraction, canonical}
 use Rattle.vkg_cells.specs.Order.{family, family_of}
 use Rattle.vkg_cells.proofs.CanonicalLemmas.{is-read, integer-decimal}
 use Rattle.vkg_cells.proofs.LawLemmas.{read-back}
-use Rattle.vkg_cells.proofs.FieldLemmas.{field_ok, number_ok, ok_is, stamp_ok}
+use Rattle.vkg_cells.proofs.FieldLemmas.{field_ok, number_ok, stamp_ok}
 use Rattle.vkg_cells.proofs.MomentText.{stamp_ascii}
 
 -- what is known of a cell that is read as a field of a kind
@@ -141,7 +141,7 @@ proper_bin octets from e = record {
 }
 
 octets_ok : (r : Result (List ℕ) FromHexError) (c : Cell) → where_octets r ≡ Ok c → (octets : List ℕ) × (cell.Bin (encode_upper octets) ≡ c)
-octets_ok (Ok octets) c e = (octets, ok_is (cell.Bin (encode_upper octets)) c e)
+octets_ok (Ok octets) c e = (octets, ok_same (cell.Bin (encode_upper octets)) c e)
 octets_ok (Err f) c e = cc
 
 -- a law of one cell, used at an equal one
@@ -149,7 +149,7 @@ along : (k : SqlType) (d c : Cell) (text : List ℕ) → FromRead k d → d ≡ 
 along k d c text h e r = subst (FromRead k) e h text r
 
 pub proper : (k : SqlType) (c : Cell) (text : List ℕ) → IsUtf8 text → cell_of_field k text ≡ Ok c → Proper k c
-proper kind.Text c text u e = along kind.Text (cell.Text text) c text (λ from f. record { form = text; is = refl; spelled = u; read = refl; of_family = refl }) (ok_is (cell.Text text) c e) e
+proper kind.Text c text u e = along kind.Text (cell.Text text) c text (λ from f. record { form = text; is = refl; spelled = u; read = refl; of_family = refl }) (ok_same (cell.Text text) c e) e
 proper kind.Int c text u e = let h = number_ok (is_integer text) text (cell.Int (canonical text)) c e in along kind.Int (cell.Int (canonical text)) c text (proper_int text (integer-decimal text h.0)) h.2 e
 proper kind.Dec c text u e = let h = number_ok (is_decimal text) text (cell.Dec (canonical text)) c e in along kind.Dec (cell.Dec (canonical text)) c text (proper_dec text h.0) h.2 e
 proper kind.Bool c text u e = let h = field_ok (is_true_word text || is_false_word text) (cell.Bool (is_true_word text)) c e in along kind.Bool (cell.Bool (is_true_word text)) c text (proper_bool (is_true_word text)) h.1 e
@@ -162,7 +162,7 @@ proper kind.Term c text u e = cc
 
 -- a cell that is read as a field of a kind is of its family
 pub family_is : (k : SqlType) (c : Cell) (text : List ℕ) → cell_of_field k text ≡ Ok c → family_of c ≡ family k
-family_is kind.Text c text e = ap family_of (sym (ok_is (cell.Text text) c e))
+family_is kind.Text c text e = ap family_of (sym (ok_same (cell.Text text) c e))
 family_is kind.Int c text e = ap family_of (sym (number_ok (is_integer text) text (cell.Int (canonical text)) c e).2)
 family_is kind.Dec c text e = ap family_of (sym (number_ok (is_decimal text) text (cell.Dec (canonical text)) c e).2)
 family_is kind.Bool c text e = ap family_of (sym (field_ok (is_true_word text || is_false_word text) (cell.Bool (is_true_word text)) c e).1)

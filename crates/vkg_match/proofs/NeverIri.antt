@@ -5,6 +5,7 @@ use Rattle.std.specs.List.{AllByRecursion}
 use Rattle.std.proofs.lemmas.Option.{same_Some}
 use Rattle.std.proofs.lemmas.Str.{IsUtf8-from_ascii}
 use Rattle.std.proofs.lemmas.List.Folds.{list_all-append}
+use Rattle.vkg_lists.specs.Options.{joined}
 use Rattle.vkg_lists.proofs.Bools.{and_parts}
 use Rattle.vkg_terms.specs.declared.term.Term.TheVariants.{Iri}
 use Rattle.vkg_terms.specs.Same.{term_name}
@@ -22,7 +23,6 @@ use Rattle.vkg_match.specs.Verdict.{Never, verdict_of}
 use Rattle.vkg_match.proofs.Exact.{never, there_at}
 use Rattle.vkg_match.proofs.Forms.{ascii_small, small}
 use Rattle.vkg_match.proofs.Values.{Text, piece_text, pieces_text, term_at, term_made}
-use Rattle.vkg_cells.specs.Form.{joined}
 
 -- two texts that are joined are there
 record Joined (a b : Text) (w : List ℕ) : Type 0 where

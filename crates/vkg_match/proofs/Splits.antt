@@ -7,10 +7,10 @@ use Rattle.std.proofs.lemmas.Slice.Eq.{bytes_eq-Decides}
 use Rattle.std.proofs.lemmas.Str.{encode_same, NoCharPasses-append, length-encode, len_utf8_bounds}
 use Rattle.std.proofs.Math.Bool.{and-false, and_assoc}
 use lib.Utf8.{encode, encodes}
+use Rattle.vkg_lists.specs.Options.{joined}
 use Rattle.vkg_lists.proofs.Bools.{and_parts, is_false, same_truth}
 use Rattle.vkg_cells.specs.Order.{same_form}
 use Rattle.vkg_match.proofs.Values.{Text}
-use Rattle.vkg_cells.specs.Form.{joined}
 
 not_nothing : (c : ℕ) (u : List ℕ) → [] ≡ encode c ++ u → ⊥
 not_nothing c u e =

@@ -1,12 +1,13 @@
 -- What term expressions make on a row.
 use Rattle.std.proofs.Common.{◌≡◌, ℕ, refl, sym, ap, ◌∙◌, List, [], ◌∷◌, Bool, false, map, append_assoc, append-nil}
 use Rattle.std.specs.Prelude.{Option, Some, None, option_map, unwrap_or}
+use Rattle.vkg_lists.specs.Options.{joined}
 use Rattle.vkg_terms.specs.declared.term.Term.{Term}
 use Rattle.vkg_terms.specs.declared.term.Term.TheVariants.{Iri, Blank, Lit}
 use Rattle.vkg_terms.specs.Label.{blank_label}
 use Rattle.vkg_terms.specs.Safe.{safe}
 use Rattle.vkg_terms.specs.Same.{term_eq, term_name}
-use Rattle.vkg_cells.specs.Form.{lexical_form, joined}
+use Rattle.vkg_cells.specs.Form.{lexical_form}
 use Rattle.vkg_cells.specs.Order.{same, same_form}
 use Rattle.vkg_schema.specs.Rows.{Row, cell_at}
 use Rattle.vkg_expr.specs.declared.term_expr.Sort.{Sort}

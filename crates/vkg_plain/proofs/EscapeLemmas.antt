@@ -1,35 +1,13 @@
 -- How the characters of a literal are written, and what a reader makes of them.
-use Rattle.std.proofs.Common.{◌≡◌, ◌≢◌, ◌<◌, ◌++◌, ◌==◌, ℕ, List, [], ◌∷◌, Bool, true, false, if◌then◌else◌, length, length-append, sym, ap, ◌∙◌, refl, arith, append_assoc, eqb-true, subst, ◌⊎◌, inl, inr}
-use Rattle.std.specs.Prelude.{flat_map, chars, IsUtf8, codes, encode_utf8}
+use Rattle.std.proofs.Common.{◌≡◌, ◌≢◌, ◌<◌, ◌++◌, ℕ, List, [], ◌∷◌, length, length-append, sym, ap, ◌∙◌, arith, append_assoc, subst, inl, inr}
+use Rattle.std.specs.Prelude.{flat_map, chars, IsUtf8}
 use Rattle.std.proofs.lemmas.Bool.Decides.{nat_tests}
 use Rattle.std.proofs.lemmas.List.{append-nil}
 use Rattle.std.proofs.lemmas.Str.{encode_same, encode_ascii, length-encode, len_utf8_bounds, encodes-chars}
 use Rattle.std.proofs.Math.Utf8.{encode, encodes}
 use Rattle.vkg_terms.specs.NQuads.{escaped}
+use Rattle.vkg_terms.proofs.TextLemmas.{Written, unescaped, written}
 use Rattle.vkg_lists.proofs.Heads.{head_same, tail_same}
-
--- behind a backslash this letter stands for this character
-abbrev pub Means : ℕ → ℕ → Type 0
-Means e c = ((e ≡ 110) × (c ≡ 10)) ⊎ (((e ≡ 114) × (c ≡ 13)) ⊎ (((e ≡ 116) × (c ≡ 9)) ⊎ ((e ≢ 110) × (e ≢ 114) × (e ≢ 116) × (c ≡ e))))
-
--- by a backslash (92) and a letter, or as it is
-abbrev pub IsWritten : ℕ → List ℕ → Type 0
-IsWritten c text = ((e : ℕ) × (text ≡ 92 ∷ e ∷ []) × Means e c × (e < 128)) ⊎ ((c ≢ 34) × (c ≢ 92) × (text ≡ encode c))
-
-itself : (c e : ℕ) → (c == e) ≡ true → e < 110 → Means e c
-itself c e h low = inr (inr (inr ((λ p. absurd (omega (arith, p))), (λ p. absurd (omega (arith, p))), (λ p. absurd (omega (arith, p))), eqb-true c e h)))
-
-written_by : (c : ℕ) (quote back feed return tab : Bool) → (c == 34) ≡ quote → (c == 92) ≡ back → (c == 10) ≡ feed → (c == 13) ≡ return → (c == 9) ≡ tab
-    → IsWritten c (if quote then codes "\\\"" else if back then codes "\\\\" else if feed then codes "\\n" else if return then codes "\\r" else if tab then codes "\\t" else encode_utf8 c)
-written_by c true back feed return tab q b f r t = inl (34, refl, itself c 34 q (omega arith), omega arith)
-written_by c false true feed return tab q b f r t = inl (92, refl, itself c 92 b (omega arith), omega arith)
-written_by c false false true return tab q b f r t = inl (110, refl, inl (refl, eqb-true c 10 f), omega arith)
-written_by c false false false true tab q b f r t = inl (114, refl, inr (inl (refl, eqb-true c 13 r)), omega arith)
-written_by c false false false false true q b f r t = inl (116, refl, inr (inr (inl (refl, eqb-true c 9 t))), omega arith)
-written_by c false false false false false q b f r t = inr (grind (arith, nat_tests), grind (arith, nat_tests), refl)
-
-written : (c : ℕ) → IsWritten c (escaped c)
-written c = written_by c _ _ _ _ _ refl refl refl refl refl
 
 -- an ASCII octet is the character that it writes
 octet : (c b : ℕ) (rest more : List ℕ) → b < 128 → encode c ++ rest ≡ b ∷ more → (c ≡ b) × (rest ≡ more)
@@ -39,78 +17,66 @@ joined : (v w x y : List ℕ) → v ≡ w → x ≡ v ++ y → x ≡ w ++ y
 joined v w x y p e = e ∙ ap (λ (l : List ℕ). l ++ y) p
 
 -- a character that is no backslash stands for itself
-by_itself : (c d : ℕ) (v rest more : List ℕ) → IsWritten c v → d ≢ 92 → encode d ++ more ≡ v ++ rest → (d ≡ c) × (more ≡ rest)
-by_itself c d v rest more (inl (e, p, m, low)) back same = absurd (back (octet d 92 more (e ∷ rest) (omega arith) (joined v (92 ∷ e ∷ []) _ rest p same)).0)
-by_itself c d v rest more (inr (quote, back, p)) _ same = encode_same d c more rest (joined v (encode c) _ rest p same)
+by_itself : (c d : ℕ) (v rest more : List ℕ) → Written c v → d ≢ 92 → encode d ++ more ≡ v ++ rest → (d ≡ c) × (more ≡ rest)
+by_itself c d v rest more (inl (e, p, m, inline, low)) back same = absurd (back (octet d 92 more (e ∷ rest) (omega arith) (joined v (92 ∷ e ∷ []) _ rest p same)).0)
+by_itself c d v rest more (inr (quote, back, inline, p)) _ same = encode_same d c more rest (joined v (encode c) _ rest p same)
 
 pub character_as_is : (c d : ℕ) (text rest more : List ℕ) → text ≡ encode d ++ more → d ≢ 92 → text ≡ escaped c ++ rest → (d ≡ c) × (more ≡ rest)
 character_as_is c d text rest more is back e = by_itself c d (escaped c) rest more (written c) back (sym is ∙ e)
 
-by_escape : (c letter : ℕ) (v : List ℕ) → IsWritten c v → v ≡ 92 ∷ letter ∷ [] → Means letter c
-by_escape c letter v (inl (e, p, m, low)) is = subst (λ d. Means d c) (head_same _ _ _ _ (tail_same _ _ _ _ (sym p ∙ is))) m
-by_escape c letter v (inr (quote, back, p)) is = absurd (back (octet c 92 [] (letter ∷ []) (omega arith) (append-nil (encode c) ∙ sym p ∙ is)).0)
+by_escape : (c letter : ℕ) (v : List ℕ) → Written c v → v ≡ 92 ∷ letter ∷ [] → unescaped letter ≡ c
+by_escape c letter v (inl (e, p, m, inline, low)) is = subst (λ d. unescaped d ≡ c) (head_same _ _ _ _ (tail_same _ _ _ _ (sym p ∙ is))) m
+by_escape c letter v (inr (quote, back, inline, p)) is = absurd (back (octet c 92 [] (letter ∷ []) (omega arith) (append-nil (encode c) ∙ sym p ∙ is)).0)
 
-pub meant_is : (c letter : ℕ) → escaped c ≡ 92 ∷ letter ∷ [] → Means letter c
+pub meant_is : (c letter : ℕ) → escaped c ≡ 92 ∷ letter ∷ [] → unescaped letter ≡ c
 meant_is c letter is = by_escape c letter (escaped c) (written c) is
 
-pub means_feed : (e c : ℕ) → e ≡ 110 → Means e c → 10 ≡ c
-means_feed e c h (inl (p, q)) = sym q
-means_feed e c h (inr (inl (p, q))) = absurd (omega (arith, p, h))
-means_feed e c h (inr (inr (inl (p, q)))) = absurd (omega (arith, p, h))
-means_feed e c h (inr (inr (inr (feed, return, tab, q)))) = absurd (feed h)
+pub means_feed : (e c : ℕ) → e ≡ 110 → unescaped e ≡ c → 10 ≡ c
+means_feed e c h m = ap unescaped (sym h) ∙ m
 
-pub means_return : (e c : ℕ) → e ≡ 114 → Means e c → 13 ≡ c
-means_return e c h (inl (p, q)) = absurd (omega (arith, p, h))
-means_return e c h (inr (inl (p, q))) = sym q
-means_return e c h (inr (inr (inl (p, q)))) = absurd (omega (arith, p, h))
-means_return e c h (inr (inr (inr (feed, return, tab, q)))) = absurd (return h)
+pub means_return : (e c : ℕ) → e ≡ 114 → unescaped e ≡ c → 13 ≡ c
+means_return e c h m = ap unescaped (sym h) ∙ m
 
-pub means_tab : (e c : ℕ) → e ≡ 116 → Means e c → 9 ≡ c
-means_tab e c h (inl (p, q)) = absurd (omega (arith, p, h))
-means_tab e c h (inr (inl (p, q))) = absurd (omega (arith, p, h))
-means_tab e c h (inr (inr (inl (p, q)))) = sym q
-means_tab e c h (inr (inr (inr (feed, return, tab, q)))) = absurd (tab h)
+pub means_tab : (e c : ℕ) → e ≡ 116 → unescaped e ≡ c → 9 ≡ c
+means_tab e c h m = ap unescaped (sym h) ∙ m
 
-pub means_itself : (e c : ℕ) → e ≢ 110 → e ≢ 114 → e ≢ 116 → Means e c → e ≡ c
-means_itself e c feed return tab (inl (p, q)) = absurd (feed p)
-means_itself e c feed return tab (inr (inl (p, q))) = absurd (return p)
-means_itself e c feed return tab (inr (inr (inl (p, q)))) = absurd (tab p)
-means_itself e c feed return tab (inr (inr (inr (f, r, t, q)))) = sym q
+pub means_itself : (e c : ℕ) → e ≢ 110 → e ≢ 114 → e ≢ 116 → unescaped e ≡ c → e ≡ c
+means_itself e c feed return tab m = grind (arith, nat_tests)
 
 -- behind a backslash stands the letter of an escape
-by_letter : (c d : ℕ) (v rest more after : List ℕ) → IsWritten c v → encode 92 ++ more ≡ v ++ rest → more ≡ encode d ++ after → (v ≡ 92 ∷ d ∷ []) × (after ≡ rest)
-by_letter c d v rest more after (inl (e, p, m, low)) same next =
+by_letter : (c d : ℕ) (v rest more after : List ℕ) → Written c v → encode 92 ++ more ≡ v ++ rest → more ≡ encode d ++ after → (v ≡ 92 ∷ d ∷ []) × (after ≡ rest)
+by_letter c d v rest more after (inl (e, p, m, inline, low)) same next =
     let letter = octet 92 92 more (e ∷ rest) (omega arith) (joined v (92 ∷ e ∷ []) _ rest p same) in
     let parts = octet d e after rest low (sym next ∙ letter.1) in
     (p ∙ ap (λ n. 92 ∷ n ∷ []) (sym parts.0), parts.1)
-by_letter c d v rest more after (inr (quote, back, p)) same next = absurd (back (sym (encode_same 92 c more rest (joined v (encode c) _ rest p same)).0))
+by_letter c d v rest more after (inr (quote, back, inline, p)) same next = absurd (back (sym (encode_same 92 c more rest (joined v (encode c) _ rest p same)).0))
 
 pub character_escaped : (c d : ℕ) (text rest more after : List ℕ) → text ≡ encode 92 ++ more → more ≡ encode d ++ after → text ≡ escaped c ++ rest → (escaped c ≡ 92 ∷ d ∷ []) × (after ≡ rest)
 character_escaped c d text rest more after is next e = by_letter c d (escaped c) rest more after (written c) (sym is ∙ e) next
 
-by_no_letter : (c : ℕ) (v rest more : List ℕ) → IsWritten c v → encode 92 ++ more ≡ v ++ rest → length more ≡ 0 → ⊥
-by_no_letter c v rest more (inl (e, p, m, low)) same none =
+by_no_letter : (c : ℕ) (v rest more : List ℕ) → Written c v → encode 92 ++ more ≡ v ++ rest → length more ≡ 0 → ⊥
+by_no_letter c v rest more (inl (e, p, m, inline, low)) same none =
     let letter = ap length (octet 92 92 more (e ∷ rest) (omega arith) (joined v (92 ∷ e ∷ []) _ rest p same)).1 in
     omega arith
-by_no_letter c v rest more (inr (quote, back, p)) same none = back (sym (encode_same 92 c more rest (joined v (encode c) _ rest p same)).0)
+by_no_letter c v rest more (inr (quote, back, inline, p)) same none = back (sym (encode_same 92 c more rest (joined v (encode c) _ rest p same)).0)
 
 -- a backslash is not the last character of a text that goes on with a character
 pub letter_lacks : (c : ℕ) (text rest more : List ℕ) → text ≡ encode 92 ++ more → length more ≡ 0 → text ≡ escaped c ++ rest → ⊥
 letter_lacks c text rest more is none e = by_no_letter c (escaped c) rest more (written c) (sym is ∙ e) none
 
-by_no_quote : (c : ℕ) (v rest more : List ℕ) → IsWritten c v → encode 34 ++ more ≡ v ++ rest → ⊥
-by_no_quote c v rest more (inl (e, p, m, low)) same =
+by_no_quote : (c : ℕ) (v rest more : List ℕ) → Written c v → encode 34 ++ more ≡ v ++ rest → ⊥
+by_no_quote c v rest more (inl (e, p, m, inline, low)) same =
     let bad = (octet 34 92 more (e ∷ rest) (omega arith) (joined v (92 ∷ e ∷ []) _ rest p same)).0 in
     omega (arith, bad)
-by_no_quote c v rest more (inr (quote, back, p)) same = quote (sym (encode_same 34 c more rest (joined v (encode c) _ rest p same)).0)
+by_no_quote c v rest more (inr (quote, back, inline, p)) same = quote (sym (encode_same 34 c more rest (joined v (encode c) _ rest p same)).0)
 
 -- a text that goes on with a character begins with no quote
 pub no_character : (c : ℕ) (text rest more : List ℕ) → text ≡ encode 34 ++ more → text ≡ escaped c ++ rest → ⊥
 no_character c text rest more is e = by_no_quote c (escaped c) rest more (written c) (sym is ∙ e)
 
-by_some : (c : ℕ) (v : List ℕ) → IsWritten c v → 0 < length v
-by_some c v (inl (e, p, m, low)) = let n = ap length p in omega arith
-by_some c v (inr (quote, back, p)) = let n = ap length p ∙ length-encode c in omega (arith, len_utf8_bounds c)
+by_some : (c : ℕ) (v : List ℕ) → Written c v → 0 < length v
+by_some c v (inl (e, p, m, inline, low)) = let n = ap length p in omega arith
+by_some c v (inr (quote, back, inline, p)) = let n = ap length p ∙ length-encode c in omega (arith, len_utf8_bounds c)
 
 pub never_empty : (c : ℕ) (text rest : List ℕ) → length text ≡ 0 → text ≡ escaped c ++ rest → ⊥
 never_empty c text rest none e =

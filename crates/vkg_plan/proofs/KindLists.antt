@@ -3,10 +3,11 @@ use Rattle.std.proofs.Common.{◌≡◌, true, ◌&&◌, List, [], ◌∷◌, �
 use Rattle.std.proofs.Math.Bool.{and-false}
 use Rattle.std.specs.Prelude.{Option, Some, None, is_some, option_map, if◌then◌else◌}
 use Rattle.std.specs.Cmp.Lexicographic.{pointwise}
+use Rattle.vkg_lists.specs.Options.{with_first}
 use Rattle.vkg_lists.proofs.Onto.{onto, onto_none}
 use Rattle.vkg_expr.specs.Typing.{same_kind}
 use Rattle.vkg_plan.specs.declared.plan.Plan.{Plan as PlanValue}
-use Rattle.vkg_plan.specs.Kinds.{Kinds, Tables, alike, are_alike, beside_all, is_alike, joined, kinds_of_each, plan_kinds, with_first}
+use Rattle.vkg_plan.specs.Kinds.{Kinds, Tables, alike, are_alike, beside_all, is_alike, side_by_side, kinds_of_each, plan_kinds}
 use Rattle.vkg_plan.specs.Plan.{plans}
 use Rattle.vkg_plan.specs.Seen.{plan_seen}
 use Rattle.vkg_expr.proofs.KindLists.{itself}
@@ -24,16 +25,10 @@ pub alike-more : (ks : Kinds) (o : Option (List Kinds)) → alike (with_first (S
 alike-more ks None = refl
 alike-more ks (Some kss) = rw (themselves ks)
 
-pub beside_all-more : (a : Option Kinds) (o : Option (List Kinds)) → beside_all (with_first a o) ≡ option_map joined (with_first a o)
+pub beside_all-more : (a : Option Kinds) (o : Option (List Kinds)) → beside_all (with_first a o) ≡ option_map side_by_side (with_first a o)
 beside_all-more None o = refl
 beside_all-more (Some ks) None = refl
 beside_all-more (Some ks) (Some kss) = refl
-
--- where these have kinds, their parts have
-pub first_some : (a : Option Kinds) (b : Option (List Kinds)) → is_some (with_first a b) ≡ true → (is_some a ≡ true) × (is_some b ≡ true)
-first_some (Some ks) (Some kss) e = (refl, refl)
-first_some (Some ks) None e = cc
-first_some None b e = cc
 
 pub beside_some : (o : Option (List Kinds)) → is_some (beside_all o) ≡ true → is_some o ≡ true
 beside_some None e = cc
@@ -46,11 +41,11 @@ alike_some (Some kss) e = refl
 pub onto-nil : (ks : Kinds) → onto ks (Some []) ≡ Some ks
 onto-nil ks = rw append-nil
 
-pub onto-more : (ks ls : Kinds) (o : Option (List Kinds)) → onto ks (option_map joined (with_first (Some ls) o)) ≡ onto (ks ++ ls) (option_map joined o)
+pub onto-more : (ks ls : Kinds) (o : Option (List Kinds)) → onto ks (option_map side_by_side (with_first (Some ls) o)) ≡ onto (ks ++ ls) (option_map side_by_side o)
 onto-more ks ls None = refl
 onto-more ks ls (Some kss) = rw append_assoc
 
-pub join-some : (s : Tables) (ps : List PlanValue) → 1 ≤ length ps → beside_all (kinds_of_each s (plans (map plan_seen ps))) ≡ option_map joined (kinds_of_each s (plans (map plan_seen ps)))
+pub join-some : (s : Tables) (ps : List PlanValue) → 1 ≤ length ps → beside_all (kinds_of_each s (plans (map plan_seen ps))) ≡ option_map side_by_side (kinds_of_each s (plans (map plan_seen ps)))
 join-some s [] h = absurd (omega arith)
 join-some s (p ∷ ps) h = beside_all-more (plan_kinds s (plan_seen p)) (kinds_of_each s (plans (map plan_seen ps)))
 

@@ -5,6 +5,9 @@ use Rattle.std.specs.List.{AllByRecursion, filter, flat_map, list_all}
 use Rattle.std.specs.Option.{option_map_or}
 use Rattle.std.specs.Cmp.Lexicographic.{pointwise}
 use Rattle.std.proofs.lemmas.Option.{same_Some}
+use Rattle.vkg_lists.proofs.Members.{recursion_append}
+use Rattle.vkg_lists.proofs.Onto.{first_given, both_given}
+use Rattle.vkg_lists.specs.Options.{joined}
 use Rattle.vkg_lists.specs.Sets.{distinct}
 use Rattle.vkg_cells.specs.declared.cell.Cell.TheVariants as cell
 use Rattle.vkg_cells.specs.declared.cell.SqlType.TheVariants as kind
@@ -15,16 +18,12 @@ use Rattle.vkg_expr.specs.Expr.{Expr, exprs}
 use Rattle.vkg_expr.specs.Laws.{HasKinds}
 use Rattle.vkg_expr.specs.Typing.{is_one, kind_of, kinds_of, same_kind}
 use Rattle.vkg_expr.specs.Value.{holds, values_of}
-use Rattle.vkg_plan.specs.Kinds.{Kinds, Tables, alike, beside_all, beside_two, checked, joined, kinds_of_each, plan_kinds, width, with_first}
+use Rattle.vkg_plan.specs.Kinds.{Kinds, Tables, alike, beside_all, checked, side_by_side, kinds_of_each, plan_kinds, width}
 use Rattle.vkg_plan.specs.Laws.{HasRowsOf, HaveKinds, TablesFit}
 use Rattle.vkg_plan.specs.Plan.{Plan, Plans, Unit as UnitPlan, Empty, Scan, Select, Project, Join, Left, UnionAll, Distinct, Nil, More}
 use Rattle.vkg_plan.specs.Rows.{is_alone, left_pairs, one_row, pairs, product, rows_of, rows_of_each}
 use Rattle.vkg_plan.proofs.KindLists.{themselves}
 use Rattle.vkg_lists.proofs.Bools.{and_parts}
-
-pub All-append : {X : Type 0} (P : X → Type 0) (xs ys : List X) → AllByRecursion P xs → AllByRecursion P ys → AllByRecursion P (xs ++ ys)
-All-append P [] ys h k = k
-All-append P (x ∷ xs) ys h k = (h.0, All-append P xs ys h.1 k)
 
 pub All-filter : {X : Type 0} (P : X → Type 0) (p : X → Bool) (xs : List X) → AllByRecursion P xs → AllByRecursion P (filter p xs)
 All-filter P p [] h = tt
@@ -41,7 +40,7 @@ All-map P Q f g (x ∷ xs) h = (g x h.0, All-map P Q f g xs h.1)
 pairs-fit : (ks ls : Kinds) (xs ys : List Row) → HaveKinds ks xs → HaveKinds ls ys → HaveKinds (ks ++ ls) (pairs xs ys)
 pairs-fit ks ls [] ys h k = tt
 pairs-fit ks ls (x ∷ xs) ys h k =
-    All-append (HasKinds (ks ++ ls)) (map (λ r. x ++ r) ys) (pairs xs ys)
+    recursion_append (HasKinds (ks ++ ls)) (map (λ r. x ++ r) ys) (pairs xs ys)
     (All-map (HasKinds ls) (HasKinds (ks ++ ls)) (λ r. x ++ r) (λ r e. kinds-append ks ls x r h.0 e) ys k)
     (pairs-fit ks ls xs ys h.1 k)
 
@@ -52,18 +51,18 @@ EachHasKinds [] (rs ∷ rss) = ⊥
 EachHasKinds (ks ∷ kss) [] = ⊥
 EachHasKinds (ks ∷ kss) (rs ∷ rss) = HaveKinds ks rs × EachHasKinds kss rss
 
-product-fit : (kss : List Kinds) (rss : List (List Row)) → EachHasKinds kss rss → HaveKinds (joined kss) (product rss)
+product-fit : (kss : List Kinds) (rss : List (List Row)) → EachHasKinds kss rss → HaveKinds (side_by_side kss) (product rss)
 product-fit [] [] h = (tt, tt)
 product-fit [] (rs ∷ rss) h = absurd h
 product-fit (ks ∷ kss) [] h = absurd h
-product-fit (ks ∷ kss) (rs ∷ rss) h = pairs-fit ks (joined kss) rs (product rss) h.0 (product-fit kss rss h.1)
+product-fit (ks ∷ kss) (rs ∷ rss) h = pairs-fit ks (side_by_side kss) rs (product rss) h.0 (product-fit kss rss h.1)
 
 nulls-fit : (ls : Kinds) → HasKinds ls (replicate (length ls) cell.Null)
 nulls-fit [] = tt
 nulls-fit (l ∷ ls) = (null_fits l, nulls-fit ls)
 
 left-fit : (pass : Row → Bool) (ks ls : Kinds) (xs ys : List Row) → HaveKinds ks xs → HaveKinds ls ys → HaveKinds (ks ++ ls) (left_pairs pass (length ls) xs ys)
-left-fit pass ks ls xs ys h k = All-append (HasKinds (ks ++ ls)) (filter pass (pairs xs ys)) _
+left-fit pass ks ls xs ys h k = recursion_append (HasKinds (ks ++ ls)) (filter pass (pairs xs ys)) _
     (All-filter (HasKinds (ks ++ ls)) pass (pairs xs ys) (pairs-fit ks ls xs ys h k))
     (All-map (HasKinds ks) (HasKinds (ks ++ ls)) (λ l. l ++ replicate (length ls) cell.Null) (λ l e. kinds-append ks ls l (replicate (length ls) cell.Null) e (nulls-fit ls)) (filter (is_alone pass ys) xs)
     (All-filter (HasKinds ks) (is_alone pass ys) xs h))
@@ -88,7 +87,7 @@ union-fit ks [] (rs ∷ rss) h e = absurd h
 union-fit ks (ls ∷ kss) [] h e = absurd h
 union-fit ks (ls ∷ kss) (rs ∷ rss) h e =
     let b = and_parts (pointwise same_kind ks ls) (list_all (pointwise same_kind ks) kss) e in
-    All-append (HasKinds ks) rs (flat_map (λ rows. rows) rss)
+    recursion_append (HasKinds ks) rs (flat_map (λ rows. rows) rss)
     (subst (λ m. HaveKinds m rs) (sym (same_kinds ks ls b.0)) h.0) (union-fit ks kss rss h.1 b.1)
 
 checked_is : (c : Expr) (o : Option Kinds) (ks : Kinds) → checked c o ≡ Some ks → o ≡ Some ks
@@ -99,20 +98,10 @@ checked_is c (Some ls) ks e = at (is_one kind.Bool (kind_of c ls)) e
     at true e = e
     at false e = cc
 
-two_is : (a b : Option Kinds) (ks : Kinds) → beside_two a b ≡ Some ks → (ls : Kinds) × (a ≡ Some ls) × ((ms : Kinds) × (b ≡ Some ms) × (ls ++ ms ≡ ks))
-two_is (Some ls) (Some ms) ks e = (ls, refl, (ms, refl, same_Some (ls ++ ms) ks e))
-two_is (Some ls) None ks e = cc
-two_is None b ks e = cc
-
-beside_is : (o : Option (List Kinds)) (ks : Kinds) → beside_all o ≡ Some ks → (kss : List Kinds) × (o ≡ Some kss) × (joined kss ≡ ks)
+beside_is : (o : Option (List Kinds)) (ks : Kinds) → beside_all o ≡ Some ks → (kss : List Kinds) × (o ≡ Some kss) × (side_by_side kss ≡ ks)
 beside_is None ks e = cc
 beside_is (Some []) ks e = cc
-beside_is (Some (ls ∷ kss)) ks e = (ls ∷ kss, refl, same_Some (joined (ls ∷ kss)) ks e)
-
-first_is : (a : Option Kinds) (b : Option (List Kinds)) (kss : List Kinds) → with_first a b ≡ Some kss → (ks : Kinds) × (a ≡ Some ks) × ((lss : List Kinds) × (b ≡ Some lss) × (ks ∷ lss ≡ kss))
-first_is (Some ks) (Some lss) kss e = (ks, refl, (lss, refl, same_Some (ks ∷ lss) kss e))
-first_is (Some ks) None kss e = cc
-first_is None b kss e = cc
+beside_is (Some (ls ∷ kss)) ks e = (ls ∷ kss, refl, same_Some (side_by_side (ls ∷ kss)) ks e)
 
 and_then_is : (f : Kinds → Option Kinds) (o : Option Kinds) (ks : Kinds) → option_and_then f o ≡ Some ks → (ls : Kinds) × (o ≡ Some ls) × (f ls ≡ Some ks)
 and_then_is f None ks e = cc
@@ -145,7 +134,7 @@ module _ (s : Tables) (db : Database) (t : TablesFit s db) where
         All-filter (HasKinds ks) (holds c) (product (rows_of_each s ps db))
         (subst (λ m. HaveKinds m (product (rows_of_each s ps db))) a.2 (product-fit a.0 (rows_of_each s ps db) (each-fit ps a.0 a.1)))
     rows-fit (Left p q c) ks e =
-        let a = two_is (plan_kinds s p) (plan_kinds s q) ks (checked_is c (beside_two (plan_kinds s p) (plan_kinds s q)) ks e) in
+        let a = both_given (plan_kinds s p) (plan_kinds s q) ks (checked_is c (joined (plan_kinds s p) (plan_kinds s q)) ks e) in
         let wide : length a.2.0 ≡ width s q = ap (λ o. option_map_or length o 0) (sym a.2.1) in
         subst (λ m. HaveKinds m (rows_of s (Left p q c) db)) a.2.2
         (subst (λ n. HaveKinds (a.0 ++ a.2.0) (left_pairs (holds c) n (rows_of s p db) (rows_of s q db))) wide
@@ -158,7 +147,7 @@ module _ (s : Tables) (db : Database) (t : TablesFit s db) where
     each-fit : (ps : Plans) (kss : List Kinds) → kinds_of_each s ps ≡ Some kss → EachHasKinds kss (rows_of_each s ps db)
     each-fit Nil kss e = subst (λ l. EachHasKinds l []) (same_Some [] kss e) tt
     each-fit (More p ps) kss e =
-        let a = first_is (plan_kinds s p) (kinds_of_each s ps) kss e in
+        let a = first_given (plan_kinds s p) (kinds_of_each s ps) kss e in
         subst (λ l. EachHasKinds l (rows_of s p db ∷ rows_of_each s ps db)) a.2.2 (rows-fit p a.0 a.1, each-fit ps a.2.0 a.2.1)
 
 has_rows : (s : Tables) (p : Plan) (ks : Kinds) → Some ks ≡ plan_kinds s p → HasRowsOf s p ks

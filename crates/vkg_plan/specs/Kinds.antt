@@ -1,8 +1,9 @@
 -- The kinds of a plan's columns over a schema; none where it is ill typed.
-use Rattle.std.specs.Prelude.{ℕ, Bool, true, false, List, [], ◌∷◌, ◌++◌, length, map, slice_get, Option, Some, None, option_map, option_and_then, is_some, if◌then◌else◌}
+use Rattle.std.specs.Prelude.{ℕ, Bool, false, List, [], ◌∷◌, ◌++◌, length, map, slice_get, Option, Some, None, option_map, option_and_then, is_some, if◌then◌else◌}
 use Rattle.std.specs.List.{list_all}
 use Rattle.std.specs.Cmp.Lexicographic.{pointwise}
 use Rattle.std.specs.Option.{option_map_or}
+use Rattle.vkg_lists.specs.Options.{with_first, joined}
 use Rattle.vkg_cells.specs.declared.cell.SqlType.{SqlType}
 use Rattle.vkg_cells.specs.declared.cell.SqlType.TheVariants as kind
 use Rattle.vkg_schema.specs.declared.table.Table.{Table}
@@ -25,18 +26,14 @@ abbrev pub checked : Expr → Option Kinds → Option Kinds
 checked c None = None
 checked c (Some ks) = if is_one kind.Bool (kind_of c ks) then Some ks else None
 
-abbrev pub beside_two : Option Kinds → Option Kinds → Option Kinds
-beside_two (Some ks) (Some ls) = Some (ks ++ ls)
-beside_two ks ls = None
-
 -- one after another
-abbrev pub joined : List Kinds → Kinds
-joined [] = []
-joined (ks ∷ kss) = ks ++ joined kss
+abbrev pub side_by_side : List Kinds → Kinds
+side_by_side [] = []
+side_by_side (ks ∷ kss) = ks ++ side_by_side kss
 
 -- the kinds of one or more after each other
 abbrev pub beside_all : Option (List Kinds) → Option Kinds
-beside_all (Some (ks ∷ kss)) = Some (joined (ks ∷ kss))
+beside_all (Some (ks ∷ kss)) = Some (side_by_side (ks ∷ kss))
 beside_all kss = None
 
 abbrev pub is_alike : Kinds → Option Kinds → Bool
@@ -52,10 +49,6 @@ abbrev pub alike : Option (List Kinds) → Option Kinds
 alike (Some (ks ∷ kss)) = if list_all (pointwise same_kind ks) kss then Some ks else None
 alike kss = None
 
-abbrev pub with_first : Option Kinds → Option (List Kinds) → Option (List Kinds)
-with_first (Some ks) (Some kss) = Some (ks ∷ kss)
-with_first ks kss = None
-
 abbrev mutual
   pub plan_kinds : Tables → Plan → Option Kinds
   plan_kinds schema Unit = Some []
@@ -64,7 +57,7 @@ abbrev mutual
   plan_kinds schema (Select c p) = checked c (plan_kinds schema p)
   plan_kinds schema (Project es p) = option_and_then (kinds_of (exprs es)) (plan_kinds schema p)
   plan_kinds schema (Join ps c) = checked c (beside_all (kinds_of_each schema ps))
-  plan_kinds schema (Left p q c) = checked c (beside_two (plan_kinds schema p) (plan_kinds schema q))
+  plan_kinds schema (Left p q c) = checked c (joined (plan_kinds schema p) (plan_kinds schema q))
   plan_kinds schema (UnionAll ps) = alike (kinds_of_each schema ps)
   plan_kinds schema (Distinct p) = plan_kinds schema p
 

@@ -1,10 +1,11 @@
 // The kinds of the columns of tables, and what the nodes of a plan make of the kinds of their parts.
 ghost use Rattle.std.specs.Prelude.{◌≡◌, IfOk, IsOkAnd, if◌then◌else◌, map, option_and_then};
 ghost use Rattle.std.specs.Cmp.Lexicographic.{pointwise};
+ghost use Rattle.vkg_lists.specs.Options.{joined};
 ghost use Rattle.vkg_expr.specs.Expr.{exprs};
 ghost use Rattle.vkg_expr.specs.Seen.{expr_seen};
 ghost use Rattle.vkg_expr.specs.Typing.{kinds_of, same_kind as one_kind};
-ghost use Rattle.vkg_plan.specs.Kinds.{beside_two, checked as checked_kinds, is_alike as alike, table_kinds as kinds_of_table};
+ghost use Rattle.vkg_plan.specs.Kinds.{checked as checked_kinds, is_alike as alike, table_kinds as kinds_of_table};
 
 use std::alloc::Global;
 use vkg_base::{Items, Memory, at};
@@ -70,7 +71,7 @@ pub fn left_checked(
     first: Result<Option<Items<SqlType>>, Memory>,
     second: Result<Option<Items<SqlType>>, Memory>,
 ) -> Result<Option<Items<SqlType>>, Memory>
-    ensures { IfOk result (λ o. IsOkAnd first (λ a. IsOkAnd second (λ b. o ≡ checked_kinds (expr_seen c.now) (beside_two a b)))) }
+    ensures { IfOk result (λ o. IsOkAnd first (λ a. IsOkAnd second (λ b. o ≡ checked_kinds (expr_seen c.now) (joined a b)))) }
 {
     let first = first?;
     let second = second?;
@@ -82,7 +83,7 @@ fn beside(
     first: Option<Items<SqlType>>,
     second: Option<Items<SqlType>>,
 ) -> Result<Option<Items<SqlType>>, Memory>
-    ensures { IfOk result (λ o. o ≡ beside_two first second) }
+    ensures { IfOk result (λ o. o ≡ joined first second) }
 {
     let Some(mut kinds) = first else {
         return Ok(None);

@@ -1,6 +1,6 @@
 // The kinds of the columns of plans.
 ghost use Rattle.std.specs.Prelude.{◌≡◌, IfOk, IfSome, is_some, map, option_map};
-ghost use Rattle.vkg_plan.specs.Kinds.{alike, are_alike as all_alike_to, beside_all, is_well_typed, joined, kinds_of_each, plan_kinds as kinds_of_plan};
+ghost use Rattle.vkg_plan.specs.Kinds.{alike, are_alike as all_alike_to, beside_all, is_well_typed, side_by_side, kinds_of_each, plan_kinds as kinds_of_plan};
 ghost use Rattle.vkg_plan.specs.Laws.{HasRowsOf};
 ghost use Rattle.vkg_plan.specs.Plan.{plans};
 ghost use Rattle.vkg_plan.specs.Seen.{plan_seen};
@@ -70,7 +70,7 @@ fn join_kinds(alloc: Global, ps: &[Plan], schema: &Schema) -> Result<Option<Item
 #[tactic(auto, using(crate::proofs::KindLists::plan_lists))]
 #[cycle(kinds)]
 fn all_kinds(alloc: Global, ps: &[Plan], schema: &Schema) -> Result<Option<Items<SqlType>>, Memory>
-    ensures { IfOk result (λ o. o ≡ option_map joined (kinds_of_each schema.now (plans (map plan_seen ps.now)))) }
+    ensures { IfOk result (λ o. o ≡ option_map side_by_side (kinds_of_each schema.now (plans (map plan_seen ps.now)))) }
 {
     let mut all = Items::new(alloc);
     for p in ps {

@@ -1,7 +1,8 @@
 // The term that a term map makes of a row.
 ghost use Rattle.std.specs.Prelude.{◌≡◌, ◌++◌, IfOk, Option, Some, None, option_map, string_bytes};
+ghost use Rattle.vkg_lists.specs.Options.{joined};
 ghost use Rattle.vkg_schema.specs.Rows.{cell_at};
-ghost use Rattle.vkg_cells.specs.Form.{lexical_form, joined};
+ghost use Rattle.vkg_cells.specs.Form.{lexical_form};
 ghost use Rattle.vkg_maps.specs.Terms.{term_of, where_value, term_from, literal as literal_of, against as against_base, template_value, piece_text, put as put_text};
 
 use std::alloc::Global;

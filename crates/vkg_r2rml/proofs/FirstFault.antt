@@ -3,8 +3,9 @@ use Rattle.std.proofs.Common.{◌≡◌, ℕ, ◌+◌, ◌<◌, ◌≤◌, ◌�
 use Rattle.std.specs.Prelude.{IfErr, IfOk}
 use Rattle.std.specs.List.{Contains, enumerate_from}
 use Rattle.std.proofs.lemmas.Bool.{ltb-true, ltb-false}
+use Rattle.vkg_lists.specs.Results.{unless, in_front}
 use Rattle.vkg_lists.proofs.Members.{Contains-none, Contains-here, Contains-there, Contains-cons_cases}
-use Rattle.vkg_lists.proofs.Results.{ok_err}
+use Rattle.vkg_lists.proofs.Results.{ok_err, err_same}
 use Rattle.vkg_turtle.specs.declared.triple.Triple.{Triple}
 use Rattle.vkg_schema.specs.declared.table.Table.{Table}
 use Rattle.vkg_maps.specs.declared.mapping.Mapping.{Mapping}
@@ -17,7 +18,7 @@ use Rattle.vkg_r2rml.specs.declared.map_error.MapError.TheVariants.{Fault, Memor
 use Rattle.vkg_r2rml.specs.Checked.{Checked}
 use Rattle.vkg_r2rml.specs.TriplesMaps.{triples_maps}
 use Rattle.vkg_r2rml.specs.TriplesMap.{triples_map}
-use Rattle.vkg_r2rml.specs.Mapping.{fault, map_limit, in_front, in_order, of_maps, count_fault, counted, mapping_of, Fails as FailsOf}
+use Rattle.vkg_r2rml.specs.Mapping.{fault, map_limit, in_order, of_maps, count_fault, mapping_of, Fails as FailsOf}
 use Rattle.vkg_r2rml.specs.Faults.{OnTriplesMap, Precedes, IsLeastFault, IsFaultless, IsFaultOf, IsLeast, no_map, many_maps, least, many_rules}
 use Rattle.vkg_r2rml.proofs.Least.{AnswersLeast}
 use Rattle.vkg_r2rml.proofs.LeastFault.{on_triples_map}
@@ -104,23 +105,20 @@ module _ (triples : List Triple) (schema : List Table) (base : List ℕ) where
   faultless : (made : List TriplesMap) → read ≡ Ok made → IsFaultless triples schema base maps
   faultless made e = λ f h. no_fault (OnTriplesMap triples schema base maps) (triples_map triples schema base maps) (on_triples_map triples schema base maps) 1 maps made e (f.map, h.node) f.check h.is_map h.fails
 
-  err_is : {A : Type 0} (f g : MapFault) → ◌≡◌ {A = Result A MapFault} (Err f) (Err g) → f ≡ g
-  err_is f g e = cc
-
   by_rules : (made : List TriplesMap) (b : Bool) (f : MapFault) → read ≡ Ok made → nat_lt rule_limit (length (quad_rules (record { base = base; maps = made }))) ≡ b → cond {A = Result Mapping MapFault} b (Err (fault 22 0)) (Ok (record { base = base; maps = made })) ≡ Err f → IsFaultOf triples schema base f
-  by_rules made true f r t e = subst (IsFaultOf triples schema base) (err_is {A = Mapping} (fault 22 0) f e) (many_rules made (faultless made r) r (ltb-true rule_limit (length (quad_rules (record { base = base; maps = made }))) t))
+  by_rules made true f r t e = subst (IsFaultOf triples schema base) (err_same {A = Mapping} (fault 22 0) f e) (many_rules made (faultless made r) r (ltb-true rule_limit (length (quad_rules (record { base = base; maps = made }))) t))
   by_rules made false f r t e = absurd (ok_err {A = Mapping} _ f e)
 
   by_read : (r : Result (List TriplesMap) MapFault) (f : MapFault) → read ≡ r → length maps ≤ map_limit → of_maps base r ≡ Err f → IsFaultOf triples schema base f
   by_read (Ok made) f i few e = by_rules made (nat_lt rule_limit (length (quad_rules (record { base = base; maps = made })))) f i refl e
-  by_read (Err g) f i few e = least few (least_fault f (i ∙ ap (λ h. Err h) (err_is {A = Mapping} g f e)))
+  by_read (Err g) f i few e = least few (least_fault f (i ∙ ap (λ h. Err h) (err_same {A = Mapping} g f e)))
 
-  by_count : (b : Bool) (f : MapFault) → nat_lt map_limit (length maps) ≡ b → counted (cond b (Some (fault 22 0)) None) (of_maps base read) ≡ Err f → IsFaultOf triples schema base f
-  by_count true f t e = subst (IsFaultOf triples schema base) (err_is {A = Mapping} (fault 22 0) f e) (many_maps (ltb-true map_limit (length maps) t))
+  by_count : (b : Bool) (f : MapFault) → nat_lt map_limit (length maps) ≡ b → unless (cond b (Some (fault 22 0)) None) (of_maps base read) ≡ Err f → IsFaultOf triples schema base f
+  by_count true f t e = subst (IsFaultOf triples schema base) (err_same {A = Mapping} (fault 22 0) f e) (many_maps (ltb-true map_limit (length maps) t))
   by_count false f t e = by_read read f refl (ltb-false map_limit (length maps) t) e
 
-  by_maps : (ms : List MapNode) (f : MapFault) → maps ≡ ms → counted (count_fault ms) (of_maps base read) ≡ Err f → IsFaultOf triples schema base f
-  by_maps [] f i e = subst (IsFaultOf triples schema base) (err_is {A = Mapping} (fault 21 0) f e) (no_map i)
+  by_maps : (ms : List MapNode) (f : MapFault) → maps ≡ ms → unless (count_fault ms) (of_maps base read) ≡ Err f → IsFaultOf triples schema base f
+  by_maps [] f i e = subst (IsFaultOf triples schema base) (err_same {A = Mapping} (fault 21 0) f e) (no_map i)
   by_maps (m ∷ ms) f i e = by_count (nat_lt map_limit (length (m ∷ ms))) f (ap (λ l. nat_lt map_limit (length l)) i) e
 
   -- the fault that is defined is the fault of the graph
@@ -128,7 +126,7 @@ module _ (triples : List Triple) (schema : List Table) (base : List ℕ) where
   fault_of Memory h = h
   fault_of (Fault f) h = by_maps maps f refl h
 
-  read_of : (b : Option MapFault) (r : Result (List TriplesMap) MapFault) (mapping : Mapping) → counted b (of_maps base r) ≡ Ok mapping → (made : List TriplesMap) × (r ≡ Ok made)
+  read_of : (b : Option MapFault) (r : Result (List TriplesMap) MapFault) (mapping : Mapping) → unless b (of_maps base r) ≡ Ok mapping → (made : List TriplesMap) × (r ≡ Ok made)
   read_of None (Ok made) mapping e = (made, refl)
   read_of None (Err f) mapping e = absurd (ok_err mapping f (sym e))
   read_of (Some f) r mapping e = absurd (ok_err mapping f (sym e))

@@ -2,11 +2,13 @@
 use Rattle.std.proofs.Common.{◌≡◌, ℕ, ◌≤◌, min, ◌⊎◌, inl, inr, ⊎_elim, refl, sym, ◌∙◌, ap, subst, List, map, Option, Some, None, Ok, Err, arith}
 use Rattle.std.proofs.lemmas.Option.{none-some}
 use Rattle.std.specs.List.{Contains, filter_map}
+use Rattle.std.specs.Result.{result_ok, result_err}
+use Rattle.vkg_lists.specs.Results.{unless}
 use Rattle.vkg_lists.specs.Places.{least_of}
 use Rattle.vkg_lists.proofs.Places.{least_of-none, least_of-some}
 use Rattle.vkg_lists.proofs.Members.{Contains-map, Contains-from_map}
-use Rattle.vkg_lists.proofs.Results.{ok_err, ok_same}
-use Rattle.vkg_r2rml.specs.Checked.{Checked, both, all_of, and_then, fault_if_any, value_if_any, unless}
+use Rattle.vkg_lists.proofs.Results.{ok_err, ok_same, err_same}
+use Rattle.vkg_r2rml.specs.Checked.{Checked, both, all_of, and_then}
 use Rattle.vkg_r2rml.specs.Faults.{Fails, Among, After}
 
 -- a part answers the least check of these that fail, if any fails
@@ -17,9 +19,6 @@ pub record AnswersLeast {A : Type 0} (P : ℕ → Type 0) (part : Checked A) : T
 -- a part by itself
 pub alone : {A : Type 0} (part : Checked A) → AnswersLeast (Fails part) part
 alone part = record { fails = λ check e. e; least = λ check e. (check, e, omega arith) }
-
-err_err : {A : Type 0} (c d : ℕ) → ◌≡◌ {A = Checked A} (Err c) (Err d) → c ≡ d
-err_err c d e = cc
 
 -- no check of it can fail
 pub never : {A : Type 0} (P : ℕ → Type 0) (a : A) → ((check : ℕ) → P check → ⊥) → AnswersLeast P (Ok a)
@@ -32,18 +31,18 @@ of_both P Q (Ok x) (Ok y) p q = record {
   least = λ check h. ⊎_elim (λ i. let r = p.least check i in absurd (ok_err x r.0 r.1)) (λ j. let r = q.least check j in absurd (ok_err y r.0 r.1)) h;
 }
 of_both {A} {B} P Q (Ok x) (Err d) p q = record {
-  fails = λ check e. inr (q.fails check (ap (λ n. Err n) (err_err {A = A × B} d check e)));
-  least = λ check h. ⊎_elim (λ i. let r = p.least check i in absurd (ok_err x r.0 r.1)) (λ j. let r = q.least check j in let same : d ≡ r.0 = err_err {A = B} d r.0 r.1 in (d, refl, omega (arith, r.2, same))) h;
+  fails = λ check e. inr (q.fails check (ap (λ n. Err n) (err_same {A = A × B} d check e)));
+  least = λ check h. ⊎_elim (λ i. let r = p.least check i in absurd (ok_err x r.0 r.1)) (λ j. let r = q.least check j in let same : d ≡ r.0 = err_same {A = B} d r.0 r.1 in (d, refl, omega (arith, r.2, same))) h;
 }
 of_both {A} {B} P Q (Err c) (Ok y) p q = record {
-  fails = λ check e. inl (p.fails check (ap (λ n. Err n) (err_err {A = A × B} c check e)));
-  least = λ check h. ⊎_elim (λ i. let r = p.least check i in let same : c ≡ r.0 = err_err {A = A} c r.0 r.1 in (c, refl, omega (arith, r.2, same))) (λ j. let r = q.least check j in absurd (ok_err y r.0 r.1)) h;
+  fails = λ check e. inl (p.fails check (ap (λ n. Err n) (err_same {A = A × B} c check e)));
+  least = λ check h. ⊎_elim (λ i. let r = p.least check i in let same : c ≡ r.0 = err_same {A = A} c r.0 r.1 in (c, refl, omega (arith, r.2, same))) (λ j. let r = q.least check j in absurd (ok_err y r.0 r.1)) h;
 }
 of_both {A} {B} P Q (Err c) (Err d) p q = record {
   fails = λ check e.
-      let is : min c d ≡ check = err_err {A = A × B} (min c d) check e in
+      let is : min c d ≡ check = err_same {A = A × B} (min c d) check e in
       ⊎_elim (λ i. inl (p.fails check (ap (λ n. Err n) (i ∙ is)))) (λ j. inr (q.fails check (ap (λ n. Err n) (j ∙ is)))) (one_of c d);
-  least = λ check h. ⊎_elim (λ i. let r = p.least check i in let same : c ≡ r.0 = err_err {A = A} c r.0 r.1 in (min c d, refl, omega (arith, r.2, same))) (λ j. let r = q.least check j in let same : d ≡ r.0 = err_err {A = B} d r.0 r.1 in (min c d, refl, omega (arith, r.2, same))) h;
+  least = λ check h. ⊎_elim (λ i. let r = p.least check i in let same : c ≡ r.0 = err_same {A = A} c r.0 r.1 in (min c d, refl, omega (arith, r.2, same))) (λ j. let r = q.least check j in let same : d ≡ r.0 = err_same {A = B} d r.0 r.1 in (min c d, refl, omega (arith, r.2, same))) h;
 }
   where
     one_of : (c d : ℕ) → (c ≡ min c d) ⊎ (d ≡ min c d)
@@ -56,8 +55,8 @@ of_then {A} P Q (Ok x) next p q = record {
   least = λ check h. ⊎_elim (λ i. let r = p.least check i in absurd (ok_err x r.0 r.1)) (λ j. (q x refl).least check (subst (λ y. Q y check) (sym (ok_same x j.0 j.1)) j.2)) h;
 }
 of_then {A} {B} P Q (Err c) next p q = record {
-  fails = λ check e. inl (p.fails check (ap (λ n. Err n) (err_err {A = B} c check e)));
-  least = λ check h. ⊎_elim (λ i. let r = p.least check i in let same : c ≡ r.0 = err_err {A = A} c r.0 r.1 in (c, refl, omega (arith, r.2, same))) (λ j. absurd (ok_err j.0 c (sym j.1))) h;
+  fails = λ check e. inl (p.fails check (ap (λ n. Err n) (err_same {A = B} c check e)));
+  least = λ check h. ⊎_elim (λ i. let r = p.least check i in let same : c ≡ r.0 = err_same {A = A} c r.0 r.1 in (c, refl, omega (arith, r.2, same))) (λ j. absurd (ok_err j.0 c (sym j.1))) h;
 }
 
 -- a value made of a part
@@ -67,31 +66,31 @@ of_value P (Ok x) made p = record {
   least = λ check h. let r = p.least check h in absurd (ok_err x r.0 r.1);
 }
 of_value {A} {B} P (Err c) made p = record {
-  fails = λ check e. p.fails check (ap (λ n. Err n) (err_err {A = B} c check e));
-  least = λ check h. let r = p.least check h in (r.0, ap (λ n. Err n) (err_err {A = A} c r.0 r.1), r.2);
+  fails = λ check e. p.fails check (ap (λ n. Err n) (err_same {A = B} c check e));
+  least = λ check h. let r = p.least check h in (r.0, ap (λ n. Err n) (err_same {A = A} c r.0 r.1), r.2);
 }
 
 -- any number of parts
 module _ {X A : Type 0} (P : X → ℕ → Type 0) (f : X → Checked A) (xs : List X) (each : (x : X) → Contains xs x → AnswersLeast (P x) (f x)) where
-  fault_is : (c : Checked A) (n : ℕ) → fault_if_any c ≡ Some n → c ≡ Err n
+  fault_is : (c : Checked A) (n : ℕ) → result_err c ≡ Some n → c ≡ Err n
   fault_is (Ok a) n e = cc
   fault_is (Err m) n e = cc
 
-  fault_of : (c : Checked A) (n : ℕ) → c ≡ Err n → fault_if_any c ≡ Some n
-  fault_of c n e = ap fault_if_any e
+  fault_of : (c : Checked A) (n : ℕ) → c ≡ Err n → result_err c ≡ Some n
+  fault_of c n e = ap result_err e
 
-  among : (found : Option ℕ) → least_of fault_if_any (map f xs) ≡ found → AnswersLeast (Among xs P) (unless found (filter_map value_if_any (map f xs)))
+  among : (found : Option ℕ) → least_of result_err (map f xs) ≡ found → AnswersLeast (Among xs P) (unless found (Ok (filter_map result_ok (map f xs))))
   among None e = record {
     fails = λ check h. absurd (ok_err _ check h);
     least = λ check h.
         let r = (each h.0 h.1).least check h.2 in
-        absurd (none-some r.0 (sym (least_of-none fault_if_any (map f xs) e (f h.0) (Contains-map f xs h.0 h.1)) ∙ fault_of (f h.0) r.0 r.1));
+        absurd (none-some r.0 (sym (least_of-none result_err (map f xs) e (f h.0) (Contains-map f xs h.0 h.1)) ∙ fault_of (f h.0) r.0 r.1));
   }
   among (Some c) e =
-      let l = least_of-some fault_if_any (map f xs) c e in
+      let l = least_of-some result_err (map f xs) c e in
       record {
         fails = λ check h.
-            let is : c ≡ check = err_err {A = List A} c check h in
+            let is : c ≡ check = err_same {A = List A} c check h in
             let m = Contains-from_map f xs l.item l.among in
             (m.0, m.1, (each m.0 m.1).fails check (m.2 ∙ fault_is l.item check (l.here ∙ ap (λ (n : ℕ). Some n) is)));
         least = λ check h.
@@ -101,4 +100,4 @@ module _ {X A : Type 0} (P : X → ℕ → Type 0) (f : X → Checked A) (xs : L
       }
 
   pub of_all : AnswersLeast (Among xs P) (all_of (map f xs))
-  of_all = among (least_of fault_if_any (map f xs)) refl
+  of_all = among (least_of result_err (map f xs)) refl

@@ -1,18 +1,12 @@
 -- The steps of reading a mapping.
-use Rattle.std.proofs.Common.{◌≡◌, ℕ, ◌∙◌, ap, List, ◌++◌, Ok, Err, Result, true, false, cond, nat_lt}
+use Rattle.std.proofs.Common.{◌≡◌, ℕ, ◌∙◌, ap, List, Ok, Err, true, false, cond, nat_lt}
 use Rattle.std.specs.Prelude.{sum_by}
 use Rattle.vkg_maps.specs.declared.mapping.Mapping.{Mapping}
 use Rattle.vkg_maps.specs.declared.mapping.TriplesMap.{TriplesMap}
-use Rattle.vkg_r2rml.specs.declared.map_error.MapFault.{MapFault}
 use Rattle.vkg_maps.specs.QuadRules.{rule_limit}
 use Rattle.vkg_r2rml.specs.RuleCount.{rules_of_map}
 use Rattle.vkg_r2rml.specs.Mapping.{fault, of_maps}
 use Rattle.vkg_r2rml.proofs.RuleCount.{rule_count}
-
--- these triples maps, and then what the later ones are
-abbrev pub behind : List TriplesMap → Result (List TriplesMap) MapFault → Result (List TriplesMap) MapFault
-behind read (Ok ms) = Ok (read ++ ms)
-behind read (Err f) = Err f
 
 -- whether there are too many rules, by the count
 pub too_many : (base : List ℕ) (maps : List TriplesMap) → nat_lt rule_limit (sum_by rules_of_map maps) ≡ true → of_maps base (Ok maps) ≡ Err (fault 22 0)

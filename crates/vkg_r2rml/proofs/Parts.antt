@@ -2,9 +2,11 @@
 use Rattle.std.proofs.Common.{◌≡◌, ℕ, List, [], ◌∷◌, map, refl, sym, ap, subst}
 use Rattle.std.specs.Prelude.{Option, Some, None, Ok, Err, filter_map, ok_or, fold, min}
 use Rattle.std.specs.List.{AllByRecursion, cons_option}
+use Rattle.std.specs.Result.{result_ok, result_err}
+use Rattle.vkg_lists.specs.Results.{unless}
 use Rattle.vkg_lists.specs.Places.{least_of, lesser}
 use Rattle.vkg_lists.proofs.Results.{ok_same}
-use Rattle.vkg_r2rml.specs.Checked.{Checked, value_if_any, fault_if_any, both, unless, all_of, and_then}
+use Rattle.vkg_r2rml.specs.Checked.{Checked, both, all_of, and_then}
 
 module _ {A B : Type 0} where
   pub of_both : (a : Checked A) (b : Checked B) (p : A × B) → both a b ≡ Ok p → (a ≡ Ok p.0) × (b ≡ Ok p.1)
@@ -17,19 +19,19 @@ module _ {A B : Type 0} where
   of_then (Ok x) next b e = (x, refl, e)
   of_then (Err c) next b e = cc
 
-  values : (P : B → Type 0) (f : A → Checked B) (xs : List A) → ((x : A) (y : B) → f x ≡ Ok y → P y) → AllByRecursion P (filter_map value_if_any (map f xs))
+  values : (P : B → Type 0) (f : A → Checked B) (xs : List A) → ((x : A) (y : B) → f x ≡ Ok y → P y) → AllByRecursion P (filter_map result_ok (map f xs))
   values P f [] h = tt
   values P f (x ∷ xs) h = of (f x) refl (values P f xs h)
     where
-      of : (c : Checked B) → f x ≡ c → AllByRecursion P (filter_map value_if_any (map f xs)) → AllByRecursion P (cons_option (value_if_any c) (filter_map value_if_any (map f xs)))
+      of : (c : Checked B) → f x ≡ c → AllByRecursion P (filter_map result_ok (map f xs)) → AllByRecursion P (cons_option (result_ok c) (filter_map result_ok (map f xs)))
       of (Ok y) e rest = (h x y e, rest)
       of (Err check) e rest = rest
 
   pub of_all : (P : B → Type 0) (f : A → Checked B) (xs : List A) (ys : List B) → ((x : A) (y : B) → f x ≡ Ok y → P y) → all_of (map f xs) ≡ Ok ys → AllByRecursion P ys
-  of_all P f xs ys h e = subst (AllByRecursion P) (unfailed (least_of fault_if_any (map f xs)) e) (values P f xs h)
+  of_all P f xs ys h e = subst (AllByRecursion P) (unfailed (least_of result_err (map f xs)) e) (values P f xs h)
     where
-      unfailed : (o : Option ℕ) → unless o (filter_map value_if_any (map f xs)) ≡ Ok ys → filter_map value_if_any (map f xs) ≡ ys
-      unfailed None e = ok_same (filter_map value_if_any (map f xs)) ys e
+      unfailed : (o : Option ℕ) → unless o (Ok (filter_map result_ok (map f xs))) ≡ Ok ys → filter_map result_ok (map f xs) ≡ ys
+      unfailed None e = ok_same (filter_map result_ok (map f xs)) ys e
       unfailed (Some check) e = cc
 
 module _ {A : Type 0} where
@@ -57,13 +59,13 @@ module _ {A B : Type 0} where
       parts c = c ∷ map f xs
 
       of : (c : Checked B) → all_of (parts c) ≡ Ok ys → (y : B) × (zs : List B) × (ys ≡ y ∷ zs)
-      of (Ok y) e = (y, filter_map value_if_any (map f xs), unfailed (least_of fault_if_any (parts (Ok y))) e)
+      of (Ok y) e = (y, filter_map result_ok (map f xs), unfailed (least_of result_err (parts (Ok y))) e)
         where
-          unfailed : (o : Option ℕ) → unless o (y ∷ filter_map value_if_any (map f xs)) ≡ Ok ys → ys ≡ y ∷ filter_map value_if_any (map f xs)
-          unfailed None e = sym (ok_same (y ∷ filter_map value_if_any (map f xs)) ys e)
+          unfailed : (o : Option ℕ) → unless o (Ok (y ∷ filter_map result_ok (map f xs))) ≡ Ok ys → ys ≡ y ∷ filter_map result_ok (map f xs)
+          unfailed None e = sym (ok_same (y ∷ filter_map result_ok (map f xs)) ys e)
           unfailed (Some check) e = cc
-      of (Err check) e = failed (least_of fault_if_any (parts (Err check))) refl e
+      of (Err check) e = failed (least_of result_err (parts (Err check))) refl e
         where
-          failed : (o : Option ℕ) → least_of fault_if_any (parts (Err check)) ≡ o → unless o (filter_map value_if_any (map f xs)) ≡ Ok ys → (y : B) × (zs : List B) × (ys ≡ y ∷ zs)
-          failed None w e = absurd (some_stays fault_if_any check (map f xs) w)
+          failed : (o : Option ℕ) → least_of result_err (parts (Err check)) ≡ o → unless o (Ok (filter_map result_ok (map f xs))) ≡ Ok ys → (y : B) × (zs : List B) × (ys ≡ y ∷ zs)
+          failed None w e = absurd (some_stays result_err check (map f xs) w)
           failed (Some least) w e = cc

@@ -5,6 +5,8 @@ use Rattle.std.specs.Option.{option_map_or}
 use Rattle.std.specs.List.{AllByRecursion, AllZip}
 use Rattle.std.proofs.lemmas.List.{length-map}
 use Rattle.std.proofs.lemmas.Option.{slice_get-map, slice_get_within}
+use Rattle.std.specs.Result.{result_ok}
+use Rattle.vkg_lists.specs.Results.{unless, in_front}
 use Rattle.vkg_lists.proofs.Tests.{nat_test}
 use Rattle.vkg_lists.proofs.Results.{ok_same}
 use Rattle.vkg_terms.specs.declared.term.Term.{Term}
@@ -34,9 +36,9 @@ use Rattle.vkg_term_maps.specs.TermMaps.{term_map_of}
 use Rattle.vkg_term_maps.specs.Vocabulary.{rr}
 use Rattle.vkg_r2rml.specs.declared.map_error.MapFault.{MapFault}
 use Rattle.vkg_r2rml.specs.declared.map_node.MapNode.{MapNode}
-use Rattle.vkg_r2rml.specs.Checked.{Checked, value_if_any, both, all_of, and_then, at_least_one, exactly_one, numbered, resource}
+use Rattle.vkg_r2rml.specs.Checked.{Checked, both, all_of, and_then, at_least_one, exactly_one, numbered, resource}
 use Rattle.vkg_r2rml.specs.LogicalTable.{source, table_named, table_of, table_of_node, table_of_text}
-use Rattle.vkg_r2rml.specs.Mapping.{count_fault, counted, fault, in_front, in_order, mapping_of, of_maps}
+use Rattle.vkg_r2rml.specs.Mapping.{count_fault, fault, in_order, mapping_of, of_maps}
 use Rattle.vkg_r2rml.specs.ReferencingMap.{columns_of, column_if_known, column_named, comparable, condition, conditions, family_at, no_term_map, parent_of, reference, referencing_map, side, table_of_parent}
 use Rattle.vkg_r2rml.specs.TriplesMap.{as_object, assembled, classes, classes_and_graphs, graph_maps, object_at_node, object_map, object_maps, objects_of, pair, pair_at, predicate_object_map, predicate_object_maps, predicates, subject, subject_at, term_map, term_maps, triples_map, triples_map_over}
 use Rattle.vkg_r2rml.specs.TriplesMaps.{map_node, nodes_of_maps, place_of, table_at, triples_maps}
@@ -266,7 +268,7 @@ module _ (triples : List Triple) (schema : List Table) (base : List ℕ) where
     at_place : (ns : List MapNode) (ms : List TriplesMap) → AllZip IsRead ns ms → (k : ℕ) → k < length ns → (m : TriplesMap) × (slice_get ms k ≡ Some m) × (table_at ns k ≡ Some m.table)
     at_place [] ms h k l = absurd (let n : k < 0 = l in omega (arith, n))
     at_place (n ∷ ns) [] h k l = absurd h
-    at_place (n ∷ ns) (m ∷ ms) h zero l = (m, refl, ap value_if_any h.0.table)
+    at_place (n ∷ ns) (m ∷ ms) h zero l = (m, refl, ap result_ok h.0.table)
     at_place (n ∷ ns) (m ∷ ms) h (suc k) l = at_place ns ms h.1 k (omega (arith, l))
 
     each_within : (ms : List TriplesMap) → ((k : ℕ) → k < length nodes → (m : TriplesMap) × (slice_get ms k ≡ Some m) × (table_at nodes k ≡ Some m.table)) →
@@ -319,7 +321,7 @@ module _ (triples : List Triple) (schema : List Table) (base : List ℕ) where
       maps (Ok ms) w e = few ms (nat_lt rule_limit (length (quad_rules (record { base = base; maps = ms })))) w e
       maps (Err f) w e = cc
 
-      of : (o : Option MapFault) → counted o (of_maps base read) ≡ Ok mapping → IsWithin schema mapping
+      of : (o : Option MapFault) → unless o (of_maps base read) ≡ Ok mapping → IsWithin schema mapping
       of None e = maps read refl e
       of (Some f) e = cc
 

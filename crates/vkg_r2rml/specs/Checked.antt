@@ -1,5 +1,7 @@
 -- What checks make of a part of a mapping: its value, or the number of the least check that fails.
-use Rattle.std.specs.Prelude.{ℕ, min, List, [], ◌∷◌, filter_map, Option, Some, None, Result, Ok, Err}
+use Rattle.std.specs.Prelude.{ℕ, min, List, [], ◌∷◌, filter_map, Result, Ok, Err}
+use Rattle.std.specs.Result.{result_ok, result_err}
+use Rattle.vkg_lists.specs.Results.{unless}
 use Rattle.vkg_lists.specs.Places.{least_of}
 use Rattle.vkg_terms.specs.declared.term.Term.{Term}
 use Rattle.vkg_terms.specs.declared.term.Term.TheVariants.{Lit}
@@ -9,14 +11,6 @@ use Rattle.vkg_term_maps.specs.Checks.{check_of}
 abbrev pub Checked : Type 0 → Type 0
 Checked A = Result A ℕ
 
-abbrev pub value_if_any : {A : Type 0} → Checked A → Option A
-value_if_any (Ok a) = Some a
-value_if_any (Err check) = None
-
-abbrev pub fault_if_any : {A : Type 0} → Checked A → Option ℕ
-fault_if_any (Ok a) = None
-fault_if_any (Err check) = Some check
-
 -- two parts whose checks do not need each other
 abbrev pub both : {A B : Type 0} → Checked A → Checked B → Checked (A × B)
 both (Ok a) (Ok b) = Ok (a, b)
@@ -24,13 +18,9 @@ both (Ok a) (Err d) = Err d
 both (Err c) (Ok b) = Err c
 both (Err c) (Err d) = Err (min c d)
 
-abbrev pub unless : {A : Type 0} → Option ℕ → A → Checked A
-unless None a = Ok a
-unless (Some check) a = Err check
-
 -- any number of such parts
 abbrev pub all_of : {A : Type 0} → List (Checked A) → Checked (List A)
-all_of parts = unless (least_of fault_if_any parts) (filter_map value_if_any parts)
+all_of parts = unless (least_of result_err parts) (Ok (filter_map result_ok parts))
 
 -- a part whose checks need an earlier one: they are not asked where that failed
 abbrev pub and_then : {A B : Type 0} → Checked A → (A → Checked B) → Checked B

@@ -1,5 +1,6 @@
 -- The mapping that a graph is read as, or its least fault: the least number of a triples map, and there the least check.
 use Rattle.std.specs.Prelude.{◌≡◌, ℕ, ◌+◌, nat_lt, List, [], ◌∷◌, length, map, Option, Some, None, Result, Ok, Err, if◌then◌else◌}
+use Rattle.vkg_lists.specs.Results.{unless, in_front}
 use Rattle.vkg_turtle.specs.declared.triple.Triple.{Triple}
 use Rattle.vkg_schema.specs.declared.table.Table.{Table}
 use Rattle.vkg_maps.specs.declared.mapping.Mapping.{Mapping}
@@ -20,12 +21,7 @@ fault check place = record { check = check; map = place }
 abbrev pub map_limit : ℕ
 map_limit = 1024
 
--- a triples map in front of what the later ones are
-abbrev pub in_front : TriplesMap → Result (List TriplesMap) MapFault → Result (List TriplesMap) MapFault
-in_front m (Ok ms) = Ok (m ∷ ms)
-in_front m (Err f) = Err f
-
--- the first triples map, counted from here, of which a check fails
+-- the first triples map, unless from here, of which a check fails
 abbrev pub in_order : ℕ → List (Checked TriplesMap) → Result (List TriplesMap) MapFault
 in_order place [] = Ok []
 in_order place (Ok m ∷ ms) = in_front m (in_order (place + 1) ms)
@@ -44,13 +40,8 @@ abbrev pub count_fault : List MapNode → Option MapFault
 count_fault [] = Some (fault 21 0)
 count_fault (m ∷ ms) = if nat_lt map_limit (length (m ∷ ms)) then Some (fault 22 0) else None
 
--- before all other checks
-abbrev pub counted : Option MapFault → Result Mapping MapFault → Result Mapping MapFault
-counted None mapping = mapping
-counted (Some f) mapping = Err f
-
 abbrev pub mapping_over : List Triple → List Table → List ℕ → List MapNode → Result Mapping MapFault
-mapping_over triples schema base maps = counted (count_fault maps) (of_maps base (in_order 1 (map (triples_map triples schema base maps) maps)))
+mapping_over triples schema base maps = unless (count_fault maps) (of_maps base (in_order 1 (map (triples_map triples schema base maps) maps)))
 
 -- R2RML, 6: the mapping of a graph over a schema
 abbrev pub mapping_of : List Triple → List Table → List ℕ → Result Mapping MapFault

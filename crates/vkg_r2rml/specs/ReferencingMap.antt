@@ -1,6 +1,7 @@
 -- Referencing object maps (R2RML, 8).
 use Rattle.std.specs.Prelude.{ℕ, List, [], ◌∷◌, ◌++◌, codes, map, slice_get, Option, Some, None, Ok, Err, ok_or, if◌then◌else◌, ◌==◌}
 use Rattle.std.specs.Option.{option_and_then, option_map_or}
+use Rattle.std.specs.Result.{result_ok}
 use Rattle.vkg_terms.specs.declared.term.Term.{Term}
 use Rattle.vkg_cells.specs.Order.{family}
 use Rattle.vkg_turtle.specs.declared.triple.Triple.{Triple}
@@ -13,7 +14,7 @@ use Rattle.vkg_term_maps.specs.Graph.{objects}
 use Rattle.vkg_term_maps.specs.Columns.{column_of}
 use Rattle.vkg_term_maps.specs.TermMaps.{text_of}
 use Rattle.vkg_r2rml.specs.declared.map_node.MapNode.{MapNode}
-use Rattle.vkg_r2rml.specs.Checked.{Checked, value_if_any, both, all_of, and_then, exactly_one, none_of}
+use Rattle.vkg_r2rml.specs.Checked.{Checked, both, all_of, and_then, exactly_one, none_of}
 use Rattle.vkg_r2rml.specs.TriplesMaps.{place_of, table_at}
 
 -- R2RML, 8: a referencing object map is no term map
@@ -27,7 +28,7 @@ parent_of maps parents = and_then (exactly_one 18 parents) (λ p. ok_or (place_o
 
 -- the parent's table, where both are known
 abbrev pub table_of_parent : List MapNode → Checked ℕ → Option ℕ
-table_of_parent maps parent = option_and_then (table_at maps) (value_if_any parent)
+table_of_parent maps parent = option_and_then (table_at maps) (result_ok parent)
 
 abbrev pub columns_of : List Table → ℕ → List Column
 columns_of schema table = option_map_or (λ t. t.columns) (slice_get schema table) []

@@ -1,6 +1,7 @@
 -- The triples maps of a mapping graph, each with its table.
 use Rattle.std.specs.Prelude.{ℕ, Bool, ◌&&◌, ◌||◌, List, codes, map, filter, Option, position, slice_get}
 use Rattle.std.specs.Option.{option_and_then}
+use Rattle.std.specs.Result.{result_ok}
 use Rattle.vkg_lists.specs.Sets.{distinct}
 use Rattle.vkg_terms.specs.declared.term.Term.{Term}
 use Rattle.vkg_terms.specs.declared.term.Term.TheVariants.{Iri}
@@ -10,7 +11,6 @@ use Rattle.vkg_turtle.specs.declared.triple.Triple.{Triple}
 use Rattle.vkg_schema.specs.declared.table.Table.{Table}
 use Rattle.vkg_term_maps.specs.Vocabulary.{rr}
 use Rattle.vkg_r2rml.specs.declared.map_node.MapNode.{MapNode}
-use Rattle.vkg_r2rml.specs.Checked.{value_if_any}
 use Rattle.vkg_r2rml.specs.LogicalTable.{table_of}
 
 -- R2RML, 6: the subject has a logical table, or is said to be a triples map
@@ -34,4 +34,4 @@ place_of maps t = position (λ m. term_eq m.node t) maps
 
 -- the table of the triples map at a place, where no check of it fails
 abbrev pub table_at : List MapNode → ℕ → Option ℕ
-table_at maps place = option_and_then (λ m. value_if_any m.table) (slice_get maps place)
+table_at maps place = option_and_then (λ m. result_ok m.table) (slice_get maps place)

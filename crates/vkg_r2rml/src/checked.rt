@@ -1,7 +1,8 @@
 // What checks make of a part of a mapping.
 ghost use Rattle.std.specs.Prelude.{◌≡◌, min};
+ghost use Rattle.vkg_lists.specs.Results.{unless as unless_of};
 ghost use Rattle.vkg_lists.specs.Places.{lesser as lesser_of};
-ghost use Rattle.vkg_r2rml.specs.Checked.{both as both_of, unless as unless_of};
+ghost use Rattle.vkg_r2rml.specs.Checked.{both as both_of};
 
 /// The value of a part, or the number of the least check that fails.
 pub type Checked<T> = Result<T, u8>;
@@ -31,7 +32,7 @@ pub fn both<A: Drop, B: Drop>(a: Checked<A>, b: Checked<B>) -> Checked<(A, B)>
 
 /// A value, unless a check fails.
 pub fn unless<A: Drop>(fault: Option<u8>, a: A) -> Checked<A>
-    ensures { result ≡ unless_of fault a }
+    ensures { result ≡ unless_of fault (Ok a) }
 {
     match fault {
         None => Ok(a),

@@ -1,9 +1,9 @@
 ghost use Rattle.std.specs.Prelude.{◌≡◌, ◌++◌, ◌∷◌, [], IfOk, OnOk, string_bytes};
+ghost use Rattle.std.specs.Result.{result_ok};
 ghost use Rattle.vkg_terms.specs.declared.term.Term.TheVariants.{Iri as IriTerm};
 ghost use Rattle.vkg_terms.specs.Same.{term_eq};
 ghost use Rattle.vkg_terms.specs.NQuads.{term_text as text_of_term};
 ghost use Rattle.vkg_terms.specs.Writable.{HoldsText, IsOnlyTerm};
-ghost use Rattle.vkg_r2rml.specs.Checked.{value_if_any};
 ghost use Rattle.vkg_r2rml.specs.TriplesMaps.{shows_triples_map, map_node as node_of_map, triples_maps, place_of, table_at};
 ghost use Rattle.vkg_r2rml.specs.Index.{IsIndexOf, with_triple};
 
@@ -65,7 +65,7 @@ impl Maps {
 }
 
 fn table_if_known(m: &MapNode) -> Option<usize>
-    ensures { result ≡ value_if_any m.now.table }
+    ensures { result ≡ result_ok m.now.table }
 {
     match m.table {
         Ok(table) => Some(table),

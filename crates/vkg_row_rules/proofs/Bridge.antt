@@ -2,8 +2,9 @@
 use Rattle.std.proofs.Common.{◌≡◌, ◌∙◌, ℕ, zero, suc, List, [], ◌∷◌, map, length, refl, ap}
 use Rattle.std.specs.Prelude.{Contains}
 use Rattle.std.specs.List.{AllZip}
+use Rattle.std.proofs.lemmas.List.{length-map}
 use Rattle.vkg_lists.specs.Sets.{distinct}
-use Rattle.vkg_lists.proofs.Members.{Contains-none, each_from_recursion, flat_map_agree_on}
+use Rattle.vkg_lists.proofs.Members.{Contains-none, each_from_recursion, flat_map_agree_on, zip_length}
 use Rattle.vkg_lists.proofs.Walks.{flat_map-map}
 use Rattle.vkg_schema.specs.declared.table.Column.{Column}
 use Rattle.vkg_schema.specs.Meets.{FitsColumn, MeetsSchema, TableMeets}
@@ -25,10 +26,7 @@ use Rattle.vkg_row_rules.proofs.SoundRules.{listed_over, of_rules}
 -- ---- how wide rows are
 
 as_wide : (columns : List Column) (row : Row) → AllZip FitsColumn columns row → length (map (λ (c : Column). c.kind) columns) ≡ length row
-as_wide [] [] h = refl
-as_wide [] (c ∷ cs) h = absurd h
-as_wide (k ∷ ks) [] h = absurd h
-as_wide (k ∷ ks) (c ∷ cs) h = ap suc (as_wide ks cs h.1)
+as_wide columns row h = length-map columns (λ (c : Column). c.kind) ∙ zip_length FitsColumn columns row h
 
 row_width : (whole : Database) (schema : Tables) (db : Database) → AllZip (TableMeets whole) schema db → (table : ℕ) (row : Row) → Contains (rows_of db table) row → length (kinds_at schema table) ≡ length row
 row_width whole [] [] h table row c = absurd (Contains-none row c)

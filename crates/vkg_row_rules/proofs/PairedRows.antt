@@ -2,13 +2,14 @@
 use Rattle.std.proofs.Common.{◌≡◌, ◌∙◌, ℕ, ◌+◌, ◌<◌, ◌&&◌, List, [], ◌∷◌, ◌++◌, map, length, refl, ap, arith}
 use Rattle.std.specs.Prelude.{Some, option_map, flat_map}
 use Rattle.std.specs.List.{list_all, AllByRecursion}
+use Rattle.vkg_lists.specs.Lists.{AllBelow}
+use Rattle.vkg_lists.specs.Options.{joined}
 use Rattle.vkg_expr.proofs.ReadBack.{truth_back}
 use Rattle.vkg_terms.specs.declared.term.Term.TheVariants as term
 use Rattle.vkg_terms.specs.Safe.{safe}
 use Rattle.vkg_terms.specs.Label.{blank_label}
-use Rattle.vkg_cells.specs.Form.{lexical_form, joined}
+use Rattle.vkg_cells.specs.Form.{lexical_form}
 use Rattle.vkg_cells.specs.Order.{same}
-use Rattle.vkg_schema.specs.Meets.{Below}
 use Rattle.vkg_schema.specs.Rows.{Row, cell_at, equal_at, agree, is_known_true}
 use Rattle.vkg_schema.proofs.RowCells.{cell_at-left, cell_at-right}
 use Rattle.vkg_maps.specs.declared.term_map.TermMap.{TermMap}
@@ -32,14 +33,14 @@ use Rattle.vkg_maps.specs.Within.{piece_columns, term_columns}
 -- ---- of the first
 
 module _ (r s : Row) where
-  pieces_before : (t : TermType) (ps : List TemplatePiece) → Below (length r) (flat_map piece_columns ps) → template_value t (r ++ s) ps ≡ template_value t r ps
+  pieces_before : (t : TermType) (ps : List TemplatePiece) → AllBelow (length r) (flat_map piece_columns ps) → template_value t (r ++ s) ps ≡ template_value t r ps
   pieces_before t [] h = refl
   pieces_before t (piece.Fixed text ∷ ps) h = ap (joined (Some text)) (pieces_before t ps h)
   pieces_before t (piece.Column c ∷ ps) h =
       ap (λ d. joined (option_map (put t) (lexical_form d)) (template_value t (r ++ s) ps)) (cell_at-left r s c h.0)
       ∙ ap (joined (option_map (put t) (lexical_form (cell_at r c)))) (pieces_before t ps h.1)
 
-  pub term_before : (base : List ℕ) (t : TermMap) → Below (length r) (term_columns t) → term_made base t (r ++ s) ≡ term_made base t r
+  pub term_before : (base : List ℕ) (t : TermMap) → AllBelow (length r) (term_columns t) → term_made base t (r ++ s) ≡ term_made base t r
   term_before base (from.Constant term) h = refl
   term_before base (from.Column c t) h = ap (λ d. where_value t (option_map (against base t) (lexical_form d))) (cell_at-left r s c h.0)
   term_before base (from.Template ps t) h = ap (where_value t) (pieces_before t ps h)

@@ -1,6 +1,7 @@
 -- Where a term map has no data error, its expression's value is its term.
 use Rattle.std.proofs.Common.{◌≡◌, ◌∙◌, ℕ, Bool, true, false, List, [], ◌∷◌, map, refl, sym, ap, append-nil}
 use Rattle.std.specs.Prelude.{Option, Some, None, option_map, if◌then◌else◌, Ok, Err}
+use Rattle.vkg_lists.specs.Options.{joined}
 use Rattle.vkg_terms.specs.declared.term.Annotation.TheVariants.{Plain, Lang, Typed}
 use Rattle.vkg_terms.specs.declared.term.Term.{Term}
 use Rattle.vkg_terms.specs.declared.term.Term.TheVariants.{Iri, Blank, Lit}
@@ -8,7 +9,7 @@ use Rattle.vkg_terms.specs.Iri.{is_absolute}
 use Rattle.vkg_terms.specs.Label.{blank_label}
 use Rattle.vkg_terms.specs.Safe.{safe}
 use Rattle.vkg_cells.specs.declared.cell.SqlType.{SqlType}
-use Rattle.vkg_cells.specs.Form.{lexical_form, joined}
+use Rattle.vkg_cells.specs.Form.{lexical_form}
 use Rattle.vkg_cells.specs.WellTyped.{is_well_typed, is_too_wide}
 use Rattle.vkg_schema.specs.Rows.{Row, cell_at}
 use Rattle.vkg_maps.specs.declared.data_fault.TermFault.TheVariants.{NotIri, IllTyped, TooWide}

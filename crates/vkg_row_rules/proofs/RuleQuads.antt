@@ -4,11 +4,11 @@ use Rattle.std.specs.Prelude.{Option, Some, None, option_map, filter, flat_map, 
 use Rattle.std.specs.Option.{option_to_list}
 use Rattle.std.specs.List.{list_all, cons_option, AllByRecursion}
 use Rattle.std.proofs.lemmas.List.Elements.{filter_map-append}
+use Rattle.vkg_lists.specs.Lists.{AllBelow}
 use Rattle.vkg_lists.proofs.Members.{Contains-here, Contains-there, Contains-from_filter, flat_map_agree_on}
-use Rattle.vkg_lists.proofs.Walks.{filter_map_is_flat_map, filter-flat_map, filter-map}
+use Rattle.vkg_lists.proofs.Walks.{filter_map_is_flat_map, filter-flat_map, filter-map, filter_map-map}
 use Rattle.vkg_terms.specs.NQuads.{Quad}
 use Rattle.vkg_cells.specs.declared.cell.SqlType.{SqlType}
-use Rattle.vkg_schema.specs.Meets.{Below}
 use Rattle.vkg_schema.specs.Rows.{Database, Row, rows_of as table_rows, agree}
 use Rattle.vkg_maps.specs.declared.quad_rule.Join.{Join}
 use Rattle.vkg_maps.specs.declared.quad_rule.QuadRule.{QuadRule}
@@ -32,10 +32,6 @@ module _ {A B C : Type 0} where
   filter_map-flat_map : (f : B → Option C) (g : A → List B) (xs : List A) → filter_map f (flat_map g xs) ≡ flat_map (λ x. filter_map f (g x)) xs
   filter_map-flat_map f g [] = refl
   filter_map-flat_map f g (x ∷ xs) = filter_map-append f (g x) (flat_map g xs) ∙ ap (λ l. filter_map f (g x) ++ l) (filter_map-flat_map f g xs)
-
-  filter_map-map : (f : B → Option C) (g : A → B) (xs : List A) → filter_map f (map g xs) ≡ filter_map (λ x. f (g x)) xs
-  filter_map-map f g [] = refl
-  filter_map-map f g (x ∷ xs) = ap (cons_option (f (g x))) (filter_map-map f g xs)
 
 module _ {A B : Type 0} where
   filter_map_agree_on : (f g : A → Option B) (xs : List A) → ((x : A) → Contains xs x → f x ≡ g x) → filter_map f xs ≡ filter_map g xs
@@ -67,7 +63,7 @@ module _ (base : List ℕ) (schema : Tables) (db : Database) where
 module _ (base : List ℕ) (ks : List SqlType) (r s : Row) (width : length ks ≡ length r) where
   pub before : (t : TermMap) → IsOver ks t → IsMade (term_made base t r) → term_at (row_term base ks t) (r ++ s) ≡ term_if_any (term_made base t r)
   before t h m =
-      let e = term_before r s base t (subst (λ n. Below n (term_columns t)) width h.columns) in
+      let e = term_before r s base t (subst (λ n. AllBelow n (term_columns t)) width h.columns) in
       row_term_value base ks t (r ++ s) (subst IsMade (sym e) m) ∙ ap term_if_any e
 
   pub behind : (ls : List SqlType) (t : TermMap) → IsMade (term_made base t s) → term_at (moved_term (length ks) (row_term base ls t)) (r ++ s) ≡ term_if_any (term_made base t s)

@@ -1,5 +1,6 @@
 pub mod Failing
 pub mod Faultless
+pub mod Fitting
 pub mod Forms
 pub mod Found
 pub mod One

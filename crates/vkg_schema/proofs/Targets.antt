@@ -1,6 +1,6 @@
 -- The form of a foreign key in which no check finds a fault.
 use Rattle.std.proofs.Common.{◌≡◌, ◌≢◌, ℕ, suc, ◌+◌, ◌<◌, Bool, true, false, not, ◌||◌, ◌&&◌, Option, Some, None, List, [], ◌∷◌, length, map, refl, sym, ap, ◌∙◌, subst, arith}
-use Rattle.std.specs.Prelude.{find, slice_get, unwrap_or, option_map, IfSome, IsTrue, nat_eq, ◌==◌}
+use Rattle.std.specs.Prelude.{find, slice_get, unwrap_or, option_map, IfSome, IsTrue, nat_eq, ◌==◌, is_none}
 use Rattle.std.specs.List.{list_any, list_all, AllByRecursion, Contains, range_with_len}
 use Rattle.std.proofs.lemmas.Bool.{eqb-true}
 use Rattle.std.proofs.lemmas.List.{length-map}
@@ -14,7 +14,6 @@ use Rattle.vkg_ddl.specs.declared.written.WrittenKey.{WrittenKey}
 use Rattle.vkg_ddl.specs.declared.written.WrittenReference.{WrittenReference}
 use Rattle.vkg_ddl.specs.declared.written.WrittenTable.{WrittenTable}
 use Rattle.vkg_ddl.specs.Formed.{HasColumns}
-use Rattle.vkg_lists.specs.Places.{is_nowhere}
 use Rattle.vkg_ddl.specs.NameChecks.{matches, column_place, one_place, one_column, names_column, names_table, name_twice, unknown_columns}
 use Rattle.vkg_ddl.specs.TypeChecks.{column_kind}
 use Rattle.vkg_ddl.specs.ReferenceChecks.{targets_in, are_columns, columns_fault, same_columns, are_key, key_fault, at_target, family_of, family_named, over_families, family_fault, family_at_target}
@@ -58,7 +57,7 @@ record IsRight (u : WrittenTable) (r : WrittenReference) (right : List Name) : T
   pub right_known : AreKnown u.columns right
   pub keyed : are_key u right ≡ true
 
-none_nowhere : (o : Option ℕ) → is_nowhere o ≡ true → o ≡ None
+none_nowhere : (o : Option ℕ) → is_none o ≡ true → o ≡ None
 none_nowhere None e = refl
 none_nowhere (Some at) e = absurd (cc)
 
@@ -66,8 +65,8 @@ right_of : (u : WrittenTable) (r : WrittenReference) (o : Option (List Name)) �
 right_of u r None e c k = absurd (cc)
 right_of u r (Some right) e c k =
     let whole : are_columns u r.columns right ≡ true = not_false (are_columns u r.columns right) (nowhere (not (are_columns u r.columns right)) r.first.at c) in
-    let outer = and_parts ((length right == length r.columns) && is_nowhere (unknown_columns u.columns right)) (is_nowhere (name_twice u.columns right)) whole in
-    let inner = and_parts (length right == length r.columns) (is_nowhere (unknown_columns u.columns right)) outer.0 in (
+    let outer = and_parts ((length right == length r.columns) && is_none (unknown_columns u.columns right)) (is_none (name_twice u.columns right)) whole in
+    let inner = and_parts (length right == length r.columns) (is_none (unknown_columns u.columns right)) outer.0 in (
       right,
       record {
         meant_so = e;

@@ -1,6 +1,7 @@
 -- What a tree of the grammar of queries names is numbered, and its terms are narrow, where its tokens are so.
 use Rattle.std.proofs.Common.{◌≡◌, ℕ, Bool, true, false, List, [], ◌∷◌, ◌++◌, fold, map, refl, sym, subst}
 use Rattle.std.specs.List.{AllByRecursion}
+use Rattle.vkg_lists.proofs.Members.{recursion_append, recursion_left, recursion_right}
 use Rattle.vkg_grammar.specs.Trees.{Tree, pair, first, second, present}
 use Rattle.vkg_terms.specs.declared.term.Term.TheVariants.{Iri}
 use Rattle.vkg_sparql.specs.declared.condition.Condition.{Condition as ConditionValue}
@@ -25,19 +26,6 @@ use Rattle.vkg_sparql.proofs.SeenForms.{seen-Variable, seen-Constant, seen-Bound
 use Rattle.vkg_sparql.proofs.Standing.{IsNode, IsOperand, IsVariable, is_node_kind, is_operand_kind, is_variable_kind}
 use Rattle.vkg_cells.specs.WellTyped.{is_wide_number}
 
-module _ {X : Type 0} (P : X → Type 0) where
-  pub all_append : (xs ys : List X) → AllByRecursion P xs → AllByRecursion P ys → AllByRecursion P (xs ++ ys)
-  all_append [] ys h k = k
-  all_append (x ∷ xs) ys h k = (h.0, all_append xs ys h.1 k)
-
-  pub all_left : (xs ys : List X) → AllByRecursion P (xs ++ ys) → AllByRecursion P xs
-  all_left [] ys h = tt
-  all_left (x ∷ xs) ys h = (h.0, all_left xs ys h.1)
-
-  pub all_right : (xs ys : List X) → AllByRecursion P (xs ++ ys) → AllByRecursion P ys
-  all_right [] ys h = h
-  all_right (x ∷ xs) ys h = all_right xs ys h.1
-
 -- a node whose number is that of a key of its kind, or whose term is narrow
 abbrev pub Fits : List (List ℕ) → Node → Type 0
 Fits keys (node.Variable n) = Marked keys n true
@@ -49,7 +37,7 @@ module _ (keys : List (List ℕ)) where
   Good xs = AllByRecursion (Fits keys) xs
 
   beside : (xs ys : List Node) → Good xs → Good ys → Good (xs ++ ys)
-  beside xs ys h k = all_append (Fits keys) xs ys h k
+  beside xs ys h k = recursion_append (Fits keys) xs ys h k
 
   fits_node : (m : Meaning) → IsNode keys m → Fits keys (node_of m)
   fits_node (meaning.Variable n) h = h
@@ -212,7 +200,7 @@ module _ (keys : List (List ℕ)) where
     AllFit ts = AllByRecursion FitTokens ts
 
     along : (ts us : List TripleTokens) → AllFit ts → AllFit us → AllFit (ts ++ us)
-    along ts us h k = all_append FitTokens ts us h k
+    along ts us h k = recursion_append FitTokens ts us h k
 
     good_patterns : (ts : List TripleTokens) → AllFit ts → Good (patterns_nodes (patterns_of ms ts))
     good_patterns [] h = tt
@@ -273,8 +261,8 @@ module _ (keys : List (List ℕ)) where
     good_parts_append : (ps qs : List PartValue) → GoodParts ps → GoodParts qs → GoodParts (ps ++ qs)
     good_parts_append [] qs h k = k
     good_parts_append (p ∷ ps) qs h k =
-        beside (part_nodes (part_seen p)) (group_nodes (group_seen (ps ++ qs))) (all_left (Fits keys) (part_nodes (part_seen p)) (group_nodes (group_seen ps)) h)
-        (good_parts_append ps qs (all_right (Fits keys) (part_nodes (part_seen p)) (group_nodes (group_seen ps)) h) k)
+        beside (part_nodes (part_seen p)) (group_nodes (group_seen (ps ++ qs))) (recursion_left (Fits keys) (part_nodes (part_seen p)) (group_nodes (group_seen ps)) h)
+        (good_parts_append ps qs (recursion_right (Fits keys) (part_nodes (part_seen p)) (group_nodes (group_seen ps)) h) k)
 
     by_part : (p : PartValue) {s : Part} → part_seen p ≡ s → Good (part_nodes s) → Good (part_nodes (part_seen p))
     by_part p e h = subst (λ x. Good (part_nodes x)) (sym e) h

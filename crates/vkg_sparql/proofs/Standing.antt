@@ -1,8 +1,9 @@
 -- What the tokens of a query mean, where no check fails of them.
-use Rattle.std.proofs.Common.{◌≡◌, ◌∙◌, ℕ, ◌≤◌, ◌||◌, ◌==◌, Bool, true, false, if◌then◌else◌, zero, suc, List, [], ◌∷◌, codes, drop, map, Option, Some, None, option_map, refl, sym, ap, subst, arith, eqb-true}
+use Rattle.std.proofs.Common.{◌≡◌, ◌∙◌, ℕ, ◌≤◌, ◌||◌, ◌==◌, Bool, true, false, if◌then◌else◌, zero, suc, List, [], ◌∷◌, codes, drop, Option, Some, None, option_map, refl, sym, ap, subst, arith, eqb-true}
 use Rattle.std.specs.Prelude.{slice_get}
 use Rattle.std.specs.Str.{str_to_ascii_lowercase}
 use Rattle.std.proofs.lemmas.Bool.{and_right}
+use Rattle.std.proofs.lemmas.Option.{slice_get-map}
 use Rattle.vkg_grammar.specs.Kinds.{kinds_of}
 use Rattle.vkg_cells.specs.WellTyped.{is_well_typed, is_too_wide, is_wide_number}
 use Rattle.vkg_terms.specs.Vocabulary.{xsd}
@@ -21,11 +22,6 @@ use Rattle.vkg_sparql.specs.Lexemes.{key_of, lexeme_of, lexeme_word, lexemes_of,
 use Rattle.vkg_sparql.specs.Literals.{is_term, meaning_of, meanings_of, operator_of, term_of}
 use Rattle.vkg_sparql.specs.Meanings.{meaning_at}
 use Rattle.vkg_sparql.proofs.Numbering.{Marked, is_variable_key, numbered}
-
-got-map : {X Y : Type 0} (f : X → Y) (xs : List X) (i : ℕ) → slice_get (map f xs) i ≡ option_map f (slice_get xs i)
-got-map f [] i = refl
-got-map f (x ∷ xs) zero = refl
-got-map f (x ∷ xs) (suc i) = got-map f xs i
 
 -- what stands behind the place i
 abbrev behind : {X : Type 0} → List X → ℕ → List X
@@ -209,10 +205,10 @@ record Stands (text : List ℕ) (tokens : List Token) (i k : ℕ) : Type 0 where
 
 stands_at : (text : List ℕ) (tokens : List Token) (i k : ℕ) (o : Option Token) → slice_get tokens i ≡ o → option_map (λ t. t.kind) o ≡ Some k → Stands text tokens i k
 stands_at text tokens i k None e h = absurd (cc)
-stands_at text tokens i k (Some t) e h = record { token = t; at = got-map (lexeme_of text) tokens i ∙ ap (option_map (lexeme_of text)) e; kind = cc }
+stands_at text tokens i k (Some t) e h = record { token = t; at = slice_get-map (lexeme_of text) tokens i ∙ ap (option_map (lexeme_of text)) e; kind = cc }
 
 stands : (text : List ℕ) (tokens : List Token) (i k : ℕ) → slice_get (kinds_of tokens) i ≡ Some k → Stands text tokens i k
-stands text tokens i k h = stands_at text tokens i k (slice_get tokens i) refl (sym (got-map (λ t. t.kind) tokens i) ∙ h)
+stands text tokens i k h = stands_at text tokens i k (slice_get tokens i) refl (sym (slice_get-map (λ t. t.kind) tokens i) ∙ h)
 
 module _ (text : List ℕ) (tokens : List Token) (e : Environment) (start : ℕ) where
   abbrev pub lexed : List Lexeme

@@ -1,5 +1,5 @@
 -- What may be wrong with a query that is a text of the grammar.
-use Rattle.std.specs.Prelude.{ℕ, Bool, true, false, ◌||◌, ◌&&◌, not, List, [], ◌∷◌, ◌++◌, codes, filter, fold, map, position, slice_get, Option, Some, None, option_map, if◌then◌else◌, ◌==◌, nat_le, nat_lt}
+use Rattle.std.specs.Prelude.{ℕ, Bool, false, ◌||◌, ◌&&◌, not, List, [], ◌∷◌, ◌++◌, codes, filter, fold, map, position, slice_get, Option, Some, None, option_map, if◌then◌else◌, ◌==◌, nat_le, nat_lt, is_none}
 use Rattle.std.specs.List.{list_any}
 use Rattle.std.specs.Str.{bytes_eq}
 use Rattle.vkg_lists.specs.Places.{earlier}
@@ -20,13 +20,9 @@ use Rattle.vkg_sparql.specs.Environment.{iri_of}
 use Rattle.vkg_sparql.specs.Literals.{term_of}
 use Rattle.vkg_cells.specs.WellTyped.{is_wide_number}
 
-abbrev pub is_missing : Option (List ℕ) → Bool
-is_missing None = true
-is_missing (Some iri) = false
-
 -- a name whose prefix is not declared
 abbrev pub is_unknown : Environment → Word → Bool
-is_unknown e (Name prefix local) = is_missing (iri_of e (Name prefix local))
+is_unknown e (Name prefix local) = is_none (iri_of e (Name prefix local))
 is_unknown e word = false
 
 abbrev pub is_relative : Option (List ℕ) → Bool

@@ -1,6 +1,7 @@
 -- Which bytes are a query, what it says, and the first fault of others.
 use Rattle.std.specs.Prelude.{◌≡◌, ℕ, Bool, ◌||◌, List, [], ◌∷◌, drop, length, map, slice_index_or, IsUtf8, Option, Some, None, Ok, Err, if◌then◌else◌, ◌==◌, nat_le, ◌&&◌, Result}
 use Rattle.std.specs.Str.Lossy.{utf8_valid_len}
+use Rattle.std.specs.Option.{option_or}
 use Rattle.vkg_grammar.specs.Form.{Form, IsTooDeep, IsShallow}
 use Rattle.vkg_grammar.specs.Kinds.{kinds_of, start_at}
 use Rattle.vkg_grammar.specs.OneTree.{IsTheTree}
@@ -80,10 +81,6 @@ abbrev pub fault_if : ℕ → Option ℕ → Option QueryFault → Option QueryF
 fault_if check None later = later
 fault_if check (Some at) later = Some (fault check at)
 
-abbrev pub or_first : Option ℕ → Option ℕ → Option ℕ
-or_first None later = later
-or_first (Some at) later = Some at
-
 -- the least place at which a limit is passed
 abbrev pub limit_over : Read → Option ℕ
 limit_over r = lesser (lesser (triples_over r.lexemes (query_triples r.tree)) (nodes_over r.lexemes)) (lesser r.named.over (size_over r.size))
@@ -93,7 +90,7 @@ limit_over r = lesser (lesser (triples_over r.lexemes (query_triples r.tree)) (n
 abbrev pub fault_of : Read → Option QueryFault
 fault_of r =
     fault_if 4 (first_place Unknown r.environment r.body)
-    (fault_if 5 (or_first r.environment.relative (first_place Relative r.environment r.body))
+    (fault_if 5 (option_or r.environment.relative (first_place Relative r.environment r.body))
     (fault_if 6 (label_again r.body)
     (fault_if 7 (first_place Float r.environment r.body)
     (fault_if 8 (first_place Wide r.environment r.body)

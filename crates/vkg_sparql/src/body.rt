@@ -1,4 +1,5 @@
 ghost use Rattle.std.specs.Prelude.{◌≡◌, ◌<◌, drop, length, Ok, None, IfOk, IfErr};
+ghost use Rattle.std.specs.Option.{option_or};
 ghost use Rattle.vkg_grammar.specs.Forest.{tree, node_count};
 ghost use Rattle.vkg_grammar.specs.Form.{IsShallow};
 ghost use Rattle.vkg_grammar.specs.Kinds.{kinds_of};
@@ -8,7 +9,7 @@ ghost use Rattle.vkg_lists.specs.Places.{lesser as lesser_of};
 ghost use Rattle.vkg_sparql.specs.Groups.{query_value, query_triples};
 ghost use Rattle.vkg_sparql.specs.Lexemes.{lexemes_of};
 ghost use Rattle.vkg_sparql.specs.Literals.{meanings_of};
-ghost use Rattle.vkg_sparql.specs.Reading.{IsQueryText, TextFails, sparql, sparql_tokens, parts, fault_if, or_first, fault_of};
+ghost use Rattle.vkg_sparql.specs.Reading.{IsQueryText, TextFails, sparql, sparql_tokens, parts, fault_if, fault_of};
 
 use crate::blocks::label_again;
 use crate::checks::{Check, first_place, nodes_over, size_over, triples_over};
@@ -31,15 +32,6 @@ fn fault_if(check: u8, at: Option<usize>, later: Option<QueryFault>) -> Option<Q
     match at {
         None => later,
         Some(at) => Some(QueryFault { check, at }),
-    }
-}
-
-fn or_first(first: Option<usize>, later: Option<usize>) -> Option<usize>
-    ensures { result ≡ or_first first later }
-{
-    match first {
-        None => later,
-        Some(at) => Some(at),
     }
 }
 
@@ -95,7 +87,7 @@ fn fault_of(
     let limit = limit_over(alloc, size, lexemes, named.over, forest, at)?;
     let numbers = fault_if(8, wide, fault_if(9, limit, None));
     let labels = fault_if(6, again, fault_if(7, float, numbers));
-    let iris = fault_if(5, or_first(environment.relative, relative), labels);
+    let iris = fault_if(5, environment.relative.or(relative), labels);
     Ok(fault_if(4, unknown, iris))
 }
 

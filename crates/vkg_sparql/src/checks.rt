@@ -1,5 +1,5 @@
-ghost use Rattle.std.specs.Prelude.{◌≡◌, ◌&&◌, IfOk, map, filter, option_map, slice_get};
-ghost use Rattle.vkg_sparql.specs.Checks.{is_missing, is_unknown, is_relative, is_float_type, is_float, is_literal, fails, first_place, is_node, node_places, place_in, subject_place, triples_over, nodes_over, size_over};
+ghost use Rattle.std.specs.Prelude.{◌≡◌, ◌&&◌, IfOk, map, filter, option_map, slice_get, is_none};
+ghost use Rattle.vkg_sparql.specs.Checks.{is_unknown, is_relative, is_float_type, is_float, is_literal, fails, first_place, is_node, node_places, place_in, subject_place, triples_over, nodes_over, size_over};
 ghost use Rattle.vkg_sparql.specs.Environment.{iri_of};
 
 use crate::environment::Environment;
@@ -29,22 +29,13 @@ const XSD_DOUBLE: &str = "http://www.w3.org/2001/XMLSchema#double";
 
 const XSD_FLOAT: &str = "http://www.w3.org/2001/XMLSchema#float";
 
-fn is_missing(iri: &Option<Text>) -> bool
-    ensures { result ≡ is_missing iri.now }
-{
-    match iri {
-        None => true,
-        Some(_) => false,
-    }
-}
-
 fn is_unknown(alloc: Global, environment: &Environment, word: &Word) -> Result<bool, Memory>
     ensures { IfOk result (λ b. b ≡ is_unknown environment.now word.now) }
 {
     match word {
         Word::Name(_, _) => {
             let iri = environment.iri_of(alloc, word)?;
-            Ok(is_missing(&iri))
+            Ok(iri.is_none())
         }
         _ => Ok(false),
     }

@@ -9,28 +9,11 @@ use Rattle.std.proofs.lemmas.Bool.Decides.{nat_tests}
 use Rattle.std.proofs.lemmas.Fmt.{decimal_is_IsNumeral}
 use Rattle.std.proofs.lemmas.Str.{encode_same}
 use Rattle.std.proofs.lemmas.Str.Parse.{tells_digits}
+use Rattle.vkg_lists.proofs.Runs.{stops}
 use Rattle.vkg_lists.proofs.Bools.{and_parts, and_true}
 use Rattle.vkg_lists.proofs.Heads.{head_same, tail_same}
 use Rattle.vkg_sqltext.specs.Text.{doubled, quoted}
 use Rattle.vkg_terms.proofs.TextLemmas.{chars_same, starts}
-
--- it does not go on with a byte of this kind
-abbrev pub stops : (ℕ → Bool) → List ℕ → Bool
-stops p [] = true
-stops p (b ∷ bs) = not (p b)
-
-passes_not : (b c : Bool) → (b && c) ≡ true → not b ≡ true → ⊥
-passes_not true c h k = absurd (cc)
-passes_not false c h k = absurd (cc)
-
--- the longest runs of bytes of a kind
-pub run_same : (p : ℕ → Bool) (v w x y : List ℕ) → list_all p v ≡ true → list_all p w ≡ true → stops p x ≡ true → stops p y ≡ true → v ++ x ≡ w ++ y → (v ≡ w) × (x ≡ y)
-run_same p [] [] x y h k s t e = (refl, e)
-run_same p [] (b ∷ w) x y h k s t e = absurd (passes_not (p b) (list_all p w) k (subst (λ z. stops p z ≡ true) e s))
-run_same p (a ∷ v) [] x y h k s t e = absurd (passes_not (p a) (list_all p v) h (subst (λ z. stops p z ≡ true) (sym e) t))
-run_same p (a ∷ v) (b ∷ w) x y h k s t e =
-    let r = run_same p v w x y (and_parts (p a) (list_all p v) h).1 (and_parts (p b) (list_all p w) k).1 s t (tail_same a b (v ++ x) (w ++ y) e) in
-    ((λ i. head_same a b (v ++ x) (w ++ y) e i ∷ r.0 i), r.1)
 
 -- bytes of another kind stand between
 pub stops_behind : (p q : ℕ → Bool) (w x : List ℕ) → list_all q w ≡ true → ((b : ℕ) → q b ≡ true → p b ≡ false) → stops p x ≡ true → stops p (w ++ x) ≡ true

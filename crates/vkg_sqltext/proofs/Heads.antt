@@ -8,6 +8,7 @@ use Rattle.std.proofs.lemmas.Bool.Decides.{nat_tests}
 use Rattle.std.proofs.lemmas.List.{append_cancel_left}
 use Rattle.std.proofs.lemmas.Str.{IsUtf8-append, IsUtf8-from_ascii}
 use Rattle.std.proofs.lemmas.Fmt.{decimal_injective}
+use Rattle.vkg_lists.proofs.Runs.{stops, run_same}
 use Rattle.vkg_lists.proofs.Bools.{and_parts}
 use Rattle.vkg_lists.proofs.Heads.{head_same, tail_same}
 use Rattle.vkg_terms.specs.declared.term.Annotation.{Annotation}
@@ -34,7 +35,7 @@ use Rattle.vkg_expr.specs.Typing.{fits}
 use Rattle.vkg_expr.specs.TermExprs.{text_const}
 use Rattle.vkg_sqltext.specs.Laws.{HoldsAnnotation, HoldsCell}
 use Rattle.vkg_sqltext.specs.Text.{commas, compare_text, constant_text, expr_text, expr_texts, kind_text, operator_text, quoted, take_text, test_text}
-use Rattle.vkg_sqltext.proofs.Cutting.{decimal_digits, is_digit, quoted_same, run_same, stops, stops_behind}
+use Rattle.vkg_sqltext.proofs.Cutting.{decimal_digits, is_digit, quoted_same, stops_behind}
 
 -- what stands behind the word: nothing, a quoted text, one without a word, a number, a kind, a term, or arguments
 data Head : Type 0 where

@@ -4,6 +4,7 @@ use Rattle.std.specs.Prelude.{chars, codes, decimal}
 use Rattle.std.specs.List.{list_all}
 use Rattle.std.specs.Str.{bytes_eq}
 use Rattle.std.proofs.lemmas.List.{append_cancel_left}
+use Rattle.vkg_lists.proofs.Runs.{stops, run_same}
 use Rattle.vkg_lists.proofs.Heads.{head_same, tail_same}
 use Rattle.vkg_cells.specs.declared.cell.SqlType.{SqlType}
 use Rattle.vkg_cells.specs.declared.cell.SqlType.TheVariants as kind
@@ -13,7 +14,7 @@ use Rattle.vkg_plan.specs.Kinds.{Tables}
 use Rattle.vkg_plan.specs.Plan.{Plan, Plans, Unit as Once, Empty, Scan, Select, Project, Join, Left, UnionAll, Distinct, Nil, More}
 use Rattle.vkg_sqltext.specs.Laws.{HaveOwnTexts}
 use Rattle.vkg_sqltext.specs.Text.{column_text, commas, doubled, expr_text, in_brackets, kind_text, outputs, outputs_text, separated, sources, sql_text, sql_texts}
-use Rattle.vkg_sqltext.proofs.Cutting.{decimal_opens, run_same, stops, within_same}
+use Rattle.vkg_sqltext.proofs.Cutting.{decimal_opens, within_same}
 use Rattle.vkg_sqltext.proofs.Heads.{Begins, Ends, SoundExprs, at_bracket, at_end, at_space, begins, class, expr_one, is_letter, kind_same, not_begun}
 use Rattle.vkg_sqltext.proofs.Sound.{SoundPlan, SoundPlans, sound_plan}
 

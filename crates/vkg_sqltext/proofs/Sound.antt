@@ -1,15 +1,17 @@
 -- What the typing of a plan says of its parts.
 use Rattle.std.proofs.Common.{◌≡◌, ℕ, ◌<◌, ◌==◌, ◌&&◌, Bool, true, false, if◌then◌else◌, zero, suc, List, [], ◌∷◌, length, Option, Some, None, option_map, option_and_then, is_some, refl, ap, arith}
 use Rattle.std.specs.Prelude.{slice_get}
+use Rattle.vkg_lists.proofs.Onto.{first_some, both_some}
+use Rattle.vkg_lists.specs.Options.{joined}
 use Rattle.vkg_lists.proofs.Bools.{and_parts}
 use Rattle.vkg_cells.specs.declared.cell.SqlType.{SqlType}
 use Rattle.vkg_cells.specs.declared.cell.SqlType.TheVariants as kind
 use Rattle.vkg_expr.specs.Expr.{Expr, Exprs, Col, Const, MakeIri, IriOf, MakeBlank, MakeLit, Lex, IriSafe, Concat, Same, IsNull, Not, And, Or, Coalesce, Sparql, Ebv, each, exprs}
 use Rattle.vkg_expr.specs.Expr as expr
-use Rattle.vkg_expr.specs.Typing.{are_all, arity, common, equality_kind, fits, giving, is_one, kind_of, kinds_of, lexical_kind, no_column, with_kind}
-use Rattle.vkg_plan.specs.Kinds.{Kinds, Tables, beside_all, beside_two, checked, kinds_of_each, plan_kinds}
+use Rattle.vkg_expr.specs.Typing.{are_all, arity, common, equality_kind, fits, giving, is_one, kind_of, kinds_of, lexical_kind, no_column}
+use Rattle.vkg_plan.specs.Kinds.{Kinds, Tables, beside_all, checked, kinds_of_each, plan_kinds}
 use Rattle.vkg_plan.specs.Plan.{Plan, Plans, Unit as Once, Empty, Scan, Select, Project, Join, Left, UnionAll, Distinct, Nil, More}
-use Rattle.vkg_plan.proofs.KindLists.{alike_some, beside_some, first_some}
+use Rattle.vkg_plan.proofs.KindLists.{alike_some, beside_some}
 use Rattle.vkg_sqltext.specs.Laws.{HoldsExpr, HoldsExprs, HoldsPlan, HoldsPlans}
 use Rattle.vkg_sqltext.proofs.Heads.{SoundExpr, SoundExprs}
 
@@ -41,10 +43,6 @@ common_some : (o : Option (List SqlType)) → is_some (common o) ≡ true → is
 common_some None h = absurd (cc)
 common_some (Some ks) h = refl
 
-with_some : (o : Option SqlType) (p : Option (List SqlType)) → is_some (with_kind o p) ≡ true → (is_some o ≡ true) × (is_some p ≡ true)
-with_some (Some k) (Some ls) h = (refl, refl)
-with_some o p h = absurd (cc)
-
 mutual
   pub sound_expr : (e : Expr) (ks : List SqlType) → is_some (kind_of e ks) ≡ true → HoldsExpr e → SoundExpr e
   sound_expr (Col at) ks h w = w
@@ -70,7 +68,7 @@ mutual
   pub sound_exprs : (es : Exprs) (ks : List SqlType) → is_some (kinds_of es ks) ≡ true → HoldsExprs es → SoundExprs es
   sound_exprs expr.Nil ks h w = tt
   sound_exprs (expr.More e es) ks h w =
-      let s = with_some (kind_of e ks) (kinds_of es ks) h in
+      let s = first_some (kind_of e ks) (kinds_of es ks) h in
       (sound_expr e ks s.0 w.0, sound_exprs es ks s.1 w.1)
 
 -- ---- plans
@@ -106,10 +104,6 @@ checked_some : (c : Expr) (o : Option Kinds) → is_some (checked c o) ≡ true 
 checked_some c None h = absurd (cc)
 checked_some c (Some ks) h = record { kinds = ks; is = refl; truth = one_some kind.Bool (kind_of c ks) (kept_some (is_one kind.Bool (kind_of c ks)) ks h) }
 
-two_some : (o p : Option Kinds) → is_some (beside_two o p) ≡ true → (is_some o ≡ true) × (is_some p ≡ true)
-two_some (Some ks) (Some ls) h = (refl, refl)
-two_some o p h = absurd (cc)
-
 record Followed {A B : Type 0} (f : A → Option B) (o : Option A) : Type 0 where
   value : A
   is : o ≡ Some value
@@ -142,8 +136,8 @@ mutual
       let parts = first_some (plan_kinds schema p) (kinds_of_each schema ps) (beside_some (kinds_of_each schema (More p ps)) (ap is_some s.is)) in
       (sound_plan schema p parts.0 w.0.0, sound_plans schema ps parts.1 w.0.1, sound_expr c s.kinds s.truth w.1)
   sound_plan schema (Left p q c) h w =
-      let s = checked_some c (beside_two (plan_kinds schema p) (plan_kinds schema q)) h in
-      let parts = two_some (plan_kinds schema p) (plan_kinds schema q) (ap is_some s.is) in
+      let s = checked_some c (joined (plan_kinds schema p) (plan_kinds schema q)) h in
+      let parts = both_some (plan_kinds schema p) (plan_kinds schema q) (ap is_some s.is) in
       (sound_plan schema p parts.0 w.0, sound_plan schema q parts.1 w.1, sound_expr c s.kinds s.truth w.2)
   sound_plan schema (UnionAll Nil) h w = absurd (cc)
   sound_plan schema (UnionAll (More p ps)) h w =

@@ -4,19 +4,21 @@ use Rattle.std.specs.Prelude.{Result, Ok, Err, count_by, position, slice_get}
 use Rattle.std.specs.List.{enumerate_from, flat_map, list_any, position_from}
 use Rattle.std.specs.Str.{bytes_eq, is_utf8}
 use Rattle.std.proofs.lemmas.Iterator.Adapters.{position_from-zero}
+use Rattle.std.specs.Option.{option_or}
+use Rattle.vkg_lists.specs.Results.{unless}
 use Rattle.csv.specs.Reading.{default_config, records, strip_bom}
 use Rattle.vkg_cells.specs.declared.cell.Cell.{Cell}
 use Rattle.vkg_cells.specs.declared.cell.FieldFault.{FieldFault}
 use Rattle.vkg_schema.specs.declared.table.Column.{Column}
 use Rattle.vkg_schema.specs.Rows.{is_null}
 use Rattle.vkg_tables.specs.Field.{cell_of_csv}
-use Rattle.vkg_tables.specs.Steps.{cells_from, checked, file_from, onto, or_else, row_from, rows_from, table_from, table_of_records, unless}
-use Rattle.vkg_tables.specs.TableFile.{cell_or_null, fault, faults_of_read, field_faults, field_under, not_once_faults, record_faults, row_faults, row_of, rows_of_records, table_of_bytes, unknown_faults, unless_fault}
+use Rattle.vkg_tables.specs.Steps.{cells_from, checked, file_from, onto, row_from, rows_from, table_from, table_of_records}
+use Rattle.vkg_tables.specs.TableFile.{cell_or_null, fault, faults_of_read, field_faults, field_under, not_once_faults, record_faults, row_faults, row_of, rows_of_records, table_of_bytes, unknown_faults}
 use Rattle.vkg_tables.specs.declared.fault.FileFault.{FileFault}
 
 -- the value, or the first of the faults
 abbrev settled : {A : Type 0} → List FileFault → A → Result A FileFault
-settled faults x = unless_fault (slice_get faults 0) x
+settled faults x = unless (slice_get faults 0) (Ok x)
 
 onto-settled : {A : Type 0} (fs gs : List FileFault) (x : A) (xs : List A) → onto (settled fs x) (settled gs xs) ≡ settled (fs ++ gs) (x ∷ xs)
 onto-settled [] [] x xs = refl
@@ -74,7 +76,7 @@ module _ {A : Type 0} (q : A → Bool) (check : ℕ) where
   first-failing xs = ap (option_map (λ k. fault check 0 (k + 1))) (position_from-zero (λ x. not (q x)) xs) ∙ first-from 0 xs
 
 either-first : {A : Type 0} (fs gs hs : List FileFault) (x : A) (r : Result A FileFault) → r ≡ settled hs x
-    → unless (or_else (slice_get fs 0) (slice_get gs 0)) r ≡ settled (fs ++ (gs ++ hs)) x
+    → unless (option_or (slice_get fs 0) (slice_get gs 0)) r ≡ settled (fs ++ (gs ++ hs)) x
 either-first [] [] hs x r e = e
 either-first [] (g ∷ gs) hs x r e = refl
 either-first (f ∷ fs) gs hs x r e = refl
@@ -82,7 +84,7 @@ either-first (f ∷ fs) gs hs x r e = refl
 table-settled : (columns : List Column) (recs : List (List (List ℕ))) → table_from columns recs ≡ settled (record_faults columns recs) (rows_of_records columns recs)
 table-settled columns [] = refl
 table-settled columns (header ∷ rows) =
-    ap₂ (λ a b. unless (or_else a b) (rows_from header columns 1 rows))
+    ap₂ (λ a b. unless (option_or a b) (rows_from header columns 1 rows))
     (first-failing (λ f. list_any (λ c. bytes_eq c.name f) columns) 2 header)
     (first-failing (λ c. count_by (λ f. bytes_eq f c.name) header == 1) 3 columns)
     ∙ either-first (unknown_faults columns header) (not_once_faults columns header) _ _ _ (rows-settled header columns 1 rows)

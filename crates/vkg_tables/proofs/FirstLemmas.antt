@@ -1,12 +1,13 @@
 -- The walk to the first element that passes a test.
-use Rattle.std.proofs.Common.{◌≡◌, ◌∙◌, ◌+◌, ◌<◌, ◌++◌, ℕ, zero, suc, Bool, true, false, not, List, [], ◌∷◌, Option, Some, None, if◌then◌else◌, refl, sym, ap, ap₂, subst, arith, length, get_or, take, drop, add-one, drop-cons, map, string_bytes, String, Vec}
+use Rattle.std.proofs.Common.{◌≡◌, ◌∙◌, ◌+◌, ◌<◌, ◌++◌, ℕ, Bool, true, false, not, List, [], ◌∷◌, Option, Some, None, if◌then◌else◌, refl, sym, ap, ap₂, subst, arith, length, get_or, take, drop, add-one, drop-cons, map, string_bytes, String, Vec}
 use Rattle.std.proofs.lemmas.List.{take_more, length-take-le, map-append}
 use Rattle.std.specs.List.{AllByRecursion, list_any}
+use Rattle.std.specs.Option.{option_to_list}
 use Rattle.vkg_lists.proofs.Members.{recursion_at, recursion_push}
 use Rattle.vkg_schema.specs.Rows.{Row}
 use Rattle.vkg_tables.specs.Checks.{is_orphan, repeats}
 use Rattle.vkg_tables.specs.Firsts.{first_after}
-use Rattle.vkg_tables.specs.Parts.{HasNoTerm, all_parts, is_missing, one_or_none, parts, texts_eq, texts_of}
+use Rattle.vkg_tables.specs.Parts.{HasNoTerm, all_parts, is_missing, parts, texts_eq, texts_of}
 use Rattle.vkg_tables.proofs.PartsLemmas.{all_parts-more, found, orphan-missing, repeats-found}
 
 module _ {A : Type 0} (p : List A → A → Bool) (xs : List A) (i : ℕ) (x : A) (whole : Option ℕ) (h : i < length xs) (e : x ≡ get_or xs i x) where
@@ -44,7 +45,7 @@ orphan-known pairs targets rows i row a h e = orphan-missing pairs targets row (
 
 -- the parts of one row more
 pub parts-next : (columns : List ℕ) (rows : List Row) (i : ℕ) (row : Row) → i < length rows → row ≡ get_or rows i row
-    → all_parts columns (take (i + 1) rows) ≡ all_parts columns (take i rows) ++ one_or_none (parts columns row)
+    → all_parts columns (take (i + 1) rows) ≡ all_parts columns (take i rows) ++ option_to_list (parts columns row)
 parts-next columns rows i row h e = ap (all_parts columns) (take-next (λ b r. true) rows i row None h e) ∙ all_parts-more columns (take i rows) row
 
 -- a set with a list of strings that it lacked

@@ -4,6 +4,8 @@ use Rattle.std.specs.Prelude.{Result, Ok, Err, OnErr, OnOk, ◌++◌, slice_get,
 use Rattle.std.proofs.lemmas.Str.{IsUtf8-nil, IsUtf8-from_is_utf8}
 use Rattle.std.specs.List.{AllByRecursion, AllZip}
 use Rattle.std.specs.Str.{is_utf8}
+use Rattle.vkg_lists.proofs.Members.{zip_length, recursion_push}
+use Rattle.vkg_lists.specs.Results.{unless}
 use Rattle.csv.specs.Reading.{default_config, records, strip_bom}
 use Rattle.csv.specs.Records.{AllText, field_at}
 use Rattle.vkg_tables.specs.Texts.{AreTexts}
@@ -27,7 +29,7 @@ use Rattle.vkg_schema.specs.Meets.{FitsColumn, IsColumn, IsTable, IsWellFormed}
 use Rattle.vkg_schema.specs.Rows.{Row, is_null, rows_of}
 use Rattle.vkg_tables.specs.Field.{cell_of_csv, stands_for_null}
 use Rattle.vkg_tables.specs.Field.{field_of}
-use Rattle.vkg_tables.specs.Steps.{cells_from, checked, field_cell, file_from, header_fault, onto, place_in, row_from, rows_from, table_from, table_of_records, unless}
+use Rattle.vkg_tables.specs.Steps.{cells_from, checked, field_cell, file_from, header_fault, onto, place_in, row_from, rows_from, table_from, table_of_records}
 use Rattle.vkg_tables.specs.TableFile.{fault}
 use Rattle.vkg_tables.specs.TableFile.{table_of_bytes}
 use Rattle.vkg_tables.specs.Parts.{HasNoTerm, IsNoTerm}
@@ -115,10 +117,7 @@ pub database-NoTerm : (tables : List Table) (db : List (List Row)) → IsWellFor
 database-NoTerm tables db h f = tables-NoTerm tables tables db h f
 
 pub same-length : (tables : List Table) (db : List (List Row)) → HoldsCells tables db → length db ≡ length tables
-same-length [] [] h = refl
-same-length [] (r ∷ db) h = absurd h
-same-length (t ∷ ts) [] h = absurd h
-same-length (t ∷ ts) (r ∷ db) h = ap suc (same-length ts db h.1)
+same-length tables db h = sym (zip_length HoldsRows tables db h)
 
 -- ---- what is read fits
 of-kind : (k : SqlType) (text : List ℕ) (c : Cell) → IsUtf8 text → cell_of_field k text ≡ Ok c → IsOfKind k c
@@ -221,16 +220,9 @@ columns-there [] i d l = absurd (omega (arith, l))
 columns-there (t ∷ ts) zero d l = refl
 columns-there (t ∷ ts) (suc i) d l = columns-there ts i d (omega (arith, l))
 
--- ---- a row of a table
-zip-length : (columns : List Column) (row : Row) → AllZip FitsColumn columns row → length row ≡ length columns
-zip-length [] [] h = refl
-zip-length [] (c ∷ cs) h = absurd h
-zip-length (k ∷ ks) [] h = absurd h
-zip-length (k ∷ ks) (c ∷ cs) h = ap suc (zip-length ks cs h.1)
-
 row-width : (columns : List Column) (rows : List Row) (row : ℕ) (d : Row) → AllByRecursion (AllZip FitsColumn columns) rows → row < length rows → length (get_or rows row d) ≡ length columns
 row-width columns [] row d h l = absurd (omega (arith, l))
-row-width columns (r ∷ rs) zero d h l = zip-length columns r h.0
+row-width columns (r ∷ rs) zero d h l = sym (zip_length FitsColumn columns r h.0)
 row-width columns (r ∷ rs) (suc row) d h l = row-width columns rs row d h.1 (omega (arith, l))
 
 -- a row has a cell for each column of its table
@@ -247,15 +239,10 @@ list-there [] i d l = absurd (omega (arith, l))
 list-there (x ∷ xs) zero d l = refl
 list-there (x ∷ xs) (suc i) d l = list-there xs i d (omega (arith, l))
 
--- ---- one row more
-rows-pushed : (columns : List Column) (rows : List Row) (row : Row) → AllByRecursion (AllZip FitsColumn columns) rows → AllZip FitsColumn columns row → AllByRecursion (AllZip FitsColumn columns) (rows ++ row ∷ [])
-rows-pushed columns [] row h f = (f, tt)
-rows-pushed columns (r ∷ rs) row h f = (h.0, rows-pushed columns rs row h.1 f)
-
 pub pushed-holds : (tables : List Table) (db : List (List Row)) (i : ℕ) (row : Row) → i < length tables → HoldsCells tables db → AllZip FitsColumn (columns_of tables i) row → HoldsCells tables (slice_set db i (rows_of db i ++ row ∷ []))
 pushed-holds [] db i row l h f = absurd (omega (arith, l))
 pushed-holds (t ∷ ts) [] i row l h f = absurd h
-pushed-holds (t ∷ ts) (rows ∷ db) zero row l h f = (rows-pushed t.columns rows row h.0 f, h.1)
+pushed-holds (t ∷ ts) (rows ∷ db) zero row l h f = (recursion_push (AllZip FitsColumn t.columns) rows row h.0 f, h.1)
 pushed-holds (t ∷ ts) (rows ∷ db) (suc i) row l h f = (h.0, pushed-holds ts db i row (omega (arith, l)) h.1 f)
 
 pub set-same : (db : List (List Row)) (i : ℕ) → slice_set db i (rows_of db i) ≡ db

@@ -1,8 +1,10 @@
 -- Walks over columns and over records.
-use Rattle.std.proofs.Common.{◌≡◌, ◌∙◌, ◌+◌, ◌<◌, ◌≤◌, ◌++◌, ℕ, zero, suc, Bool, true, false, List, [], ◌∷◌, Option, Some, None, if◌then◌else◌, refl, sym, ap, arith, length, get_or, drop, add-one, drop-cons, nat_lt, map, position, append_assoc, IsUtf8, le-ltb}
+use Rattle.std.proofs.Common.{◌≡◌, ◌∙◌, ◌+◌, ◌<◌, ◌≤◌, ◌++◌, ℕ, zero, suc, Bool, true, false, List, [], ◌∷◌, Option, Some, None, if◌then◌else◌, refl, sym, ap, arith, length, get_or, drop, add-one, drop-cons, nat_lt, map, position, IsUtf8, le-ltb}
 use Rattle.std.proofs.lemmas.List.{append-nil, get_or-map}
 use Rattle.std.specs.Prelude.{Result, Ok, Err}
 use Rattle.std.specs.List.{position_or_len}
+use Rattle.vkg_lists.proofs.Results.{followed_first}
+use Rattle.vkg_lists.specs.Results.{followed_by, in_front}
 use Rattle.vkg_tables.specs.declared.fault.FileFault.{FileFault}
 use Rattle.vkg_tables.specs.declared.fault.FileError.{FileError}
 use Rattle.vkg_tables.specs.declared.fault.FileError.TheVariants as file_error
@@ -34,31 +36,22 @@ module _ {A : Type 0} (p : A → Bool) where
       by true h e = cc e
       by false h e = grind (arith, h, place-le xs)
 
--- what is done already, in front of the rest
-abbrev pub after : {A : Type 0} → List A → Result (List A) FileFault → Result (List A) FileFault
-after xs (Ok ys) = Ok (xs ++ ys)
-after xs (Err f) = Err f
-
 module _ {A : Type 0} where
-  onto-after : (xs : List A) (x : A) (r : Result (List A) FileFault) → after (xs ++ x ∷ []) r ≡ after xs (onto (Ok x) r)
-  onto-after xs x (Ok ys) = ap Ok (append_assoc xs (x ∷ []) ys)
-  onto-after xs x (Err f) = refl
+  onto-in_front : (x : A) (r : Result (List A) FileFault) → onto (Ok x) r ≡ in_front x r
+  onto-in_front x (Ok ys) = refl
+  onto-in_front x (Err f) = refl
 
   -- one more is done
-  pub walk-step : (xs : List A) (x : A) (one : Result A FileFault) (rest whole : Result (List A) FileFault) → one ≡ Ok x → after xs (onto one rest) ≡ whole → after (xs ++ x ∷ []) rest ≡ whole
-  walk-step xs x one rest whole e w = onto-after xs x rest ∙ ap (λ r. after xs (onto r rest)) (sym e) ∙ w
+  pub walk-step : (xs : List A) (x : A) (one : Result A FileFault) (rest whole : Result (List A) FileFault) → one ≡ Ok x → followed_by xs (onto one rest) ≡ whole → followed_by (xs ++ x ∷ []) rest ≡ whole
+  walk-step xs x one rest whole e w = sym (followed_first xs x rest) ∙ ap (followed_by xs) (sym (onto-in_front x rest)) ∙ ap (λ r. followed_by xs (onto r rest)) (sym e) ∙ w
 
   -- the next one fails
-  pub walk-fails : (xs : List A) (one : Result A FileFault) (rest whole : Result (List A) FileFault) (e : FileError) → FailsAs one e → after xs (onto one rest) ≡ whole → FailsAs whole e
+  pub walk-fails : (xs : List A) (one : Result A FileFault) (rest whole : Result (List A) FileFault) (e : FileError) → FailsAs one e → followed_by xs (onto one rest) ≡ whole → FailsAs whole e
   walk-fails xs one rest whole file_error.Memory h w = tt
-  walk-fails xs one rest whole (file_error.Fault f) h w = sym w ∙ ap (λ r. after xs (onto r rest)) h
+  walk-fails xs one rest whole (file_error.Fault f) h w = sym w ∙ ap (λ r. followed_by xs (onto r rest)) h
 
-  pub walk-end : (xs : List A) (whole : Result (List A) FileFault) → after xs (Ok []) ≡ whole → whole ≡ Ok xs
+  pub walk-end : (xs : List A) (whole : Result (List A) FileFault) → followed_by xs (Ok []) ≡ whole → whole ≡ Ok xs
   walk-end xs whole w = sym w ∙ ap Ok (append-nil xs)
-
-  pub walk-start : (r : Result (List A) FileFault) → after [] r ≡ r
-  walk-start (Ok xs) = refl
-  walk-start (Err f) = refl
 
 pub field-get : (fields : List (List ℕ)) (i : ℕ) → field_of fields i ≡ get_or fields i []
 unfolding field_at

@@ -2,6 +2,7 @@
 use Rattle.std.proofs.Common.{◌≡◌, ◌∙◌, ◌+◌, ◌++◌, ◌&&◌, ℕ, Bool, true, false, not, List, [], ◌∷◌, Option, Some, None, option_map, if◌then◌else◌, refl, sym, nat_lt, length}
 use Rattle.std.specs.Prelude.{IsFalse, IsTrue, slice_get}
 use Rattle.std.specs.List.{AllByRecursion, AllZip, list_any}
+use Rattle.std.specs.Option.{option_or}
 use Rattle.vkg_lists.proofs.Heads.{any_more}
 use Rattle.vkg_lists.proofs.Bools.{neither}
 use Rattle.vkg_schema.specs.declared.table.Key.{Key}
@@ -11,7 +12,7 @@ use Rattle.vkg_schema.specs.Meets.{KeyHolds, MeetsSchema, ReferenceHolds, TableM
 use Rattle.vkg_schema.specs.Rows.{Row, agree, has_no_null, rows_of}
 use Rattle.vkg_tables.specs.Checks.{broken_references, is_orphan, key_fault, reference_fault, repeated_keys, repeats, table_fault, with_itself}
 use Rattle.vkg_tables.specs.Firsts.{earlier, first_after, first_orphan, first_repeat}
-use Rattle.vkg_tables.proofs.Places.{first_fault, first_table, first_table-first, least_place, least_place-first}
+use Rattle.vkg_tables.proofs.Places.{first_table, first_table-first, least_place, least_place-first}
 use Rattle.vkg_tables.specs.Seen.{HoldsCells}
 use Rattle.vkg_tables.specs.declared.fault.TableFault.{TableFault}
 use Rattle.vkg_schema.proofs.Found.{all_weaken}
@@ -75,7 +76,7 @@ no-place : {X : Type 0} (f : X → Option ℕ) (n : ℕ) (xs : List X) → least
 no-place f n [] e = tt
 no-place f n (x ∷ xs) e = let two = no-earlier (option_map (λ r. (r, n)) (f x)) (least_place f (n + 1) xs) e in (no-map (λ r. (r, n)) (f x) two.0, no-place f (n + 1) xs two.1)
 
-no-first : (a b : Option TableFault) → first_fault a b ≡ None → (a ≡ None) × (b ≡ None)
+no-first : (a b : Option TableFault) → option_or a b ≡ None → (a ≡ None) × (b ≡ None)
 no-first None b e = (refl, e)
 no-first (Some p) b e = cc e
 

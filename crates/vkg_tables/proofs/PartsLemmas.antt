@@ -5,20 +5,18 @@ use Rattle.std.specs.Cmp.Lexicographic.{bytes_decides, pointwise, pointwise_deci
 use Rattle.std.proofs.lemmas.List.{map-append}
 use Rattle.std.proofs.Math.Bool.{and-false, or-false}
 use Rattle.std.specs.Str.{bytes_eq}
-use Rattle.std.specs.Prelude.{String}
+use Rattle.std.specs.Prelude.{String, is_some}
 use Rattle.std.specs.String.{string_eq}
 use Rattle.std.specs.Prelude.{Vec}
+use Rattle.std.specs.Option.{option_to_list}
+use Rattle.vkg_lists.specs.Options.{with_first}
 use Rattle.vkg_lists.proofs.Heads.{any_more}
 use Rattle.vkg_cells.specs.declared.cell.Cell.{Cell}
 use Rattle.vkg_cells.specs.declared.cell.Cell.TheVariants as cell
 use Rattle.vkg_cells.specs.Order.{same, same_form}
 use Rattle.vkg_schema.specs.Rows.{Row, agree, equal_at, has_no_null, is_known, is_known_true, is_null, cell_at}
 use Rattle.vkg_tables.specs.Checks.{is_orphan, repeats, with_itself}
-use Rattle.vkg_tables.specs.Parts.{IsNoTerm, HasNoTerm, all_parts, is_missing, one_or_none, onto_parts, part, parts, texts_eq, texts_of}
-
-abbrev is_there : {A : Type 0} → Option A → Bool
-is_there None = false
-is_there (Some x) = true
+use Rattle.vkg_tables.specs.Parts.{IsNoTerm, HasNoTerm, all_parts, is_missing, part, parts, texts_eq, texts_of}
 
 -- the parts are there and equal
 abbrev pub both : Option (List (List ℕ)) → Option (List (List ℕ)) → Bool
@@ -98,7 +96,7 @@ cell-NoTerm [] k h = λ e. cc e
 cell-NoTerm (c ∷ r) zero h = h.0
 cell-NoTerm (c ∷ r) (suc k) h = cell-NoTerm r k h.1
 
-both-onto : (x y : Option (List ℕ)) (xs ys : Option (List (List ℕ))) → both (onto_parts x xs) (onto_parts y ys) ≡ same_form x y && both xs ys
+both-onto : (x y : Option (List ℕ)) (xs ys : Option (List (List ℕ))) → both (with_first x xs) (with_first y ys) ≡ same_form x y && both xs ys
 both-onto None y xs ys = refl
 both-onto (Some a) y None ys = sym (and-false (same_form (Some a) y))
 both-onto (Some a) None (Some us) ys = refl
@@ -132,7 +130,7 @@ any-both None columns (r ∷ rs) = any-both None columns rs
 any-both (Some ps) columns [] = refl
 any-both (Some ps) columns (r ∷ rs) = step (parts columns r) (all_parts columns rs) (any-both (Some ps) columns rs)
   where
-    step : (x : Option (List (List ℕ))) {rest : Bool} (more : List (List (List ℕ))) → rest ≡ list_any (texts_eq ps) more → both (Some ps) x || rest ≡ list_any (texts_eq ps) (one_or_none x ++ more)
+    step : (x : Option (List (List ℕ))) {rest : Bool} (more : List (List (List ℕ))) → rest ≡ list_any (texts_eq ps) more → both (Some ps) x || rest ≡ list_any (texts_eq ps) (option_to_list x ++ more)
     step None more e = e
     step (Some qs) more e = ap (λ b. texts_eq ps qs || b) e
 
@@ -150,7 +148,7 @@ repeats-found key before row h =
     any-found (with_itself key) row before h ∙ ap₂ (λ a b. found (parts a row) (all_parts b before)) (first-itself key) (second-itself key)
 
 -- no column is NULL where the parts are there
-known-part : (c : Cell) → IsNoTerm c → not (is_null c) ≡ is_there (part c)
+known-part : (c : Cell) → IsNoTerm c → not (is_null c) ≡ is_some (part c)
 unfolding part
 known-part cell.Null h = refl
 known-part (cell.Text a) h = refl
@@ -162,17 +160,17 @@ known-part (cell.Stamp a) h = refl
 known-part (cell.Bin a) h = refl
 known-part (cell.Term s) h = absurd (h refl)
 
-there-onto : (x : Option (List ℕ)) (xs : Option (List (List ℕ))) → is_there (onto_parts x xs) ≡ is_there x && is_there xs
+there-onto : (x : Option (List ℕ)) (xs : Option (List (List ℕ))) → is_some (with_first x xs) ≡ is_some x && is_some xs
 there-onto None xs = refl
 there-onto (Some a) None = refl
 there-onto (Some a) (Some us) = refl
 
-known-parts : (columns : List ℕ) (r : Row) → HasNoTerm r → has_no_null columns r ≡ is_there (parts columns r)
+known-parts : (columns : List ℕ) (r : Row) → HasNoTerm r → has_no_null columns r ≡ is_some (parts columns r)
 unfolding is_known
 known-parts [] r h = refl
 known-parts (c ∷ cs) r h = ap₂ (λ a b. a && b) (known-part (cell_at r c) (cell-NoTerm r c h)) (known-parts cs r h) ∙ sym (there-onto (part (cell_at r c)) (parts cs r))
 
-missing : (o : Option (List (List ℕ))) (known : List (List (List ℕ))) → is_there o && not (found o known) ≡ is_missing o known
+missing : (o : Option (List (List ℕ))) (known : List (List (List ℕ))) → is_some o && not (found o known) ≡ is_missing o known
 missing None known = refl
 missing (Some ps) known = refl
 
@@ -196,25 +194,25 @@ any-texts xs (v ∷ vs) = ap₂ (λ a b. a || b) (strings-eq xs v.items) (any-te
 
 all_parts-append : (columns : List ℕ) (xs ys : List Row) → all_parts columns (xs ++ ys) ≡ all_parts columns xs ++ all_parts columns ys
 all_parts-append columns [] ys = refl
-all_parts-append columns (x ∷ xs) ys = ap (λ l. one_or_none (parts columns x) ++ l) (all_parts-append columns xs ys) ∙ sym (append_assoc (one_or_none (parts columns x)) (all_parts columns xs) (all_parts columns ys))
+all_parts-append columns (x ∷ xs) ys = ap (λ l. option_to_list (parts columns x) ++ l) (all_parts-append columns xs ys) ∙ sym (append_assoc (option_to_list (parts columns x)) (all_parts columns xs) (all_parts columns ys))
 
 -- the parts of one more row
-pub all_parts-more : (columns : List ℕ) (rows : List Row) (row : Row) → all_parts columns (rows ++ row ∷ []) ≡ all_parts columns rows ++ one_or_none (parts columns row)
-all_parts-more columns rows row = all_parts-append columns rows (row ∷ []) ∙ ap (λ l. all_parts columns rows ++ l) (append-nil (one_or_none (parts columns row)))
+pub all_parts-more : (columns : List ℕ) (rows : List Row) (row : Row) → all_parts columns (rows ++ row ∷ []) ≡ all_parts columns rows ++ option_to_list (parts columns row)
+all_parts-more columns rows row = all_parts-append columns rows (row ∷ []) ∙ ap (λ l. all_parts columns rows ++ l) (append-nil (option_to_list (parts columns row)))
 
 -- the walk over the columns
 pub parts-stop : (done : List (List ℕ)) (cs : List ℕ) (c : ℕ) (rest : List ℕ) (row : Row) (whole : Option (List (List ℕ))) → cs ≡ c ∷ rest → part (cell_at row c) ≡ None
     → option_map (λ ps. done ++ ps) (parts cs row) ≡ whole → None ≡ whole
-parts-stop done cs c rest row whole e n w = ap (λ x. option_map (λ ps. done ++ ps) (onto_parts x (parts rest row))) (sym n) ∙ ap (λ l. option_map (λ ps. done ++ ps) (parts l row)) (sym e) ∙ w
+parts-stop done cs c rest row whole e n w = ap (λ x. option_map (λ ps. done ++ ps) (with_first x (parts rest row))) (sym n) ∙ ap (λ l. option_map (λ ps. done ++ ps) (parts l row)) (sym e) ∙ w
 
-onto-done : (done : List (List ℕ)) (t : List ℕ) (o : Option (List (List ℕ))) → option_map (λ ps. (done ++ t ∷ []) ++ ps) o ≡ option_map (λ ps. done ++ ps) (onto_parts (Some t) o)
+onto-done : (done : List (List ℕ)) (t : List ℕ) (o : Option (List (List ℕ))) → option_map (λ ps. (done ++ t ∷ []) ++ ps) o ≡ option_map (λ ps. done ++ ps) (with_first (Some t) o)
 onto-done done t None = refl
 onto-done done t (Some ps) = ap Some (append_assoc done (t ∷ []) ps)
 
 pub parts-step : (done : List (List ℕ)) (cs : List ℕ) (c : ℕ) (rest : List ℕ) (row : Row) (whole : Option (List (List ℕ))) (t : List ℕ) → cs ≡ c ∷ rest → part (cell_at row c) ≡ Some t
     → option_map (λ ps. done ++ ps) (parts cs row) ≡ whole → option_map (λ ps. (done ++ t ∷ []) ++ ps) (parts rest row) ≡ whole
 parts-step done cs c rest row whole t e n w =
-    onto-done done t (parts rest row) ∙ ap (λ x. option_map (λ ps. done ++ ps) (onto_parts x (parts rest row))) (sym n) ∙ ap (λ l. option_map (λ ps. done ++ ps) (parts l row)) (sym e) ∙ w
+    onto-done done t (parts rest row) ∙ ap (λ x. option_map (λ ps. done ++ ps) (with_first x (parts rest row))) (sym n) ∙ ap (λ l. option_map (λ ps. done ++ ps) (parts l row)) (sym e) ∙ w
 
 -- the cell at a place past the end, and at one within
 pub cell_at-past : (row : Row) (k : ℕ) → length row ≤ k → cell_at row k ≡ cell.Null

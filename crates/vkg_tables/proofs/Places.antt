@@ -2,6 +2,7 @@
 use Rattle.std.proofs.Common.{◌≡◌, ◌∙◌, ◌+◌, ◌<◌, ◌≤◌, ◌++◌, ℕ, Bool, true, false, List, [], ◌∷◌, Option, Some, None, option_map, if◌then◌else◌, refl, ap, subst, arith, length, length-append, nat_lt, le-ltb, lt-ltb, map}
 use Rattle.std.specs.Prelude.{⊤, slice_get}
 use Rattle.std.specs.List.{enumerate_from, flat_map, zip}
+use Rattle.std.specs.Option.{option_or}
 use Rattle.vkg_schema.specs.declared.table.Table.{Table}
 use Rattle.vkg_schema.specs.Rows.{Row}
 use Rattle.vkg_tables.specs.Checks.{faults_over, places_where, table_fault, with_before}
@@ -13,15 +14,11 @@ abbrev pub least_place : {X : Type 0} → (X → Option ℕ) → ℕ → List X 
 least_place row_of n [] = None
 least_place row_of n (x ∷ xs) = earlier (option_map (λ r. (r, n)) (row_of x)) (least_place row_of (n + 1) xs)
 
-abbrev pub first_fault : Option TableFault → Option TableFault → Option TableFault
-first_fault (Some f) o = Some f
-first_fault None o = o
-
 -- the first table with a place
 abbrev pub first_table : ℕ → (Table → List Row → Option (ℕ × ℕ)) → ℕ → List Table → List (List Row) → Option TableFault
 first_table check place_of n [] dbs = None
 first_table check place_of n (t ∷ ts) [] = None
-first_table check place_of n (t ∷ ts) (rows ∷ dbs) = first_fault (option_map (table_fault check n) (place_of t rows)) (first_table check place_of (n + 1) ts dbs)
+first_table check place_of n (t ∷ ts) (rows ∷ dbs) = option_or (option_map (table_fault check n) (place_of t rows)) (first_table check place_of (n + 1) ts dbs)
 
 -- the number, from n, of the first that passes
 abbrev number_where : {X : Type 0} → (X → Bool) → ℕ → List X → Option ℕ
@@ -155,7 +152,7 @@ module _ {X A : Type 0} (p : X → List A → A → Bool) (xs : List X) where
   least_place-first rows = least-row_major p xs [] rows ∙ row_major-first [] rows
 
 -- ---- the first of the tables
-first-map : {A : Type 0} (f : A → TableFault) (xs : List A) (rest : List TableFault) → first_fault (option_map f (slice_get xs 0)) (slice_get rest 0) ≡ slice_get (map f xs ++ rest) 0
+first-map : {A : Type 0} (f : A → TableFault) (xs : List A) (rest : List TableFault) → option_or (option_map f (slice_get xs 0)) (slice_get rest 0) ≡ slice_get (map f xs ++ rest) 0
 first-map f [] rest = refl
 first-map f (x ∷ xs) rest = refl
 
@@ -165,7 +162,7 @@ module _ (check : ℕ) (places : Table → List Row → List (ℕ × ℕ)) where
   tables-first n [] dbs = refl
   tables-first n (t ∷ ts) [] = refl
   tables-first n (t ∷ ts) (rows ∷ dbs) =
-      ap (first_fault (option_map (table_fault check n) (slice_get (places t rows) 0))) (tables-first (n + 1) ts dbs)
+      ap (option_or (option_map (table_fault check n) (slice_get (places t rows) 0))) (tables-first (n + 1) ts dbs)
       ∙ first-map (table_fault check n) (places t rows) _
 
   pub first_table-first : (ts : List Table) (dbs : List (List Row)) → first_table check (λ t rows. slice_get (places t rows) 0) 1 ts dbs ≡ slice_get (faults_over check places ts dbs) 0

@@ -3,6 +3,8 @@ use Rattle.std.specs.Prelude.{◌≢◌, ℕ, ◌+◌, Bool, false, not, List, [
 use Rattle.std.specs.Cmp.Lexicographic.{pointwise}
 use Rattle.std.specs.Str.{bytes_eq}
 use Rattle.std.specs.List.{AllByRecursion, list_any}
+use Rattle.std.specs.Option.{option_to_list}
+use Rattle.vkg_lists.specs.Options.{with_first}
 use Rattle.vkg_cells.specs.declared.cell.Cell.{Cell}
 use Rattle.vkg_cells.specs.Form.{lexical_form}
 use Rattle.vkg_cells.specs.Order.{family_of}
@@ -16,22 +18,14 @@ part_of family (Some text) = Some ((48 + family) ∷ text)
 unfoldable pub part : Cell → Option (List ℕ)
 part c = part_of (family_of c) (lexical_form c)
 
-abbrev pub onto_parts : Option (List ℕ) → Option (List (List ℕ)) → Option (List (List ℕ))
-onto_parts (Some p) (Some ps) = Some (p ∷ ps)
-onto_parts p ps = None
-
 -- the parts of the columns of a row, none where one is NULL
 abbrev pub parts : List ℕ → Row → Option (List (List ℕ))
 parts [] row = Some []
-parts (c ∷ cs) row = onto_parts (part (cell_at row c)) (parts cs row)
-
-abbrev pub one_or_none : {A : Type 0} → Option A → List A
-one_or_none None = []
-one_or_none (Some x) = x ∷ []
+parts (c ∷ cs) row = with_first (part (cell_at row c)) (parts cs row)
 
 -- the parts of each row that has them
 abbrev pub all_parts : List ℕ → List Row → List (List (List ℕ))
-all_parts columns rows = flat_map (λ r. one_or_none (parts columns r)) rows
+all_parts columns rows = flat_map (λ r. option_to_list (parts columns r)) rows
 
 abbrev pub IsNoTerm : Cell → Type 0
 IsNoTerm c = family_of c ≢ 7

@@ -1,7 +1,9 @@
 -- A table file read step by step: what each step gives, or the fault at which it stops.
-use Rattle.std.specs.Prelude.{ℕ, ◌+◌, Bool, not, ◌&&◌, ◌==◌, List, [], ◌∷◌, Option, Some, None, option_map, length, if◌then◌else◌, nat_lt, Result, Ok, Err, position, count_by, ⊤, ◌≡◌}
+use Rattle.std.specs.Prelude.{ℕ, ◌+◌, Bool, not, ◌&&◌, ◌==◌, List, [], ◌∷◌, Option, option_map, length, if◌then◌else◌, nat_lt, Result, Ok, Err, position, count_by, ⊤, ◌≡◌}
 use Rattle.std.specs.List.{list_any, position_or_len}
 use Rattle.std.specs.Str.{bytes_eq, is_utf8}
+use Rattle.std.specs.Option.{option_or}
+use Rattle.vkg_lists.specs.Results.{unless}
 use Rattle.csv.specs.Reading.{default_config, records, strip_bom}
 use Rattle.vkg_cells.specs.declared.cell.Cell.{Cell}
 use Rattle.vkg_cells.specs.declared.cell.FieldFault.{FieldFault}
@@ -61,16 +63,8 @@ unknown columns header = position (λ f. not (list_any (λ c. bytes_eq c.name f)
 abbrev pub not_once : List Column → List (List ℕ) → Option ℕ
 not_once columns header = position (λ c. not (count_by (λ f. bytes_eq f c.name) header == 1)) columns
 
-abbrev pub or_else : Option FileFault → Option FileFault → Option FileFault
-or_else (Some f) o = Some f
-or_else None o = o
-
 abbrev pub header_fault : List Column → List (List ℕ) → Option FileFault
-header_fault columns header = or_else (option_map (λ k. fault 2 0 (k + 1)) (unknown columns header)) (option_map (λ k. fault 3 0 (k + 1)) (not_once columns header))
-
-abbrev pub unless : {A : Type 0} → Option FileFault → Result A FileFault → Result A FileFault
-unless None r = r
-unless (Some f) r = Err f
+header_fault columns header = option_or (option_map (λ k. fault 2 0 (k + 1)) (unknown columns header)) (option_map (λ k. fault 3 0 (k + 1)) (not_once columns header))
 
 abbrev pub table_from : List Column → List (List (List ℕ)) → Result (List Row) FileFault
 table_from columns [] = Err (fault 1 0 0)

@@ -1,7 +1,8 @@
 -- A table file: its faults in the order in which they are told, and its rows.
-use Rattle.std.specs.Prelude.{ℕ, ◌==◌, ◌&&◌, List, [], ◌∷◌, ◌++◌, Option, Some, None, Result, Ok, Err, if◌then◌else◌, length, map, nat_lt, count_by, slice_get}
+use Rattle.std.specs.Prelude.{ℕ, ◌==◌, ◌&&◌, List, [], ◌∷◌, ◌++◌, Result, Ok, Err, if◌then◌else◌, length, map, nat_lt, count_by, slice_get}
 use Rattle.std.specs.List.{enumerate_from, flat_map, list_any, position_or_len}
 use Rattle.std.specs.Str.{bytes_eq, is_utf8}
+use Rattle.vkg_lists.specs.Results.{unless}
 use Rattle.csv.specs.Reading.{default_config, records, strip_bom}
 use Rattle.vkg_cells.specs.declared.cell.Cell.{Cell}
 use Rattle.vkg_cells.specs.declared.cell.Cell.TheVariants.{Null}
@@ -75,10 +76,6 @@ rows_of_records columns (header ∷ rows) = map (row_of header columns) rows
 abbrev pub file_rows : List Column → List ℕ → List Row
 file_rows columns bytes = rows_of_records columns (records default_config (strip_bom bytes))
 
-abbrev pub unless_fault : {A F : Type 0} → Option F → A → Result A F
-unless_fault None x = Ok x
-unless_fault (Some f) x = Err f
-
 -- the rows of a file, or its first fault
 abbrev pub table_of_bytes : List Column → List ℕ → Result (List Row) FileFault
-table_of_bytes columns bytes = unless_fault (slice_get (file_faults columns bytes) 0) (file_rows columns bytes)
+table_of_bytes columns bytes = unless (slice_get (file_faults columns bytes) 0) (Ok (file_rows columns bytes))

@@ -2,6 +2,8 @@
 use Rattle.std.proofs.Common.{◌≡◌, refl, sym, ◌∙◌, ap, subst, ℕ, List, [], ◌∷◌, Bool, true, false, cond, ◌||◌, Option, Some, None}
 use Rattle.std.specs.Prelude.{Result, Ok, Err, is_none, if◌then◌else◌}
 use Rattle.std.specs.List.{list_any}
+use Rattle.vkg_lists.specs.Results.{mapped}
+use Rattle.vkg_lists.specs.Options.{with_first}
 use Rattle.vkg_lists.specs.Firsts.{first_of}
 use Rattle.vkg_terms.specs.declared.term.Term.{Term}
 use Rattle.vkg_terms.specs.declared.term.Annotation.{Annotation}
@@ -32,7 +34,7 @@ use Rattle.vkg_term_maps.specs.declared.term_type.Sort.{Sort}
 use Rattle.vkg_term_maps.specs.declared.term_type.Sort.TheVariants as sort
 use Rattle.vkg_term_maps.specs.declared.term_type.Properties.{Properties}
 use Rattle.vkg_term_maps.specs.Columns.{column_of}
-use Rattle.vkg_term_maps.specs.TermMaps.{Gives, is_annotated, sort_of, annotation_of, literal_of, type_of, with_type, constant, natural_at, column_map, piece_of, onto, pieces_of, by_standing, of_pieces, template_map, of_kind, kind_at, properties, no_properties, term_map_of}
+use Rattle.vkg_term_maps.specs.TermMaps.{Gives, is_annotated, sort_of, annotation_of, literal_of, type_of, constant, natural_at, column_map, piece_of, pieces_of, by_standing, of_pieces, template_map, of_kind, kind_at, properties, no_properties, term_map_of}
 use Rattle.vkg_term_maps.specs.FirstCheck.{annotates_badly, is_doubtful, names_unknown, makes_doubtful, failing, failing_checks, IsFirst}
 use Rattle.vkg_cells.specs.WellTyped.{is_wide_number}
 
@@ -58,20 +60,20 @@ same_none n m Several Absent = refl
 same_none n m Several (One t) = refl
 same_none n m Several Several = refl
 
-of_literal : (made : TermType → TermMap) (a : Option Annotation) → FirstOf (before (is_none a) fault.Annotation []) (with_type made (literal_of a))
+of_literal : (made : TermType → TermMap) (a : Option Annotation) → FirstOf (before (is_none a) fault.Annotation []) (mapped made (literal_of a))
 of_literal made None = refl
 of_literal made (Some a) = refl
 
-of_other : (made : TermType → TermMap) (b : Bool) (t : TermType) → FirstOf (before b fault.Annotation []) (with_type made (if b then Err fault.Annotation else Ok t))
+of_other : (made : TermType → TermMap) (b : Bool) (t : TermType) → FirstOf (before b fault.Annotation []) (mapped made (if b then Err fault.Annotation else Ok t))
 of_other made true t = refl
 of_other made false t = refl
 
-type_first : (made : TermType → TermMap) (n : Annotation) (p : Properties) (s : Option Sort) → FirstOf (type_faults p s) (with_type made (type_of n p s))
+type_first : (made : TermType → TermMap) (n : Annotation) (p : Properties) (s : Option Sort) → FirstOf (type_faults p s) (mapped made (type_of n p s))
 type_first made n p None = refl
 type_first made n p (Some sort.Iri) = of_other made (is_annotated p) _
 type_first made n p (Some sort.Blank) = of_other made (is_annotated p) _
 type_first made n p (Some sort.Literal) =
-    subst (λ b. FirstOf (before b fault.Annotation []) (with_type made (literal_of (annotation_of n p.languages p.datatypes))))
+    subst (λ b. FirstOf (before b fault.Annotation []) (mapped made (literal_of (annotation_of n p.languages p.datatypes))))
     (same_none n Plain p.languages p.datatypes) (of_literal made (annotation_of n p.languages p.datatypes))
 
 constant_first : (b : Bool) (t : Term) → FirstOf (before b fault.WideNumber []) (if b then Err fault.WideNumber else Ok (from.Constant t))
@@ -96,7 +98,7 @@ standing_first base p pieces stands.Absolute (Some sort.Literal) = type_first _ 
 standing_first base p pieces stands.Relative (Some sort.Literal) = type_first _ Plain p (Some sort.Literal)
 standing_first base p pieces stands.Doubtful (Some sort.Literal) = type_first _ Plain p (Some sort.Literal)
 
-onto_none : (p : Option Piece) (ps : Option (List Piece)) → (is_none p || is_none ps) ≡ is_none (onto p ps)
+onto_none : (p : Option Piece) (ps : Option (List Piece)) → (is_none p || is_none ps) ≡ is_none (with_first p ps)
 onto_none None ps = refl
 onto_none (Some p) None = refl
 onto_none (Some p) (Some ps) = refl

@@ -3,6 +3,9 @@ use Rattle.std.proofs.Common.{◌≡◌, ℕ, ◌<◌, Bool, true, false, cond, 
 use Rattle.std.specs.Prelude.{Option, Some, None, option_map, Result, Ok, Err, flat_map, position}
 use Rattle.std.specs.List.{position_or_len}
 use Rattle.std.proofs.lemmas.List.{length-map}
+use Rattle.vkg_lists.specs.Lists.{AllBelow}
+use Rattle.vkg_lists.specs.Results.{mapped}
+use Rattle.vkg_lists.specs.Options.{with_first}
 use Rattle.vkg_terms.specs.declared.template.Part.{Part}
 use Rattle.vkg_terms.specs.declared.template.Part.TheVariants as part
 use Rattle.vkg_terms.specs.declared.template.Standing.{Standing}
@@ -13,7 +16,6 @@ use Rattle.vkg_terms.specs.Name.{template_read}
 use Rattle.vkg_terms.specs.TemplateParts.{standing}
 use Rattle.vkg_cells.specs.declared.cell.SqlType.{SqlType}
 use Rattle.vkg_schema.specs.declared.table.Column.{Column}
-use Rattle.vkg_schema.specs.Meets.{Below}
 use Rattle.vkg_maps.specs.declared.term_map.TermMap.{TermMap}
 use Rattle.vkg_maps.specs.declared.term_map.TermMap.TheVariants as from
 use Rattle.vkg_maps.specs.declared.term_map.Piece.{Piece}
@@ -31,7 +33,7 @@ use Rattle.vkg_term_maps.specs.declared.term_type.Properties.{Properties}
 use Rattle.vkg_term_maps.specs.declared.term_type.Sort.{Sort}
 use Rattle.vkg_term_maps.specs.declared.term_type.Sort.TheVariants as sort
 use Rattle.vkg_term_maps.specs.Columns.{column_of, means}
-use Rattle.vkg_term_maps.specs.TermMaps.{by_standing, column_map, constant, constant_map, kind_at, no_properties, of_kind, of_pieces, onto, piece_of, pieces_of, properties, template_map, term_map_of, with_type}
+use Rattle.vkg_term_maps.specs.TermMaps.{by_standing, column_map, constant, constant_map, kind_at, no_properties, of_kind, of_pieces, piece_of, pieces_of, properties, template_map, term_map_of}
 use Rattle.vkg_maps.specs.Within.{IsOver, piece_columns}
 use Rattle.vkg_cells.specs.WellTyped.{is_wide_number}
 
@@ -67,7 +69,7 @@ module _ (columns : List Column) where
           let same : from.Constant c ≡ t = cc in
           subst Over same (record { columns = tt; narrow = w })
 
-  over_typed : (made : TermType → TermMap) → ((y : TermType) → Over (made y)) → (r : Result TermType TermMapFault) (t : TermMap) → with_type made r ≡ Ok t → Over t
+  over_typed : (made : TermType → TermMap) → ((y : TermType) → Over (made y)) → (r : Result TermType TermMapFault) (t : TermMap) → mapped made r ≡ Ok t → Over t
   over_typed made h (Ok y) t e = let same : made y ≡ t = cc in subst Over same (h y)
   over_typed made h (Err f) t e = cc
 
@@ -82,14 +84,14 @@ module _ (columns : List Column) where
       of (Some at) w e = over_typed (from.Column at) (λ y. record { columns = (column_below text at w, tt); narrow = refl }) _ t e
 
   abbrev BelowPieces : List Piece → Type 0
-  BelowPieces ps = Below (length (kinds columns)) (flat_map piece_columns ps)
+  BelowPieces ps = AllBelow (length (kinds columns)) (flat_map piece_columns ps)
 
-  more_pieces : (p : Part) (rest : Option (List Piece)) → ((ps : List Piece) → rest ≡ Some ps → BelowPieces ps) → (ps : List Piece) → onto (piece_of columns p) rest ≡ Some ps → BelowPieces ps
+  more_pieces : (p : Part) (rest : Option (List Piece)) → ((ps : List Piece) → rest ≡ Some ps → BelowPieces ps) → (ps : List Piece) → with_first (piece_of columns p) rest ≡ Some ps → BelowPieces ps
   more_pieces (part.Fixed text) None h ps e = cc
   more_pieces (part.Fixed text) (Some qs) h ps e = let same : piece.Fixed text ∷ qs ≡ ps = cc in subst BelowPieces same (h qs refl)
   more_pieces (part.Hole name) rest h ps e = of (column_of columns name) refl rest h e
     where
-      of : (o : Option ℕ) → column_of columns name ≡ o → (rest : Option (List Piece)) → ((ps : List Piece) → rest ≡ Some ps → BelowPieces ps) → onto (option_map piece.Column o) rest ≡ Some ps → BelowPieces ps
+      of : (o : Option ℕ) → column_of columns name ≡ o → (rest : Option (List Piece)) → ((ps : List Piece) → rest ≡ Some ps → BelowPieces ps) → with_first (option_map piece.Column o) rest ≡ Some ps → BelowPieces ps
       of None w rest h e = cc
       of (Some at) w None h e = cc
       of (Some at) w (Some qs) h e = let same : piece.Column at ∷ qs ≡ ps = cc in subst BelowPieces same (column_below name at w, h qs refl)

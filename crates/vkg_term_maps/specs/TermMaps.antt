@@ -2,6 +2,8 @@
 use Rattle.std.specs.Prelude.{◌≡◌, ℕ, Bool, true, false, not, ◌&&◌, List, [], ◌∷◌, codes, map, slice_get, Option, Some, None, option_map, Result, Ok, Err, if◌then◌else◌}
 use Rattle.std.specs.Char.{to_ascii_lowercase}
 use Rattle.std.specs.Str.{bytes_eq}
+use Rattle.vkg_lists.specs.Results.{mapped}
+use Rattle.vkg_lists.specs.Options.{with_first}
 use Rattle.vkg_terms.specs.declared.term.Term.{Term}
 use Rattle.vkg_terms.specs.declared.term.Term.TheVariants as term
 use Rattle.vkg_terms.specs.declared.term.Annotation.{Annotation}
@@ -173,10 +175,6 @@ type_of default p (Some sort.Literal) = literal_of (annotation_of default p.lang
 abbrev pub constant_map : Term → Result TermMap TermMapFault
 constant_map t = if is_wide_number t then Err fault.WideNumber else Ok (from.Constant t)
 
-abbrev pub with_type : (TermType → TermMap) → Result TermType TermMapFault → Result TermMap TermMapFault
-with_type made (Ok t) = Ok (made t)
-with_type made (Err f) = Err f
-
 -- R2RML, 10.2: the natural datatype of a column
 abbrev pub natural_if_any : Option Column → Annotation
 natural_if_any None = Plain
@@ -187,26 +185,22 @@ natural_at columns at = natural_if_any (slice_get columns at)
 
 abbrev pub column_map : Role → Properties → List Column → Option ℕ → Result TermMap TermMapFault
 column_map role p columns None = Err fault.UnknownColumn
-column_map role p columns (Some at) = with_type (from.Column at) (type_of (natural_at columns at) p (sort_of role true p.types))
+column_map role p columns (Some at) = mapped (from.Column at) (type_of (natural_at columns at) p (sort_of role true p.types))
 
 abbrev pub piece_of : List Column → Part → Option Piece
 piece_of columns (part.Fixed text) = Some (piece.Fixed text)
 piece_of columns (part.Hole name) = option_map piece.Column (column_of columns name)
 
-abbrev pub onto : Option Piece → Option (List Piece) → Option (List Piece)
-onto (Some p) (Some ps) = Some (p ∷ ps)
-onto p ps = None
-
 -- R2RML, 7.3: each name is that of a column
 abbrev pub pieces_of : List Column → List Part → Option (List Piece)
 pieces_of columns [] = Some []
-pieces_of columns (p ∷ ps) = onto (piece_of columns p) (pieces_of columns ps)
+pieces_of columns (p ∷ ps) = with_first (piece_of columns p) (pieces_of columns ps)
 
 -- own: of an IRI template it is to be known whether the IRIs are absolute; before relative ones stands the base
 abbrev pub by_standing : List ℕ → Properties → List Piece → Standing → Option Sort → Result TermMap TermMapFault
 by_standing base p pieces stands.Doubtful (Some sort.Iri) = Err fault.DoubtfulTemplate
-by_standing base p pieces stands.Relative (Some sort.Iri) = with_type (from.Template (piece.Fixed base ∷ pieces)) (unless_annotated p type.Iri)
-by_standing base p pieces stand s = with_type (from.Template pieces) (type_of Plain p s)
+by_standing base p pieces stands.Relative (Some sort.Iri) = mapped (from.Template (piece.Fixed base ∷ pieces)) (unless_annotated p type.Iri)
+by_standing base p pieces stand s = mapped (from.Template pieces) (type_of Plain p s)
 
 abbrev pub of_pieces : Role → Properties → List ℕ → Standing → Option (List Piece) → Result TermMap TermMapFault
 of_pieces role p base stand None = Err fault.UnknownColumn

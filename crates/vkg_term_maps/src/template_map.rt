@@ -1,5 +1,6 @@
 ghost use Rattle.std.specs.Prelude.{◌≡◌, IfOk, ◌∷◌};
-ghost use Rattle.vkg_term_maps.specs.TermMaps.{Gives, by_standing as map_by_standing, of_pieces as map_of_pieces, piece_of as piece_of_part, pieces_of as pieces_of_parts, template_map as map_of_parts, type_of as type_of_sort, with_type};
+ghost use Rattle.vkg_lists.specs.Results.{mapped};
+ghost use Rattle.vkg_term_maps.specs.TermMaps.{Gives, by_standing as map_by_standing, of_pieces as map_of_pieces, piece_of as piece_of_part, pieces_of as pieces_of_parts, template_map as map_of_parts, type_of as type_of_sort};
 ghost use Rattle.vkg_terms.specs.Name.{template_read};
 
 use crate::columns::column_of;
@@ -82,7 +83,7 @@ fn made(
     pieces: Items<Piece>,
     sort: Option<Sort>,
 ) -> Result<TermMap, TermMapError>
-    ensures { Gives (with_type (TermMap.Template pieces) (type_of_sort Annotation.Plain properties.now sort)) result }
+    ensures { Gives (mapped (TermMap.Template pieces) (type_of_sort Annotation.Plain properties.now sort)) result }
 {
     let term_type = type_of(alloc, Annotation::Plain, properties, sort)?;
     Ok(TermMap::Template(pieces, term_type))

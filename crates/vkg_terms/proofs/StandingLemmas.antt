@@ -1,13 +1,13 @@
 -- What is found a character at a time is a template's standing.
 use Rattle.std.proofs.Common.{◌≡◌, refl, sym, ◌∙◌, ap, ℕ, suc, List, [], ◌∷◌, ◌++◌, map, length, drop, Bool, true, false, not, cond, Option, Some, None, ◌&&◌, ◌+◌, inl, inr, arith}
-use Rattle.std.specs.Prelude.{fold, filter_map, take_while, take, if◌then◌else◌, ◌==◌}
+use Rattle.std.specs.Prelude.{fold, filter_map, take_while, take, if◌then◌else◌, ◌==◌, is_none}
 use Rattle.std.specs.List.{list_any, list_all, prefix_len}
 use Rattle.std.proofs.lemmas.Bool.Decides.{eqb_tells}
 use Rattle.std.proofs.lemmas.List.Sums.{fold-append}
 use Rattle.std.specs.Char.{is_ascii_alphabetic}
 use Rattle.std.specs.Cmp.{first_so, second_so}
 use Rattle.vkg_terms.specs.Iri.{is_scheme, is_scheme_character}
-use Rattle.vkg_terms.specs.TemplateParts.{places, may_be_scheme, is_hole, standing_at, standing}
+use Rattle.vkg_terms.specs.TemplateParts.{places, may_be_scheme, standing_at, standing}
 use Rattle.vkg_terms.specs.declared.template.Part.{Part}
 use Rattle.vkg_terms.specs.declared.template.Part.TheVariants as part
 use Rattle.vkg_terms.specs.declared.template.Standing.{Standing}
@@ -90,14 +90,14 @@ stays_hole (Some c ∷ ps) e =
     ap (λ f. fold after_place f ps) (keeps Hole c (first_so (is_scheme_character c) (list_all may_be_scheme ps) e))
     ∙ stays_hole ps (second_so (is_scheme_character c) (list_all may_be_scheme ps) e)
 
-stays_scheme : (ps : List (Option ℕ)) → list_all may_be_scheme ps ≡ true → fold after_place Scheme ps ≡ (if list_any is_hole ps then Hole else Scheme)
+stays_scheme : (ps : List (Option ℕ)) → list_all may_be_scheme ps ≡ true → fold after_place Scheme ps ≡ (if list_any is_none ps then Hole else Scheme)
 stays_scheme [] e = refl
 stays_scheme (None ∷ ps) e = stays_hole ps e
 stays_scheme (Some c ∷ ps) e =
     ap (λ f. fold after_place f ps) (keeps Scheme c (first_so (is_scheme_character c) (list_all may_be_scheme ps) e))
     ∙ stays_scheme ps (second_so (is_scheme_character c) (list_all may_be_scheme ps) e)
 
-stays_no_scheme : (ps : List (Option ℕ)) → list_all may_be_scheme ps ≡ true → fold after_place NoScheme ps ≡ (if list_any is_hole ps then Hole else NoScheme)
+stays_no_scheme : (ps : List (Option ℕ)) → list_all may_be_scheme ps ≡ true → fold after_place NoScheme ps ≡ (if list_any is_none ps then Hole else NoScheme)
 stays_no_scheme [] e = refl
 stays_no_scheme (None ∷ ps) e = stays_hole ps e
 stays_no_scheme (Some c ∷ ps) e =
@@ -105,7 +105,7 @@ stays_no_scheme (Some c ∷ ps) e =
     ∙ stays_no_scheme ps (second_so (is_scheme_character c) (list_all may_be_scheme ps) e)
 
 -- without a hole all characters may stand in a scheme
-all_characters : (ps : List (Option ℕ)) → list_any is_hole ps ≡ false → list_all may_be_scheme ps ≡ true → list_all is_scheme_character (filter_map (λ x. x) ps) ≡ true
+all_characters : (ps : List (Option ℕ)) → list_any is_none ps ≡ false → list_all may_be_scheme ps ≡ true → list_all is_scheme_character (filter_map (λ x. x) ps) ≡ true
 all_characters [] h e = refl
 all_characters (None ∷ ps) h e = cc
 all_characters (Some c ∷ ps) h e =
@@ -119,14 +119,14 @@ front_of_characters (c ∷ cs) = if is_ascii_alphabetic c then Scheme else NoSch
 abbrev front_made : Bool → List ℕ → Front
 front_made hole cs = if hole then Hole else front_of_characters cs
 
-front_goes : (ps : List (Option ℕ)) → list_all may_be_scheme ps ≡ true → fold after_place Empty ps ≡ front_made (list_any is_hole ps) (filter_map (λ x. x) ps)
+front_goes : (ps : List (Option ℕ)) → list_all may_be_scheme ps ≡ true → fold after_place Empty ps ≡ front_made (list_any is_none ps) (filter_map (λ x. x) ps)
 front_goes [] e = refl
 front_goes (None ∷ ps) e = stays_hole ps e
 front_goes (Some c ∷ ps) e =
     ap (λ f. fold after_place f ps) (keeps Empty c (first_so (is_scheme_character c) (list_all may_be_scheme ps) e))
     ∙ by_letter (is_ascii_alphabetic c)
   where
-    by_letter : (b : Bool) → fold after_place (if b then Scheme else NoScheme) ps ≡ (if list_any is_hole ps then Hole else if b then Scheme else NoScheme)
+    by_letter : (b : Bool) → fold after_place (if b then Scheme else NoScheme) ps ≡ (if list_any is_none ps then Hole else if b then Scheme else NoScheme)
     by_letter true = stays_scheme ps (second_so (is_scheme_character c) (list_all may_be_scheme ps) e)
     by_letter false = stays_no_scheme ps (second_so (is_scheme_character c) (list_all may_be_scheme ps) e)
 
@@ -183,10 +183,10 @@ undecided false (d ∷ ds) = by_letter (is_ascii_alphabetic d)
     by_letter false = refl
 
 decides : (front back : List (Option ℕ)) → list_all may_be_scheme front ≡ true → Stops back → decided (fold after_place (fold after_place Empty front) back) ≡ standing_at front back
-decides front [] e stops = ap decided (front_goes front e) ∙ undecided (list_any is_hole front) (filter_map (λ x. x) front)
+decides front [] e stops = ap decided (front_goes front e) ∙ undecided (list_any is_none front) (filter_map (λ x. x) front)
 decides front (None ∷ ps) e stops = cc
 decides front (Some c ∷ ps) e stops =
-    let hole = list_any is_hole front in
+    let hole = list_any is_none front in
     let cs = filter_map (λ x. x) front in
     ap (λ f. decided (fold after_place (after_character f c) ps)) (front_goes front e)
     ∙ (ap (λ f. decided (fold after_place f ps)) (going_made hole cs c stops)

@@ -3,7 +3,7 @@ use Rattle.std.proofs.Common.{◌≡◌, ◌≢◌, ◌==◌, ◌++◌, ◌∷�
 use Rattle.std.specs.Prelude.{option_map}
 use Rattle.std.proofs.lemmas.Bool.Decides.{nat_tests}
 use Rattle.std.proofs.lemmas.List.{append-nil}
-use Rattle.std.proofs.lemmas.Option.{same_Some}
+use Rattle.std.proofs.lemmas.Option.{same_Some, none-some}
 use Rattle.vkg_terms.specs.declared.template.Part.{Part}
 use Rattle.vkg_terms.specs.declared.template.Part.TheVariants.{Fixed, Hole}
 use Rattle.vkg_terms.specs.TemplateParts.{Mark, Plain, Open, Close, mark, marks, onto, escape, is_special, onto_fixed, hole, outside, inside, outside_if_any, template_of}
@@ -17,9 +17,6 @@ written (Plain b) = escaped b
 written Open = 123 ∷ []
 written Close = 125 ∷ []
 
-none_some : {A : Type 0} (x : A) → None ≡ Some x → ⊥
-none_some x e = cc e
-
 -- the marks of a written text
 plain_marks : (b : ℕ) (bs : List ℕ) (ms : List Mark) (s : Bool) → is_special b ≡ s → marks bs ≡ Some ms → marks ((if s then 92 ∷ b ∷ [] else b ∷ []) ++ bs) ≡ Some (Plain b ∷ ms)
 plain_marks b bs ms true e h = ap (λ t. if t then onto (Plain b) (marks bs) else None) e ∙ ap (onto (Plain b)) h
@@ -32,7 +29,7 @@ marks-written (Open ∷ ms) = marks-cons 123 (flat_map written ms) refl ∙ ap (
 marks-written (Close ∷ ms) = marks-cons 125 (flat_map written ms) refl ∙ ap (onto Close) (marks-written ms)
 
 map_some : {A B : Type 0} (f : A → B) (o : Option A) (y : B) → option_map f o ≡ Some y → (x : A) × (o ≡ Some x) × (f x ≡ y)
-map_some f None y e = absurd (none_some y e)
+map_some f None y e = absurd (none-some y e)
 map_some f (Some x) y e = (x, refl, same_Some (f x) y e)
 
 mark_written : (b : ℕ) (x y : Bool) → (b == 123) ≡ x → (b == 125) ≡ y → (b == 92) ≡ false → written (if x then Open else if y then Close else Plain b) ≡ b ∷ []
@@ -50,7 +47,7 @@ one_mark b bs ms g more e =
 
 escaped_mark : (b c : ℕ) (bs : List ℕ) (ms : List Mark) (s : Bool) → is_special c ≡ s → (b == 92) ≡ true → ((rest : List Mark) → marks bs ≡ Some rest → bs ≡ flat_map written rest)
     → (if s then onto (Plain c) (marks bs) else None) ≡ Some ms → b ∷ c ∷ bs ≡ flat_map written ms
-escaped_mark b c bs ms false s g more e = absurd (none_some ms e)
+escaped_mark b c bs ms false s g more e = absurd (none-some ms e)
 escaped_mark b c bs ms true s g more e =
     let (rest, h, k) = map_some (λ ns. Plain c ∷ ns) (marks bs) ms e in
     let back : b ≡ 92 = grind (arith, nat_tests) in
@@ -66,7 +63,7 @@ two_marks b c bs ms true g more one e =
 two_marks b c bs ms false g more one e = one_mark b (c ∷ bs) ms g one e
 
 last_mark : (b : ℕ) (ms : List Mark) (x : Bool) → (b == 92) ≡ x → marks (b ∷ []) ≡ Some ms → b ∷ [] ≡ flat_map written ms
-last_mark b ms true g e = absurd (none_some ms (sym (ap (λ t. if t then None else Some (mark b ∷ [])) g) ∙ e))
+last_mark b ms true g e = absurd (none-some ms (sym (ap (λ t. if t then None else Some (mark b ∷ [])) g) ∙ e))
 last_mark b ms false g e = one_mark b [] ms g (λ rest h. ap (flat_map written) (same_Some [] rest h)) e
 
 written-marks : (bs : List ℕ) (ms : List Mark) → marks bs ≡ Some ms → bs ≡ flat_map written ms
@@ -139,7 +136,7 @@ onto_normal b (Fixed t ∷ Hole n ∷ ps) h = (λ e. cc e, h.1)
 onto_normal b (Hole n ∷ ps) h = (λ e. cc e, h)
 
 hole_is : (name : List ℕ) (o : Option (List Part)) (ps : List Part) → hole name o ≡ Some ps → (qs : List Part) × (o ≡ Some qs) × (Hole name ∷ qs ≡ ps) × (name ≢ [])
-hole_is [] o ps e = absurd (none_some ps e)
+hole_is [] o ps e = absurd (none-some ps e)
 hole_is (b ∷ name) o ps e =
     let (qs, h, k) = map_some (λ parts. Hole (b ∷ name) ∷ parts) o ps e in
     (qs, h, k, λ n. cc n)
@@ -163,10 +160,10 @@ mutual
   outside_is (Open ∷ ms) ps e =
       let o = inside_is [] ms ps e in
       (ap (λ ns. Open ∷ ns) o.marked ∙ ap marks_of o.parts, subst IsNormal o.parts (o.some, o.normal))
-  outside_is (Close ∷ ms) ps e = absurd (none_some ps e)
+  outside_is (Close ∷ ms) ps e = absurd (none-some ps e)
 
   inside_is : (name : List ℕ) (ms : List Mark) (ps : List Part) → inside name ms ≡ Some ps → Opened name ms ps
-  inside_is name [] ps e = absurd (none_some ps e)
+  inside_is name [] ps e = absurd (none-some ps e)
   inside_is name (Plain b ∷ ms) ps e =
       let o = inside_is (name ++ b ∷ []) ms ps e in
       record {
@@ -177,7 +174,7 @@ mutual
         some = λ n. o.some (append_assoc name (b ∷ []) o.more ∙ n);
         normal = o.normal;
       }
-  inside_is name (Open ∷ ms) ps e = absurd (none_some ps e)
+  inside_is name (Open ∷ ms) ps e = absurd (none-some ps e)
   inside_is name (Close ∷ ms) ps e =
       let (qs, h, k, n) = hole_is name (outside ms) ps e in
       let more = outside_is ms qs h in
@@ -191,7 +188,7 @@ mutual
       }
 
 any_some : (o : Option (List Mark)) (ps : List Part) → outside_if_any o ≡ Some ps → (ms : List Mark) × (o ≡ Some ms) × (outside ms ≡ Some ps)
-any_some None ps e = absurd (none_some ps e)
+any_some None ps e = absurd (none-some ps e)
 any_some (Some ms) ps e = (ms, refl, e)
 
 -- what the function reads is written as the text, and normal
@@ -207,15 +204,15 @@ reads_template text ps r =
     ap template_of (r.written ∙ sym (written_parts ps)) ∙ ap outside_if_any (marks-written (marks_of ps)) ∙ outside-marks ps r.normal
 
 named_by : (o : Option (List Part)) (ps : List Part) → if_named o ≡ Some ps → (o ≡ Some ps) × (is_all_named ps ≡ true)
-named_by None ps e = absurd (none_some ps e)
+named_by None ps e = absurd (none-some ps e)
 named_by (Some qs) ps e = by_test (is_all_named qs) refl e
   where
     by_test : (b : Bool) → is_all_named qs ≡ b → (if b then Some qs else None) ≡ Some ps → (Some qs ≡ Some ps) × (is_all_named ps ≡ true)
     by_test true h k = (k, ap is_all_named (sym (same_Some qs ps k)) ∙ h)
-    by_test false h k = absurd (none_some ps k)
+    by_test false h k = absurd (none-some ps k)
 
 unnamed_by : (b : Bool) (ps : List Part) → is_all_named ps ≡ b → (if b then Some ps else None) ≡ None → b ≡ false
-unnamed_by true ps h k = absurd (none_some ps (sym k))
+unnamed_by true ps h k = absurd (none-some ps (sym k))
 unnamed_by false ps h k = refl
 
 pub read_is : (text : List ℕ) (ps : List Part) → template_read text ≡ Some ps → IsTemplateOf text ps

@@ -1,5 +1,5 @@
 -- The texts of terms: no two terms have one text, and none ends within another.
-use Rattle.std.proofs.Common.{◌≡◌, ◌≢◌, ◌<◌, ◌++◌, ◌==◌, ℕ, List, [], ◌∷◌, Bool, true, false, if◌then◌else◌, nat_lt, nat_le, sym, ap, ◌∙◌, refl, arith, append_assoc, ◌⊎◌, inl, inr, not, Option, Some, None}
+use Rattle.std.proofs.Common.{nat_lt, ◌≡◌, ◌≢◌, ◌<◌, ◌++◌, ◌==◌, ℕ, List, [], ◌∷◌, Bool, true, false, if◌then◌else◌, nat_le, sym, ap, ◌∙◌, refl, arith, append_assoc, ◌⊎◌, inl, inr, not, Option, Some, None}
 use Rattle.std.specs.Prelude.{flat_map, chars, IsUtf8, codes, encode_utf8}
 use Rattle.std.specs.List.{list_all}
 use Rattle.std.proofs.lemmas.Bool.Decides.{nat_tests}
@@ -7,6 +7,7 @@ use Rattle.std.proofs.lemmas.Str.{encode_same, char_from_byte, encodes-chars, sc
 use Rattle.std.proofs.lemmas.List.Folds.{list_all-append}
 use Rattle.std.proofs.lemmas.List.{append_cancel_right}
 use Rattle.std.proofs.Math.Utf8.{encode, encodes, scalar, scalars}
+use Rattle.vkg_lists.proofs.Runs.{run_same, stops}
 use Rattle.vkg_terms.specs.Iri.{is_iri_character}
 use Rattle.vkg_terms.specs.NQuads.{Quad, term_text, line, graph_text, escaped, quoted, bracketed, annotation_text}
 use Rattle.vkg_terms.specs.Writable.{HoldsText, IsWritable, IsWritableAnnotation, IsWritableIfAny, IsWritableQuad, is_visible, is_inline}
@@ -19,23 +20,23 @@ use Rattle.vkg_lists.proofs.Heads.{head_same, tail_same}
 use Rattle.vkg_terms.proofs.Octets.{encode_all, scalar_below}
 
 -- the character that an escape stands for
-abbrev unescaped : ℕ → ℕ
+abbrev pub unescaped : ℕ → ℕ
 unescaped e = if e == 110 then 10 else if e == 114 then 13 else if e == 116 then 9 else e
 
 -- how a character is written: by a backslash (92) and a letter, or as it is
-abbrev Written : ℕ → List ℕ → Type 0
-Written c text = ((e : ℕ) × (text ≡ 92 ∷ e ∷ []) × (unescaped e ≡ c) × (is_inline e ≡ true)) ⊎ ((c ≢ 34) × (c ≢ 92) × (is_inline c ≡ true) × (text ≡ encode c))
+abbrev pub Written : ℕ → List ℕ → Type 0
+Written c text = ((e : ℕ) × (text ≡ 92 ∷ e ∷ []) × (unescaped e ≡ c) × (is_inline e ≡ true) × (e < 128)) ⊎ ((c ≢ 34) × (c ≢ 92) × (is_inline c ≡ true) × (text ≡ encode c))
 
 written_by : (c : ℕ) (quote back feed return tab : Bool) → (c == 34) ≡ quote → (c == 92) ≡ back → (c == 10) ≡ feed → (c == 13) ≡ return → (c == 9) ≡ tab
     → Written c (if quote then codes "\\\"" else if back then codes "\\\\" else if feed then codes "\\n" else if return then codes "\\r" else if tab then codes "\\t" else encode_utf8 c)
-written_by c true back feed return tab q b f r t = inl (34, refl, grind (arith, nat_tests), refl)
-written_by c false true feed return tab q b f r t = inl (92, refl, grind (arith, nat_tests), refl)
-written_by c false false true return tab q b f r t = inl (110, refl, grind (arith, nat_tests), refl)
-written_by c false false false true tab q b f r t = inl (114, refl, grind (arith, nat_tests), refl)
-written_by c false false false false true q b f r t = inl (116, refl, grind (arith, nat_tests), refl)
+written_by c true back feed return tab q b f r t = inl (34, refl, grind (arith, nat_tests), refl, omega arith)
+written_by c false true feed return tab q b f r t = inl (92, refl, grind (arith, nat_tests), refl, omega arith)
+written_by c false false true return tab q b f r t = inl (110, refl, grind (arith, nat_tests), refl, omega arith)
+written_by c false false false true tab q b f r t = inl (114, refl, grind (arith, nat_tests), refl, omega arith)
+written_by c false false false false true q b f r t = inl (116, refl, grind (arith, nat_tests), refl, omega arith)
 written_by c false false false false false q b f r t = inr (grind (arith, nat_tests), grind (arith, nat_tests), grind (arith, nat_tests), refl)
 
-written : (c : ℕ) → Written c (escaped c)
+pub written : (c : ℕ) → Written c (escaped c)
 written c = written_by c _ _ _ _ _ refl refl refl refl refl
 
 -- what begins with this ASCII octet begins with this character
@@ -43,13 +44,13 @@ pub starts : (c b : ℕ) (rest more : List ℕ) → b < 128 → b ∷ more ≡ e
 starts c b rest more h e = char_from_byte (b ∷ more) rest c e (omega arith) (omega arith)
 
 written_same : (c d : ℕ) (v w x y : List ℕ) → Written c v → Written d w → v ++ x ≡ w ++ y → (c ≡ d) × (x ≡ y)
-written_same c d v w x y (inl (e, p, q, _)) (inl (f, r, t, _)) same =
+written_same c d v w x y (inl (e, p, q, _, _)) (inl (f, r, t, _, _)) same =
     let joined : 92 ∷ e ∷ x ≡ 92 ∷ f ∷ y = sym (ap (λ (l : List ℕ). l ++ x) p) ∙ same ∙ ap (λ (l : List ℕ). l ++ y) r in
     let letter = tail_same _ _ _ _ joined in
     (sym q ∙ ap unescaped (head_same _ _ _ _ letter) ∙ t, tail_same _ _ _ _ letter)
-written_same c d v w x y (inl (e, p, q, _)) (inr (quote, back, inline, r)) same =
+written_same c d v w x y (inl (e, p, q, _, _)) (inr (quote, back, inline, r)) same =
     absurd (back (starts d 92 y (e ∷ x) (omega arith) (sym (ap (λ (l : List ℕ). l ++ x) p) ∙ same ∙ ap (λ (l : List ℕ). l ++ y) r)))
-written_same c d v w x y (inr (quote, back, inline, r)) (inl (e, p, q, _)) same =
+written_same c d v w x y (inr (quote, back, inline, r)) (inl (e, p, q, _, _)) same =
     absurd (back (starts c 92 x (e ∷ y) (omega arith) (sym (ap (λ (l : List ℕ). l ++ y) p) ∙ sym same ∙ ap (λ (l : List ℕ). l ++ x) r)))
 written_same c d v w x y (inr (_, _, _, p)) (inr (_, _, _, r)) same =
     encode_same c d x y (sym (ap (λ (l : List ℕ). l ++ x) p) ∙ same ∙ ap (λ (l : List ℕ). l ++ y) r)
@@ -58,7 +59,7 @@ escaped_same : (c d : ℕ) (x y : List ℕ) → escaped c ++ x ≡ escaped d ++ 
 escaped_same c d x y same = written_same c d (escaped c) (escaped d) x y (written c) (written d) same
 
 written_quote : (c : ℕ) (v x y : List ℕ) → Written c v → v ++ x ≡ 34 ∷ y → ⊥
-written_quote c v x y (inl (e, p, q, _)) same =
+written_quote c v x y (inl (e, p, q, _, _)) same =
     let joined : 92 ∷ e ∷ x ≡ 34 ∷ y = sym (ap (λ (l : List ℕ). l ++ x) p) ∙ same in
     let bad = head_same _ _ _ _ joined in
     omega (arith, bad)
@@ -123,27 +124,17 @@ ends (b ∷ bs) = nat_le b 32
 
 -- up to the first octet that a test bars
 until : (p : ℕ → Bool) (k : ℕ) (a b x y : List ℕ) → p k ≡ false → list_all p a ≡ true → list_all p b ≡ true → a ++ k ∷ x ≡ b ++ k ∷ y → (a ≡ b) × (x ≡ y)
-until p k [] [] x y bar h g e = (refl, tail_same _ _ _ _ e)
-until p k [] (c ∷ b) x y bar h g e = let s = ap p (head_same _ _ _ _ e) in cc (s, (and_parts (p c) (list_all p b) g).0)
-until p k (c ∷ a) [] x y bar h g e = let s = ap p (head_same _ _ _ _ e) in cc (s, (and_parts (p c) (list_all p a) h).0)
-until p k (c ∷ a) (d ∷ b) x y bar h g e =
-    let more = until p k a b x y bar (and_parts (p c) (list_all p a) h).1 (and_parts (p d) (list_all p b) g).1 (tail_same _ _ _ _ e) in
-    (ap (λ z. z ∷ a) (head_same _ _ _ _ e) ∙ ap (λ zs. d ∷ zs) more.0, more.1)
+until p k a b x y bar h g e = let r = run_same p a b (k ∷ x) (k ∷ y) h g (ap not bar) (ap not bar) e in (r.0, tail_same _ _ _ _ r.1)
 
 not_both : (b : ℕ) → nat_lt 32 b ≡ true → nat_le b 32 ≡ true → ⊥
 not_both b h g = grind (arith, nat_tests)
 
+not_visible : (x : List ℕ) → ends x ≡ true → stops is_visible x ≡ true
+not_visible [] u = refl
+not_visible (b ∷ bs) u = grind (arith, nat_tests)
+
 visible_same : (a b x y : List ℕ) → list_all is_visible a ≡ true → list_all is_visible b ≡ true → ends x ≡ true → ends y ≡ true → a ++ x ≡ b ++ y → (a ≡ b) × (x ≡ y)
-visible_same [] [] x y h g u v e = (refl, e)
-visible_same [] (d ∷ b) [] y h g u v e = cc e
-visible_same [] (d ∷ b) (c ∷ x) y h g u v e =
-    absurd (not_both d (and_parts (is_visible d) (list_all is_visible b) g).0 (ap (λ n. nat_le n 32) (sym (head_same _ _ _ _ e)) ∙ u))
-visible_same (c ∷ a) [] x [] h g u v e = cc e
-visible_same (c ∷ a) [] x (d ∷ y) h g u v e =
-    absurd (not_both c (and_parts (is_visible c) (list_all is_visible a) h).0 (ap (λ n. nat_le n 32) (head_same _ _ _ _ e) ∙ v))
-visible_same (c ∷ a) (d ∷ b) x y h g u v e =
-    let more = visible_same a b x y (and_parts (is_visible c) (list_all is_visible a) h).1 (and_parts (is_visible d) (list_all is_visible b) g).1 u v (tail_same _ _ _ _ e) in
-    (ap (λ z. z ∷ a) (head_same _ _ _ _ e) ∙ ap (λ zs. d ∷ zs) more.0, more.1)
+visible_same a b x y h g u v e = run_same is_visible a b x y h g (not_visible x u) (not_visible y v) e
 
 -- an IRI ends at its own bracket
 bracketed_same : (a b x y : List ℕ) → list_all is_iri_character a ≡ true → list_all is_iri_character b ≡ true → bracketed a ++ x ≡ bracketed b ++ y → (a ≡ b) × (x ≡ y)
@@ -222,7 +213,7 @@ line_same p q u v e =
     λ i. record { subject = subject.0 i; predicate = predicate.0 i; object = object.0 i; graph = graph i }
 
 inline_written : (c : ℕ) (text : List ℕ) → c < 1114112 → Written c text → list_all is_inline text ≡ true
-inline_written c text h (inl (e, p, _, inline)) = ap (list_all is_inline) p ∙ and_true _ _ inline refl
+inline_written c text h (inl (e, p, _, inline, _)) = ap (list_all is_inline) p ∙ and_true _ _ inline refl
 inline_written c text h (inr (quote, back, inline, p)) =
     ap (list_all is_inline) p ∙ encode_all is_inline c h (λ b low _. grind (arith, nat_tests)) (λ _. inline)
 

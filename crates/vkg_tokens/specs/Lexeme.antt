@@ -1,6 +1,7 @@
 -- One automaton for the tokens of Turtle and of SPARQL 1.1; the class of what was read, if it is a token, differs.
 use Rattle.std.specs.Prelude.{ℕ, ◌+◌, ◌*◌, ◌-◌, ◌||◌, Option, Some, None, option_map, if◌then◌else◌, ◌==◌, nat_le, nat_lt}
 use lib.Utf8.{scalar}
+use Rattle.std.specs.Option.{option_or}
 use Rattle.vkg_tokens.specs.declared.lexeme.Lexeme.{Lexeme}
 use Rattle.vkg_tokens.specs.declared.lexeme.Lexeme.TheVariants.{Start, OfName, OfNumber, OfString, OfIri, OfSign, OfTag, OfVariable}
 use Rattle.vkg_tokens.specs.declared.names.Name.{Name}
@@ -24,10 +25,6 @@ use Rattle.vkg_tokens.specs.Iris.{iri_step}
 use Rattle.vkg_tokens.specs.Signs.{sign_begin, sign_step, turtle_sign, sparql_sign}
 use Rattle.vkg_tokens.specs.Tags.{tag_step, variable_step}
 
-abbrev pub or_else : Option Lexeme → Option Lexeme → Option Lexeme
-or_else None next = next
-or_else (Some lexeme) next = Some lexeme
-
 -- `<` (60), `@` (64), `?` (63), `$` (36)
 abbrev pub mark_begin : ℕ → Option Lexeme
 mark_begin c =
@@ -39,10 +36,10 @@ mark_begin c =
 
 abbrev pub lexeme_begin : ℕ → Option Lexeme
 lexeme_begin c =
-    or_else (option_map OfName (name_begin c))
-    (or_else (option_map OfNumber (number_begin c))
-    (or_else (option_map OfString (quoted_begin c))
-    (or_else (option_map OfSign (sign_begin c)) (mark_begin c))))
+    option_or (option_map OfName (name_begin c))
+    (option_or (option_map OfNumber (number_begin c))
+    (option_or (option_map OfString (quoted_begin c))
+    (option_or (option_map OfSign (sign_begin c)) (mark_begin c))))
 
 -- what was read with one more character
 abbrev pub lexeme_step : Lexeme → ℕ → Option Lexeme

@@ -5,10 +5,11 @@ use Rattle.std.specs.List.{AllByRecursion, filter, list_any, Contains}
 use Rattle.std.proofs.lemmas.Bool.{true≢false}
 use Rattle.std.proofs.lemmas.List.{length-map, replicate-append-replicate}
 use Rattle.std.proofs.lemmas.List.Elements.{Contains-append_left, Contains-append_right, Contains-append_cases}
+use Rattle.vkg_lists.specs.Options.{with_first, joined}
 use Rattle.vkg_lists.specs.Sets.{IsEqualityTest, distinct}
 use Rattle.vkg_lists.proofs.Counts.{eq_same, Decides-list_any}
 use Rattle.vkg_lists.proofs.Distinct.{Contains-distinct, Contains-from_distinct}
-use Rattle.vkg_lists.proofs.Members.{Contains-none, Contains-here, Contains-there, Contains-cons_cases, Contains-flat_map, Contains-from_flat_map, Contains-from_filter, recursion_from_each}
+use Rattle.vkg_lists.proofs.Members.{Contains-none, Contains-here, Contains-there, Contains-cons_cases, Contains-flat_map, Contains-from_flat_map, Contains-from_filter, recursion_from_each, recursion_append}
 use Rattle.vkg_lists.proofs.Tests.{nat_test}
 use Rattle.vkg_cells.specs.declared.cell.SqlType.{SqlType}
 use Rattle.vkg_cells.specs.declared.cell.SqlType.TheVariants as kind
@@ -25,8 +26,8 @@ use Rattle.vkg_algebra.proofs.VisibleLemmas.{visible_once}
 use Rattle.vkg_expr.specs.Expr.{Expr, Col, Same, IsNull, exprs}
 use Rattle.vkg_expr.specs.Expr as expr
 use Rattle.vkg_expr.specs.Logic.{and_of, or_of, truth_const}
-use Rattle.vkg_expr.specs.Typing.{are_all, giving, is_one, kind_of, with_kind, lexical_kind}
-use Rattle.vkg_plan.specs.Kinds.{Kinds, Tables, beside_all, beside_two, checked, joined, kinds_of_each, plan_kinds, with_first}
+use Rattle.vkg_expr.specs.Typing.{are_all, giving, is_one, kind_of, lexical_kind}
+use Rattle.vkg_plan.specs.Kinds.{Kinds, Tables, beside_all, checked, side_by_side, kinds_of_each, plan_kinds}
 use Rattle.vkg_plan.specs.Plan.{Plan, Select, Project, Join, Left, plans, Distinct}
 use Rattle.vkg_row_rules.specs.declared.row_rule.RowRule.{RowRule}
 use Rattle.vkg_unfold.specs.declared.mode.Mode.{Mode}
@@ -39,7 +40,7 @@ use Rattle.vkg_unfold.proofs.PlanColumns.{HasTermKinds, checked_truth, exists_pl
 use Rattle.std.specs.Bool.{Decides}
 use Rattle.vkg_algebra.specs.Translation.{algebra_of}
 use Rattle.vkg_algebra.specs.Answer.{selected_variables}
-use Rattle.vkg_plan.proofs.RowsFit.{All-append, All-map}
+use Rattle.vkg_plan.proofs.RowsFit.{All-map}
 
 -- ---- conditions
 
@@ -59,13 +60,13 @@ expr_kind : (ks : Kinds) (at : ℕ → Expr) → ((v : ℕ) → IsTerm ks (at v)
 expr_kind ks at h (Variable v) = h v
 expr_kind ks at h (Constant t) = refl
 expr_kind ks at h (Bound v) = not_truth ks (IsNull (at v)) (null_truth ks (at v) (h v))
-expr_kind ks at h (Test f a) = λ i. giving kind.Bool (are_all kind.Term (with_kind (to_term_kind ks (gives_truth a) (expr_of at a) (expr_kind ks at h a) i) (Some [])))
-expr_kind ks at h (Take f a) = λ i. giving kind.Term (are_all kind.Term (with_kind (to_term_kind ks (gives_truth a) (expr_of at a) (expr_kind ks at h a) i) (Some [])))
-expr_kind ks at h (Compare f a b) = λ i. giving kind.Bool (are_all kind.Term (with_kind (to_term_kind ks (gives_truth a) (expr_of at a) (expr_kind ks at h a) i) (with_kind (to_term_kind ks (gives_truth b) (expr_of at b) (expr_kind ks at h b) i) (Some []))))
+expr_kind ks at h (Test f a) = λ i. giving kind.Bool (are_all kind.Term (with_first (to_term_kind ks (gives_truth a) (expr_of at a) (expr_kind ks at h a) i) (Some [])))
+expr_kind ks at h (Take f a) = λ i. giving kind.Term (are_all kind.Term (with_first (to_term_kind ks (gives_truth a) (expr_of at a) (expr_kind ks at h a) i) (Some [])))
+expr_kind ks at h (Compare f a b) = λ i. giving kind.Bool (are_all kind.Term (with_first (to_term_kind ks (gives_truth a) (expr_of at a) (expr_kind ks at h a) i) (with_first (to_term_kind ks (gives_truth b) (expr_of at b) (expr_kind ks at h b) i) (Some []))))
 expr_kind ks at h (SameTerm a b) = same_truth ks (to_term (gives_truth a) (expr_of at a)) (to_term (gives_truth b) (expr_of at b)) (to_term_kind ks (gives_truth a) (expr_of at a) (expr_kind ks at h a)) (to_term_kind ks (gives_truth b) (expr_of at b) (expr_kind ks at h b))
 expr_kind ks at h (Not a) = not_truth ks (to_truth (gives_truth a) (expr_of at a)) (to_truth_kind ks (gives_truth a) (expr_of at a) (expr_kind ks at h a))
-expr_kind ks at h (And a b) = λ i. giving kind.Bool (are_all kind.Bool (with_kind (to_truth_kind ks (gives_truth a) (expr_of at a) (expr_kind ks at h a) i) (with_kind (to_truth_kind ks (gives_truth b) (expr_of at b) (expr_kind ks at h b) i) (Some []))))
-expr_kind ks at h (Or a b) = λ i. giving kind.Bool (are_all kind.Bool (with_kind (to_truth_kind ks (gives_truth a) (expr_of at a) (expr_kind ks at h a) i) (with_kind (to_truth_kind ks (gives_truth b) (expr_of at b) (expr_kind ks at h b) i) (Some []))))
+expr_kind ks at h (And a b) = λ i. giving kind.Bool (are_all kind.Bool (with_first (to_truth_kind ks (gives_truth a) (expr_of at a) (expr_kind ks at h a) i) (with_first (to_truth_kind ks (gives_truth b) (expr_of at b) (expr_kind ks at h b) i) (Some []))))
+expr_kind ks at h (Or a b) = λ i. giving kind.Bool (are_all kind.Bool (with_first (to_truth_kind ks (gives_truth a) (expr_of at a) (expr_kind ks at h a) i) (with_first (to_truth_kind ks (gives_truth b) (expr_of at b) (expr_kind ks at h b) i) (Some []))))
 
 filter_truth : (ks : Kinds) (at : ℕ → Expr) → ((v : ℕ) → IsTerm ks (at v)) → (c : Condition) → IsTruth ks (truth_expr at c)
 filter_truth ks at h c = to_truth_kind ks (gives_truth c) (expr_of at c) (expr_kind ks at h c)
@@ -143,7 +144,7 @@ graph_place Each p ps = (
 
 wanted_places : (mode : Mode) (p : TriplePattern) (ps : List TriplePattern) → AllByRecursion (HasPlace (flat_map (pattern_names mode) (p ∷ ps))) (map Some (visible (Bgp (p ∷ ps))) ++ if_each mode None)
 wanted_places mode p ps =
-    All-append (HasPlace names) (map Some (visible (Bgp (p ∷ ps)))) (if_each mode None)
+    recursion_append (HasPlace names) (map Some (visible (Bgp (p ∷ ps)))) (if_each mode None)
     (All-map (λ v. Contains names (Some v)) (HasPlace names) Some (λ v k. name_place names (Some v) k) (visible (Bgp (p ∷ ps)))
     (recursion_from_each (λ v. Contains names (Some v)) (visible (Bgp (p ∷ ps))) (λ v c. bgp_named mode (p ∷ ps) v (Contains-from_distinct nat_eq (flat_map pattern_variables (p ∷ ps)) v c))))
     (graph_place mode p ps)
@@ -161,7 +162,7 @@ module _ (schema : Tables) (rules : List RowRule) (fit : AreFitting schema rules
   each_kinds mode [] = refl
   each_kinds mode (p ∷ ps) = λ i. with_first (pattern_plan_kinds schema rules fit mode p i) (each_kinds mode ps i)
 
-  joined_kinds : (mode : Mode) (ps : List TriplePattern) → joined (map (λ p. replicate (length (pattern_names mode p)) kind.Term) ps) ≡ replicate (length (flat_map (pattern_names mode) ps)) kind.Term
+  joined_kinds : (mode : Mode) (ps : List TriplePattern) → side_by_side (map (λ p. replicate (length (pattern_names mode p)) kind.Term) ps) ≡ replicate (length (flat_map (pattern_names mode) ps)) kind.Term
   joined_kinds mode [] = refl
   joined_kinds mode (p ∷ ps) =
       ap (λ l. replicate (length (pattern_names mode p)) kind.Term ++ l) (joined_kinds mode ps)
@@ -252,7 +253,7 @@ module _ (mode : Mode) (vs ws : List ℕ) where
 
 merged_terms : (mode : Mode) (vs ws : List ℕ) → AllByRecursion (IsTerm (replicate (both mode vs ws) kind.Term)) (merged_columns mode vs ws)
 merged_terms mode vs ws =
-    All-append (IsTerm ks) (map (merged mode vs ws) (each_once (vs ++ ws))) (if_each mode (Col (length vs)))
+    recursion_append (IsTerm ks) (map (merged mode vs ws) (each_once (vs ++ ws))) (if_each mode (Col (length vs)))
     (All-each (IsTerm ks) (merged mode vs ws) (merged_term mode vs ws) (each_once (vs ++ ws))) (hidden mode)
   where
     ks : Kinds
@@ -265,7 +266,7 @@ merged_terms mode vs ws =
 
 agreement_truth : (mode : Mode) (vs ws : List ℕ) → AllByRecursion (IsTruth (replicate (both mode vs ws) kind.Term)) (agreement mode vs ws)
 agreement_truth mode vs ws =
-    All-append (IsTruth ks) (map shared (filter (has ws) vs)) (if_each mode (Same (Col (length vs)) (Col (columns_in mode vs + length ws))))
+    recursion_append (IsTruth ks) (map shared (filter (has ws) vs)) (if_each mode (Same (Col (length vs)) (Col (columns_in mode vs + length ws))))
     (All-within (IsTruth ks) shared (filter (has ws) vs) (λ v c.
     let w = Contains-from_filter (has ws) vs v c in
     let l = left_term mode vs ws v (is_among vs v w.0) in
@@ -295,7 +296,7 @@ module _ (schema : Tables) where
 
   left_kinds : (n m : ℕ) (p q : Plan) (c : Expr) → HasTermKinds schema n p → HasTermKinds schema m q → IsTruth (replicate (n + m) kind.Term) c → plan_kinds schema (Left p q c) ≡ Some (replicate (n + m) kind.Term)
   left_kinds n m p q c h k t =
-      (λ i. checked c (beside_two (h i) (k i)))
+      (λ i. checked c (joined (h i) (k i)))
       ∙ ap (λ l. checked c (Some l)) (replicate-append-replicate n m kind.Term)
       ∙ checked_truth c (replicate (n + m) kind.Term) t
 
@@ -313,7 +314,7 @@ module _ (schema : Tables) where
       let cs = agreement mode vs ws ++ condition_of (merged mode vs ws) o in
       let ks = replicate (both mode vs ws) kind.Term in
       project_kinds schema (merged_columns mode vs ws) (Left p q (and_of cs)) ks
-      (left_kinds (columns_in mode vs) (columns_in mode ws) p q (and_of cs) h k (and_truth ks cs (All-append (IsTruth ks) (agreement mode vs ws) (condition_of (merged mode vs ws) o) (agreement_truth mode vs ws) (condition_truth ks (merged mode vs ws) (merged_term mode vs ws) o))))
+      (left_kinds (columns_in mode vs) (columns_in mode ws) p q (and_of cs) h k (and_truth ks cs (recursion_append (IsTruth ks) (agreement mode vs ws) (condition_of (merged mode vs ws) o) (agreement_truth mode vs ws) (condition_truth ks (merged mode vs ws) (merged_term mode vs ws) o))))
       (merged_terms mode vs ws)
       ∙ ap (λ n. Some (replicate n kind.Term)) (with_graph_length mode (merged mode vs ws) (each_once (vs ++ ws)) (Col (length vs)))
 
@@ -333,7 +334,7 @@ module _ (schema : Tables) where
   union_member_kinds mode all vs p h =
       let ks = replicate (columns_in mode vs) kind.Term in
       project_kinds schema (map (visible_column vs) all ++ if_each mode (Col (length vs))) p ks h
-      (All-append (IsTerm ks) (map (visible_column vs) all) (if_each mode (Col (length vs))) (All-each (IsTerm ks) (visible_column vs) (λ v. visible_term (columns_in mode vs) vs v (columns_most mode vs)) all) (graph_term mode vs))
+      (recursion_append (IsTerm ks) (map (visible_column vs) all) (if_each mode (Col (length vs))) (All-each (IsTerm ks) (visible_column vs) (λ v. visible_term (columns_in mode vs) vs v (columns_most mode vs)) all) (graph_term mode vs))
       ∙ ap (λ n. Some (replicate n kind.Term)) (with_graph_length mode (visible_column vs) all (Col (length vs)))
 
   union_plan_kinds : (mode : Mode) (vs ws : List ℕ) (p q : Plan) → HasTermKinds schema (columns_in mode vs) p → HasTermKinds schema (columns_in mode ws) q → HasTermKinds schema (columns_in mode (each_once (vs ++ ws))) (union_plan mode vs ws p q)
@@ -355,13 +356,13 @@ module _ (schema : Tables) where
   after_test_kinds : (first : Plan) (vs : List ℕ) (p : Plan) → HasTermKinds schema 0 first → HasTermKinds schema (length vs) p → HasTermKinds schema (length vs) (after first vs 0 p)
   after_test_kinds first vs p h k =
       project_kinds schema (map (column vs 0) vs ++ []) (Join (plans (first ∷ p ∷ [])) (truth_const true)) (replicate (0 + length vs) kind.Term) (behind_kinds first vs 0 p h k)
-      (All-append (IsTerm (replicate (0 + length vs) kind.Term)) (map (column vs 0) vs) [] (All-within (IsTerm (replicate (0 + length vs) kind.Term)) (column vs 0) vs (column_term 0 vs)) tt)
+      (recursion_append (IsTerm (replicate (0 + length vs) kind.Term)) (map (column vs 0) vs) [] (All-within (IsTerm (replicate (0 + length vs) kind.Term)) (column vs 0) vs (column_term 0 vs)) tt)
       ∙ ap (λ n. Some (replicate n kind.Term)) (ap length (append-nil (map (column vs 0) vs)) ∙ length-map vs (column vs 0))
 
   after_names_kinds : (first : Plan) (vs : List ℕ) (p : Plan) → HasTermKinds schema 1 first → HasTermKinds schema (length vs) p → HasTermKinds schema (suc (length vs)) (after first vs 1 p)
   after_names_kinds first vs p h k =
       project_kinds schema (map (column vs 1) vs ++ Col 0 ∷ []) (Join (plans (first ∷ p ∷ [])) (truth_const true)) (replicate (1 + length vs) kind.Term) (behind_kinds first vs 1 p h k)
-      (All-append (IsTerm (replicate (1 + length vs) kind.Term)) (map (column vs 1) vs) (Col 0 ∷ []) (All-within (IsTerm (replicate (1 + length vs) kind.Term)) (column vs 1) vs (column_term 1 vs)) (term_at (1 + length vs) 0 (omega arith), tt))
+      (recursion_append (IsTerm (replicate (1 + length vs) kind.Term)) (map (column vs 1) vs) (Col 0 ∷ []) (All-within (IsTerm (replicate (1 + length vs) kind.Term)) (column vs 1) vs (column_term 1 vs)) (term_at (1 + length vs) 0 (omega arith), tt))
       ∙ ap (λ n. Some (replicate n kind.Term)) (with_graph_length Each (column vs 1) vs (Col 0))
 
   its_graph_kinds : (vs : List ℕ) (v : ℕ) (p : Plan) → HasTermKinds schema (suc (length vs)) p → HasTermKinds schema (suc (length vs)) (in_its_graph vs v p)

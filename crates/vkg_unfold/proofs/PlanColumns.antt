@@ -5,6 +5,8 @@ use Rattle.std.specs.List.{AllByRecursion, list_all, cons_option}
 use Rattle.std.specs.Cmp.Lexicographic.{pointwise}
 use Rattle.std.proofs.lemmas.List.{length-map, map-append}
 use Rattle.std.proofs.lemmas.Option.{none-some}
+use Rattle.vkg_lists.proofs.Members.{recursion_append}
+use Rattle.vkg_lists.specs.Options.{with_first}
 use Rattle.vkg_lists.specs.Sets.{distinct}
 use Rattle.vkg_lists.proofs.Distinct.{distinct-map}
 use Rattle.vkg_cells.specs.declared.cell.SqlType.{SqlType}
@@ -21,7 +23,7 @@ use Rattle.vkg_expr.specs.Expr.{Expr, Col, Same, Not, IsNull, exprs}
 use Rattle.vkg_expr.specs.Logic.{and_of}
 use Rattle.vkg_expr.specs.TermExprs.{term_const, term_expr}
 use Rattle.vkg_expr.specs.Typing.{equality_kind, is_one, kinds_of, same_kind}
-use Rattle.vkg_plan.specs.Kinds.{Kinds, Tables, alike, beside_all, checked, kinds_of_each, plan_kinds, with_first}
+use Rattle.vkg_plan.specs.Kinds.{Kinds, Tables, alike, beside_all, checked, kinds_of_each, plan_kinds}
 use Rattle.vkg_plan.specs.Plan.{Plan, Project, plans}
 use Rattle.vkg_match.specs.Verdict.{Verdict, Never, All, verdict_of}
 use Rattle.vkg_row_rules.specs.declared.row_rule.RowRule.{RowRule}
@@ -32,13 +34,13 @@ use Rattle.vkg_unfold.specs.FittingRules.{AreFitting, FitsCondition, FitsGraph, 
 use Rattle.vkg_unfold.specs.Unfolded.{Name, Named, again, constants, default_graph, exists_plan, graph_exprs, graph_terms, graph_test, if_each, name_eq, named, names_plan, node_names, not_null, pattern_member, pattern_names, pattern_places, pattern_plan, places, repeats, rule_member, rule_source, same_name, source_plan, union_of, unless_never, names_member, exists_member}
 use Rattle.vkg_unfold.proofs.TermKinds.{IsTerm, IsTruth, and_truth, get_behind, kinds_each, known_truth, not_truth, rule_term, same_truth, wider_term}
 use Rattle.vkg_maps.specs.Within.{kinds_at}
-use Rattle.vkg_plan.proofs.RowsFit.{All-append, All-map, All-filter}
+use Rattle.vkg_plan.proofs.RowsFit.{All-map, All-filter}
 
 -- ---- what holds of all that a function gives
 
 pub All-flat_map : {X Y : Type 0} (P : X → Type 0) (Q : Y → Type 0) (f : X → List Y) → ((x : X) → P x → AllByRecursion Q (f x)) → (xs : List X) → AllByRecursion P xs → AllByRecursion Q (flat_map f xs)
 All-flat_map P Q f g [] h = tt
-All-flat_map P Q f g (x ∷ xs) h = All-append Q (f x) (flat_map f xs) (g x h.0) (All-flat_map P Q f g xs h.1)
+All-flat_map P Q f g (x ∷ xs) h = recursion_append Q (f x) (flat_map f xs) (g x h.0) (All-flat_map P Q f g xs h.1)
 
 pub All-distinct : {X : Type 0} (P : X → Type 0) (eq : X → X → Bool) (xs : List X) → AllByRecursion P xs → AllByRecursion P (distinct eq xs)
 All-distinct P eq [] h = tt
@@ -89,7 +91,7 @@ source_kinds schema table None cs t j h = ap (checked (and_of cs)) t ∙ checked
 source_kinds schema table (Some join) cs t j h =
     (λ i. checked c (beside_all (with_first (t i) (with_first (j.0 i) (Some [])))))
     ∙ ap (λ l. checked c (Some (ks ++ l))) (append-nil ls)
-    ∙ checked_truth c (ks ++ ls) (and_truth (ks ++ ls) (conditions schema table join ++ cs) (All-append (IsTruth (ks ++ ls)) (conditions schema table join) cs (conditions_truth schema table join ls j.1) h))
+    ∙ checked_truth c (ks ++ ls) (and_truth (ks ++ ls) (conditions schema table join ++ cs) (recursion_append (IsTruth (ks ++ ls)) (conditions schema table join) cs (conditions_truth schema table join ls j.1) h))
   where
     ks : Kinds
     ks = kinds_at schema table
@@ -166,7 +168,7 @@ member_kinds : (schema : Tables) (rule : RowRule) (es test cs : List Expr) → I
 member_kinds schema rule es test cs h terms tests k =
     project_kinds schema es (rule_source schema rule (not_null rule ++ test ++ cs)) ks
     (source_kinds schema rule.table rule.join (not_null rule ++ test ++ cs) h.table h.join
-    (All-append (IsTruth ks) (not_null rule ++ test) cs (All-append (IsTruth ks) (not_null rule) test (not_null_truth ks rule (rule_terms schema rule h)) tests) k))
+    (recursion_append (IsTruth ks) (not_null rule ++ test) cs (recursion_append (IsTruth ks) (not_null rule) test (not_null_truth ks rule (rule_terms schema rule h)) tests) k))
     terms
   where
     ks : Kinds
@@ -222,9 +224,9 @@ again_truth ks x (Some y) h k = (same_truth ks x.1 y.1 h k, tt)
 pub repeats_truth : (ks : Kinds) (before xs : List Named) → AllByRecursion (NamedFits ks) before → AllByRecursion (NamedFits ks) xs → AllByRecursion (IsTruth ks) (repeats before xs)
 repeats_truth ks before [] h k = tt
 repeats_truth ks before (x ∷ xs) h k =
-    All-append (IsTruth ks) (again x (find (same_name x) before)) (repeats (before ++ x ∷ []) xs)
+    recursion_append (IsTruth ks) (again x (find (same_name x) before)) (repeats (before ++ x ∷ []) xs)
     (again_truth ks x (find (same_name x) before) k.0 (found (NamedFits ks) (same_name x) before h))
-    (repeats_truth ks (before ++ x ∷ []) xs (All-append (NamedFits ks) before (x ∷ []) h (k.0, tt)) k.1)
+    (repeats_truth ks (before ++ x ∷ []) xs (recursion_append (NamedFits ks) before (x ∷ []) h (k.0, tt)) k.1)
 
 hidden_fits : (ks : Kinds) (mode : Mode) (gs : List Expr) → AllByRecursion (IsTerm ks) gs → AllByRecursion (NamedFits ks) (flat_map (λ g. if_each mode (None, g)) gs)
 hidden_fits ks Default gs h = All-flat_map (IsTerm ks) (NamedFits ks) (λ g. []) (λ g k. tt) gs h
@@ -233,13 +235,13 @@ hidden_fits ks Each gs h = All-flat_map (IsTerm ks) (NamedFits ks) (λ g. (None,
 
 columns_fit : (ks : Kinds) (mode : Mode) (p : TriplePattern) (rule : RowRule) → HasTerms ks rule → AllByRecursion (NamedFits ks) (pattern_places mode p rule)
 columns_fit ks mode p rule h =
-    All-append (NamedFits ks) (distinct same_name (flat_map named (places p rule))) (flat_map (λ g. if_each mode (None, g)) (graph_exprs rule))
+    recursion_append (NamedFits ks) (distinct same_name (flat_map named (places p rule))) (flat_map (λ g. if_each mode (None, g)) (graph_exprs rule))
     (All-distinct (NamedFits ks) same_name (flat_map named (places p rule)) (All-flat_map (PlaceFits ks) (NamedFits ks) named (named_fits ks) (places p rule) (places_fit ks p rule h)))
     (hidden_fits ks mode (graph_exprs rule) h.graph)
 
 pattern_conditions : (ks : Kinds) (p : TriplePattern) (rule : RowRule) → HasTerms ks rule → AllByRecursion (IsTruth ks) (flat_map constants (places p rule) ++ repeats [] (flat_map named (places p rule)))
 pattern_conditions ks p rule h =
-    All-append (IsTruth ks) (flat_map constants (places p rule)) (repeats [] (flat_map named (places p rule)))
+    recursion_append (IsTruth ks) (flat_map constants (places p rule)) (repeats [] (flat_map named (places p rule)))
     (All-flat_map (PlaceFits ks) (IsTruth ks) constants (constants_truth ks) (places p rule) (places_fit ks p rule h))
     (repeats_truth ks [] (flat_map named (places p rule)) tt (All-flat_map (PlaceFits ks) (NamedFits ks) named (named_fits ks) (places p rule) (places_fit ks p rule h)))
 

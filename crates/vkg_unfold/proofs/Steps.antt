@@ -6,6 +6,7 @@ use Rattle.std.specs.List.{filter, list_any}
 use Rattle.std.proofs.lemmas.List.{drop_more, map-append, map_more, take_more}
 use Rattle.std.proofs.lemmas.List.Elements.{filter-append, filter_map-append}
 use Rattle.std.proofs.lemmas.Option.{same_Some}
+use Rattle.vkg_lists.proofs.Walks.{list_any-map}
 use Rattle.vkg_lists.specs.Sets.{distinct}
 use Rattle.vkg_sparql.specs.Query.{Condition, And, Or}
 use Rattle.vkg_sparql.specs.Seen.{condition_seen}
@@ -50,10 +51,6 @@ distinct_push {A} eq (x ∷ xs) y =
     last : (b : Bool) → filter n (if b then [] else y ∷ []) ≡ (if eq x y || b then [] else y ∷ [])
     last b = one b ∙ two (eq x y) b
 
-any_map : (p : Named → Bool) (xs : List NamedValue) → list_any p (map named_seen xs) ≡ list_any (λ n. p (named_seen n)) xs
-any_map p [] = refl
-any_map p (x ∷ xs) = ap (λ b. p (named_seen x) || b) (any_map p xs)
-
 pub names_more : (names : List Name) (i : ℕ) (d : Name) → i < length names →
     distinct name_eq (take (i + 1) names) ≡ distinct name_eq (take i names) ++ (if list_any (λ n. name_eq n (get_or names i d)) (take i names) then [] else get_or names i d ∷ [])
 names_more names i d h = ap (distinct name_eq) (take_more names i d h) ∙ distinct_push name_eq (take i names) (get_or names i d)
@@ -72,7 +69,7 @@ first_push xs x =
     ap (λ l. map second (distinct same_name l)) (map-append named_seen xs (x ∷ []))
     ∙ ap (map second) (distinct_push same_name (map named_seen xs) (named_seen x))
     ∙ map-append second (distinct same_name (map named_seen xs)) (if list_any (λ y. same_name y (named_seen x)) (map named_seen xs) then [] else named_seen x ∷ [])
-    ∙ ap (λ l. map second (distinct same_name (map named_seen xs)) ++ l) (one (list_any (λ y. same_name y (named_seen x)) (map named_seen xs)) ∙ ap (λ b. if b then [] else expr_seen x.expr ∷ []) (any_map (λ y. same_name y (named_seen x)) xs))
+    ∙ ap (λ l. map second (distinct same_name (map named_seen xs)) ++ l) (one (list_any (λ y. same_name y (named_seen x)) (map named_seen xs)) ∙ ap (λ b. if b then [] else expr_seen x.expr ∷ []) (list_any-map (λ y. same_name y (named_seen x)) named_seen xs))
   where
     one : (b : Bool) → map second (if b then [] else named_seen x ∷ []) ≡ (if b then [] else expr_seen x.expr ∷ [])
     one true = refl

@@ -3,6 +3,7 @@ use Rattle.std.proofs.Common.{◌≡◌, ◌∙◌, ℕ, zero, suc, ◌<◌, ◌
 use Rattle.std.proofs.Math.Nat.{add-suc}
 use Rattle.std.specs.Prelude.{Some, replicate, slice_get, option_map}
 use Rattle.std.specs.List.{AllByRecursion, list_all}
+use Rattle.vkg_lists.specs.Options.{with_first}
 use Rattle.vkg_cells.specs.declared.cell.SqlType.{SqlType}
 use Rattle.vkg_cells.specs.declared.cell.SqlType.TheVariants as kind
 use Rattle.vkg_expr.specs.declared.term_expr.Piece.{Piece}
@@ -14,7 +15,7 @@ use Rattle.vkg_expr.specs.declared.term_expr.TermExpr.TheVariants.{Fixed, Made, 
 use Rattle.vkg_expr.specs.Expr.{Expr, Col, Lex, IsNull, Not, Same, Coalesce, exprs}
 use Rattle.vkg_expr.specs.Logic.{and_of, or_of}
 use Rattle.vkg_expr.specs.TermExprs.{made, piece_expr, pieces_expr, term_expr}
-use Rattle.vkg_expr.specs.Typing.{are_all, equality_kind, giving, is_column, is_one, kind_of, kinds_of, lexical_kind, no_column, same_kind, with_kind, common}
+use Rattle.vkg_expr.specs.Typing.{are_all, equality_kind, giving, is_column, is_one, kind_of, kinds_of, lexical_kind, no_column, same_kind, common}
 use Rattle.vkg_plan.specs.Kinds.{Kinds}
 use Rattle.vkg_unfold.specs.FittingRules.{FitsPiece, FitsTerm}
 use Rattle.vkg_plan.proofs.RowsFit.{All-map}
@@ -32,7 +33,7 @@ IsText ks e = kind_of e ks ≡ Some kind.Text
 
 pub kinds_each : (k : SqlType) (ks : Kinds) (es : List Expr) → AllByRecursion (λ e. kind_of e ks ≡ Some k) es → kinds_of (exprs es) ks ≡ Some (replicate (length es) k)
 kinds_each k ks [] h = refl
-kinds_each k ks (e ∷ es) h = λ i. with_kind (h.0 i) (kinds_each k ks es h.1 i)
+kinds_each k ks (e ∷ es) h = λ i. with_first (h.0 i) (kinds_each k ks es h.1 i)
 
 truths_alike : (n : ℕ) → list_all (same_kind kind.Bool) (replicate n kind.Bool) ≡ true
 truths_alike zero = refl
@@ -74,7 +75,7 @@ pub known_truth : (ks : Kinds) (a : Expr) → IsTerm ks a → IsTruth ks (Not (I
 known_truth ks a p = not_truth ks (IsNull a) (null_truth ks a p)
 
 pub first_term : (ks : Kinds) (a b : Expr) → IsTerm ks a → IsTerm ks b → IsTerm ks (Coalesce (exprs (a ∷ b ∷ [])))
-first_term ks a b p q = λ i. common (with_kind (p i) (with_kind (q i) (Some [])))
+first_term ks a b p q = λ i. common (with_first (p i) (with_first (q i) (Some [])))
 
 -- ---- terms of rules
 

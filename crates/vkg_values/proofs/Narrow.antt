@@ -2,6 +2,7 @@
 use Rattle.std.proofs.Common.{◌≡◌, Bool, true, false, refl, true≢false}
 use Rattle.std.specs.Prelude.{Option, None, not, ◌&&◌, ◌||◌, codes, nat_lt, if◌then◌else◌}
 use Rattle.std.specs.Str.{bytes_eq}
+use Rattle.std.specs.Bool.{then_some}
 use Rattle.vkg_terms.specs.declared.term.Term.{Term}
 use Rattle.vkg_terms.specs.declared.term.Term.TheVariants.{Iri, Blank, Lit}
 use Rattle.vkg_terms.specs.declared.term.Annotation.TheVariants.{Plain, Lang, Typed}
@@ -14,14 +15,14 @@ use Rattle.vkg_values.specs.declared.operator.Test.{Test}
 use Rattle.vkg_values.specs.declared.operator.Test.TheVariants as tests
 use Rattle.vkg_values.specs.declared.operator.Compare.{Compare}
 use Rattle.vkg_values.specs.declared.operator.Compare.TheVariants as asks
-use Rattle.vkg_values.specs.Known.{known, when, widest}
+use Rattle.vkg_values.specs.Known.{known, widest}
 use Rattle.vkg_values.specs.Operators.{ebv, test_value, compare_value}
 
 -- by the datatype, by the form, and by the digits
 narrow_typed : (integer decimal is_integer is_decimal other wide : Bool) (int dec : Cell) (rest : Option Cell) →
     ((if integer then is_integer else if decimal then is_decimal else other) && ((integer || (decimal || false)) && wide)) ≡ false →
-    (if integer then when (is_integer && not wide) int else if decimal then when (is_decimal && not wide) dec else rest)
-    ≡ (if integer then when (is_integer && true) int else if decimal then when (is_decimal && true) dec else rest)
+    (if integer then then_some (is_integer && not wide) int else if decimal then then_some (is_decimal && not wide) dec else rest)
+    ≡ (if integer then then_some (is_integer && true) int else if decimal then then_some (is_decimal && true) dec else rest)
 narrow_typed true decimal true is_decimal other true int dec rest h = absurd (true≢false h)
 narrow_typed true decimal true is_decimal other false int dec rest h = refl
 narrow_typed true decimal false is_decimal other wide int dec rest h = refl

@@ -2,6 +2,7 @@
 use Rattle.std.specs.Prelude.{ℕ, Bool, true, false, not, ◌&&◌, List, [], ◌∷◌, Option, Some, None, option_map, codes, nat_lt, if◌then◌else◌, ◌==◌}
 use Rattle.std.specs.List.{list_any}
 use Rattle.std.specs.Str.{bytes_eq}
+use Rattle.std.specs.Bool.{then_some}
 use Rattle.vkg_terms.specs.declared.term.Term.{Term}
 use Rattle.vkg_terms.specs.declared.term.Term.TheVariants.{Iri, Blank, Lit}
 use Rattle.vkg_terms.specs.declared.term.Annotation.{Annotation}
@@ -13,17 +14,13 @@ use Rattle.vkg_cells.specs.Field.{is_one_text}
 use Rattle.vkg_cells.specs.Moment.{is_date, stamp_form}
 use Rattle.vkg_cells.specs.Number.{canonical, is_decimal, is_integer, width}
 
-abbrev pub when : Bool → Cell → Option Cell
-when true c = Some c
-when false c = None
-
 -- a number of so many digits is known, where there may be a widest one
 abbrev pub is_within : Option ℕ → ℕ → Bool
 is_within None digits = true
 is_within (Some most) digits = not (nat_lt most digits)
 
 abbrev pub truth_of : List ℕ → Option Cell
-truth_of text = if is_one_text (codes "true" ∷ codes "1" ∷ []) text then Some (cell.Bool true) else when (is_one_text (codes "false" ∷ codes "0" ∷ []) text) (cell.Bool false)
+truth_of text = if is_one_text (codes "true" ∷ codes "1" ∷ []) text then Some (cell.Bool true) else then_some (is_one_text (codes "false" ∷ codes "0" ∷ []) text) (cell.Bool false)
 
 -- a date and a time to 23:59:59 with a `T` (84) between them, without a zone, and with at most nine digits after a point
 abbrev pub moment_of : List ℕ → Option Cell
@@ -32,10 +29,10 @@ moment_of text = if list_any (λ b. b == 84) text then option_map cell.Stamp (st
 -- own: the forms of xsd:integer, decimal and boolean, and those of xsd:date and dateTime without a zone
 abbrev pub typed_value : Option ℕ → List ℕ → List ℕ → Option Cell
 typed_value most datatype text =
-    if bytes_eq datatype (xsd (codes "integer")) then when (is_integer text && is_within most (width text)) (cell.Int (canonical text))
-    else if bytes_eq datatype (xsd (codes "decimal")) then when (is_decimal text && is_within most (width text)) (cell.Dec (canonical text))
+    if bytes_eq datatype (xsd (codes "integer")) then then_some (is_integer text && is_within most (width text)) (cell.Int (canonical text))
+    else if bytes_eq datatype (xsd (codes "decimal")) then then_some (is_decimal text && is_within most (width text)) (cell.Dec (canonical text))
     else if bytes_eq datatype (xsd (codes "boolean")) then truth_of text
-    else if bytes_eq datatype (xsd (codes "date")) then when (is_date text) (cell.Date text)
+    else if bytes_eq datatype (xsd (codes "date")) then then_some (is_date text) (cell.Date text)
     else if bytes_eq datatype (xsd (codes "dateTime")) then moment_of text
     else None
 

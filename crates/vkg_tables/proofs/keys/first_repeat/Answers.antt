@@ -1,7 +1,8 @@
 use Rattle.std.proofs.Common.{◌≡◌, ◌∙◌, ◌++◌, Bool, true, false, not, None, Some, ap, ap₂, map, option_map, string_bytes, sym, take, refl}
 use Rattle.std.proofs.lemmas.List.{append-nil}
+use Rattle.std.specs.Option.{option_to_list}
 use Rattle.vkg_tables.specs.Checks.{repeats}
-use Rattle.vkg_tables.specs.Parts.{all_parts, one_or_none, parts}
+use Rattle.vkg_tables.specs.Parts.{all_parts, parts}
 use Rattle.vkg_tables.proofs.PartsLemmas.{any-texts}
 use Rattle.vkg_tables.proofs.FirstLemmas.{first-found, first-step, parts-next, repeats-known, texts-pushed}
 use Rattle.vkg_tables.proofs.keys.first_repeat.Goals as goal
@@ -22,7 +23,7 @@ loop-i-preserved-in_default c =
       first = first-step (repeats c.args.key.now) c.args.rows.now c.loop-i.i row _ c.loop-i-test.true c.index-rows-i.is c.loop-i.invariant.first
           (repeats-known c.args.key.now c.args.rows.now c.loop-i.i row None _ c.requires c.loop-i-test.true c.index-rows-i.is none c.loop-i.invariant.seen);
       seen = c.loop-i.invariant.seen ∙ sym (parts-next c.args.key.now c.args.rows.now c.loop-i.i row c.loop-i-test.true c.index-rows-i.is
-          ∙ ap (λ o. all_parts c.args.key.now (take c.loop-i.i c.args.rows.now) ++ one_or_none o) (sym none) ∙ append-nil _);
+          ∙ ap (λ o. all_parts c.args.key.now (take c.loop-i.i c.args.rows.now) ++ option_to_list o) (sym none) ∙ append-nil _);
     }
 
 pub returns-then-not-is_new : goal.returns-then-not-is_new
@@ -44,6 +45,6 @@ loop-i-preserved c =
           (repeats-known c.args.key.now c.args.rows.now c.loop-i.i row _ _ c.requires c.loop-i-test.true c.index-rows-i.is some c.loop-i.invariant.seen
           ∙ sym (any-texts c.in-Some.found.items c.loop-i.seen.keys) ∙ absent);
       seen = rw (c.in_ok-is_new.ensures.keys, absent) (texts-pushed c.loop-i.seen.keys c.in-Some.found)
-          ∙ ap₂ (λ ks o. ks ++ one_or_none o) c.loop-i.invariant.seen some
+          ∙ ap₂ (λ ks o. ks ++ option_to_list o) c.loop-i.invariant.seen some
           ∙ sym (parts-next c.args.key.now c.args.rows.now c.loop-i.i row c.loop-i-test.true c.index-rows-i.is);
     }

@@ -1,6 +1,7 @@
 use Rattle.std.proofs.Common.{◌≡◌, ◌∙◌, ◌++◌, ◌||◌, Some, ap, map, option_map, string_bytes, sym, take}
 use Rattle.std.specs.List.{list_any}
-use Rattle.vkg_tables.specs.Parts.{all_parts, one_or_none, parts, texts_eq}
+use Rattle.std.specs.Option.{option_to_list}
+use Rattle.vkg_tables.specs.Parts.{all_parts, parts, texts_eq}
 use Rattle.vkg_tables.proofs.PartsLemmas.{any-inserted, any-parts-more}
 use Rattle.vkg_tables.proofs.FirstLemmas.{parts-next}
 use Rattle.vkg_tables.proofs.keys.known_parts.Goals as goal
@@ -12,5 +13,5 @@ loop-row-preserved c f =
     rw c.in_ok-insert_full.ensures.keys (any-inserted f c.loop-row.known.keys c.in-Some.found)
     ∙ ap (λ b. b || texts_eq f (map string_bytes c.in-Some.found.items)) (c.loop-row.invariant f)
     ∙ sym (any-parts-more f (all_parts c.args.columns.now (take c.loop-row.row-index c.args.rows.now)) (map string_bytes c.in-Some.found.items))
-    ∙ ap (λ o. list_any (texts_eq f) (all_parts c.args.columns.now (take c.loop-row.row-index c.args.rows.now) ++ one_or_none o)) some
+    ∙ ap (λ o. list_any (texts_eq f) (all_parts c.args.columns.now (take c.loop-row.row-index c.args.rows.now) ++ option_to_list o)) some
     ∙ sym (ap (list_any (texts_eq f)) (parts-next c.args.columns.now c.args.rows.now c.loop-row.row-index row c.loop-row-test.true c.row-item.is))

@@ -1,10 +1,10 @@
-use Rattle.std.proofs.Common.{◌∙◌, ap, string_bytes}
+use Rattle.std.proofs.Common.{◌∙◌, ap, string_bytes, sym}
 use Rattle.std.specs.List.{list_any}
 use Rattle.std.specs.Str.{bytes_eq}
-use Rattle.vkg_sparql.proofs.NamesLemmas.{list_any-map}
+use Rattle.vkg_lists.proofs.Walks.{list_any-map}
 use Rattle.vkg_sparql.proofs.names.Names.contains.Goals as goal
 
 pub returns : goal.returns
 returns c =
-    c.contains.ensures ∙ list_any-map string_bytes (bytes_eq c.args.text.now) c.self.inside.texts.keys
+    c.contains.ensures ∙ sym (list_any-map (bytes_eq c.args.text.now) string_bytes c.self.inside.texts.keys)
     ∙ ap (list_any (bytes_eq c.args.text.now)) c.self.view_is
