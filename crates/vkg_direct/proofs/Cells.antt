@@ -1,33 +1,28 @@
 -- A cell of a kind has a form, and the form is of the kind's natural datatype.
-use Rattle.std.proofs.Common.{◌≡◌, ◌≢◌, ℕ, refl, sym, ◌∙◌, ap, subst, List, [], ◌∷◌, codes, Bool, true, false, cond, ◌||◌, arith, nat_lt, Some, Result, Ok, Err}
+use Rattle.std.proofs.Common.{◌≡◌, ◌≢◌, ℕ, refl, sym, ◌∙◌, ap, subst, List, codes, Bool, true, false, cond, ◌||◌, nat_lt, Some, Ok, Err}
 use Rattle.std.specs.Prelude.{chars, IsUtf8}
-use Rattle.std.specs.List.{list_all}
 use Rattle.std.specs.Str.{IsAscii}
 use Rattle.std.proofs.lemmas.Str.{scalars-chars, IsUtf8-from_ascii}
-use Rattle.std.proofs.lemmas.Str.Ascii.{IsAscii-nil, IsAscii-cons}
 use lib.Utf8.{scalars}
 use Rattle.vkg_lists.proofs.Results.{ok_same}
-use Rattle.hex.specs.Hex.{decode_of, encode_upper, upper_digits}
-use Rattle.hex.specs.declared.error.FromHexError.{FromHexError}
-use Rattle.hex.proofs.HexLemmas.{IsAscii-encode_with}
+use Rattle.hex.specs.Hex.{decode_of, encode_upper}
 use Rattle.vkg_terms.specs.declared.term.Term.TheVariants.{Lit}
 use Rattle.vkg_cells.specs.declared.cell.SqlType.{SqlType}
 use Rattle.vkg_cells.specs.declared.cell.SqlType.TheVariants as kind
 use Rattle.vkg_cells.specs.declared.cell.Cell.{Cell}
 use Rattle.vkg_cells.specs.declared.cell.Cell.TheVariants as cell
-use Rattle.vkg_cells.specs.Field.{where_octets, is_true_word, is_false_word}
+use Rattle.vkg_cells.specs.Field.{is_true_word, is_false_word}
 use Rattle.vkg_cells.specs.Form.{lexical_form, IsOfKind, natural}
 use Rattle.vkg_cells.specs.Number.{is_integer, is_decimal, width, canonical}
 use Rattle.vkg_cells.specs.Moment.{is_date, stamp_form}
 use Rattle.vkg_cells.specs.WellTyped.{is_xsd_date, is_xsd_date_time}
 use Rattle.vkg_cells.proofs.CanonicalLemmas.{is-read, integer-decimal, integer-read}
-use Rattle.vkg_cells.proofs.FieldLemmas.{field_ok, number_ok, stamp_ok}
+use Rattle.vkg_cells.proofs.AsciiForms.{bool_ascii, canonical_ascii, octets_ascii}
+use Rattle.vkg_cells.proofs.FieldLemmas.{field_ok, number_ok, octets_ok, stamp_ok}
 use Rattle.vkg_cells.proofs.MomentText.{Made, form_ascii, stamp_made}
 use Rattle.vkg_direct.proofs.Moments.{date_is, form_is}
 use Rattle.vkg_maps.specs.Terms.{literal}
 use Rattle.vkg_maps.specs.declared.data_fault.TermFault.TheVariants.{IllTyped, TooWide}
-use Rattle.vkg_lists.proofs.Bools.{and_parts}
-use Rattle.vkg_direct.proofs.Numbers.{canonical_ascii}
 
 pub record Formed (k : SqlType) (c : Cell) : Type 0 where
   pub form : List ℕ
@@ -68,21 +63,12 @@ formed_decimal text d n =
       typed = typed_decimal (canonical text) reads.decimal (ap (nat_lt 38) reads.width_same ∙ n);
     }
 
-small_ascii : (text : List ℕ) → list_all (λ b. nat_lt b 128) text ≡ true → IsAscii text
-small_ascii [] e = IsAscii-nil
-small_ascii (b ∷ bs) e =
-    let h = and_parts (nat_lt b 128) (list_all (λ b. nat_lt b 128) bs) e in
-    IsAscii-cons b bs (let g = h.0 in grind arith) (small_ascii bs h.1)
-
 formed_bool : (b : Bool) → Formed kind.Bool (cell.Bool b)
-formed_bool true = record { form = codes "true"; is = refl; spelled = ascii_spelled (codes "true") (small_ascii (codes "true") refl); typed = refl }
-formed_bool false = record { form = codes "false"; is = refl; spelled = ascii_spelled (codes "false") (small_ascii (codes "false") refl); typed = refl }
-
-upper_ascii : (octets : List ℕ) → IsAscii (encode_upper octets)
-upper_ascii octets = IsAscii-encode_with upper_digits octets (small_ascii upper_digits refl)
+formed_bool true = record { form = codes "true"; is = refl; spelled = ascii_spelled (codes "true") (bool_ascii true); typed = refl }
+formed_bool false = record { form = codes "false"; is = refl; spelled = ascii_spelled (codes "false") (bool_ascii false); typed = refl }
 
 formed_binary : (octets : List ℕ) → Formed kind.Bin (cell.Bin (encode_upper octets))
-formed_binary octets = record { form = encode_upper octets; is = refl; spelled = ascii_spelled (encode_upper octets) (upper_ascii octets); typed = refl }
+formed_binary octets = record { form = encode_upper octets; is = refl; spelled = ascii_spelled (encode_upper octets) (octets_ascii octets); typed = refl }
 
 typed_date : (t : List ℕ) → is_xsd_date t ≡ true → literal t (natural kind.Date) ≡ Ok (Some (Lit t (natural kind.Date)))
 typed_date t e = ap (λ b. cond b (Ok (Some (Lit t (natural kind.Date)))) (Err IllTyped)) e
@@ -101,10 +87,6 @@ formed_stamp form m = record {
   typed = typed_stamp form (ap is_xsd_date_time m.is ∙ form_is m.date m.clock m.fraction m.is_date m.is_clock m.is_digits);
 }
 
-octets_formed : (r : Result (List ℕ) FromHexError) (c : Cell) → where_octets r ≡ Ok c → Formed kind.Bin c
-octets_formed (Ok octets) c e = subst (Formed kind.Bin) (ok_same (cell.Bin (encode_upper octets)) c e) (formed_binary octets)
-octets_formed (Err f) c e = cc
-
 pub formed : (k : SqlType) (c : Cell) → k ≢ kind.Term → IsOfKind k c → Formed k c
 formed kind.Text c n (text, u, e) = subst (Formed kind.Text) (ok_same (cell.Text text) c e) (record { form = text; is = refl; spelled = scalars-chars text u; typed = refl })
 formed kind.Int c n (text, u, e) = let h = number_ok (is_integer text) text (cell.Int (canonical text)) c e in subst (Formed kind.Int) h.2 (formed_integer text h.0 h.1)
@@ -112,5 +94,5 @@ formed kind.Dec c n (text, u, e) = let h = number_ok (is_decimal text) text (cel
 formed kind.Bool c n (text, u, e) = let h = field_ok (is_true_word text || is_false_word text) (cell.Bool (is_true_word text)) c e in subst (Formed kind.Bool) h.1 (formed_bool (is_true_word text))
 formed kind.Date c n (text, u, e) = let h = field_ok (is_date text) (cell.Date text) c e in subst (Formed kind.Date) h.1 (formed_date text u h.0)
 formed kind.Stamp c n (text, u, e) = let h = stamp_ok (stamp_form text) c e in subst (Formed kind.Stamp) h.2 (formed_stamp h.0 (stamp_made text h.0 h.1))
-formed kind.Bin c n (text, u, e) = octets_formed (decode_of text) c e
+formed kind.Bin c n (text, u, e) = let h = octets_ok (decode_of text) c e in subst (Formed kind.Bin) h.1 (formed_binary h.0)
 formed kind.Term c n o = absurd (n refl)

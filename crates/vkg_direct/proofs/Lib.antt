@@ -3,7 +3,6 @@ pub mod Whole
 pub mod Joined
 pub mod Steps
 pub mod Nodes
-pub mod Numbers
 pub mod Cells
 pub mod AllMade
 pub mod Law

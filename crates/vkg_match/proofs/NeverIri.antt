@@ -10,6 +10,7 @@ use Rattle.vkg_lists.proofs.Bools.{and_parts}
 use Rattle.vkg_terms.specs.declared.term.Term.TheVariants.{Iri}
 use Rattle.vkg_terms.specs.Same.{term_name}
 use Rattle.vkg_terms.specs.Vocabulary.{rr_default_graph}
+use Rattle.vkg_cells.proofs.AsciiForms.{ascii_small, small}
 use Rattle.vkg_schema.specs.Rows.{Row}
 use Rattle.vkg_expr.specs.declared.term_expr.Sort.TheVariants.{OfIri, OfBlank, OfLit}
 use Rattle.vkg_expr.specs.declared.term_expr.Piece.{Piece}
@@ -21,7 +22,6 @@ use Rattle.vkg_expr.specs.Value.{term_of, value_of}
 use Rattle.vkg_match.specs.Laws.{FitsHoles, HoldsTexts, IsTextPiece}
 use Rattle.vkg_match.specs.Verdict.{Never, verdict_of}
 use Rattle.vkg_match.proofs.Exact.{never, there_at}
-use Rattle.vkg_match.proofs.Forms.{ascii_small, small}
 use Rattle.vkg_match.proofs.Values.{Text, piece_text, pieces_text, term_at, term_made}
 
 -- two texts that are joined are there

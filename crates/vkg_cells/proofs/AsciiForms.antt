@@ -1,13 +1,28 @@
--- The canonical form of a number is ASCII.
-use Rattle.std.proofs.Common.{◌≡◌, ℕ, List, [], ◌∷◌, codes, Bool, true, false, if◌then◌else◌, lit<}
+-- Texts of small bytes are ASCII, and so are the forms of numbers, truth values and octets.
+use Rattle.std.proofs.Common.{◌≡◌, ℕ, List, [], ◌∷◌, codes, Bool, true, false, if◌then◌else◌, arith, nat_lt, refl, lit<}
+use Rattle.std.specs.List.{list_all}
 use Rattle.std.specs.Str.{IsAscii}
 use Rattle.std.proofs.lemmas.Str.{IsAscii-append}
 use Rattle.std.proofs.lemmas.Str.Ascii.{IsAscii-nil, IsAscii-cons}
+use Rattle.hex.specs.Hex.{encode_upper, upper_digits}
+use Rattle.hex.proofs.HexLemmas.{IsAscii-encode_with}
+use Rattle.vkg_lists.proofs.Bools.{and_parts}
+use Rattle.vkg_cells.specs.Form.{bool_form}
 use Rattle.vkg_cells.specs.Number.{is_decimal, canonical, whole, fraction, is_below_zero, or_zero, after_point, without_leading_zeros, without_trailing_zeros}
 use Rattle.vkg_cells.proofs.ValueLemmas.{AreDigits, digits-without-leading, digits-without-trailing}
 use Rattle.vkg_cells.proofs.SignLemmas.{decimal-parts}
 use Rattle.vkg_cells.proofs.CanonicalLemmas.{are-digits}
 use Rattle.vkg_cells.proofs.Digits.{digits_ascii, after_ascii}
+
+-- each byte is below 128, as a test
+abbrev pub small : List ℕ → Bool
+small text = list_all (λ b. nat_lt b 128) text
+
+pub ascii_small : (text : List ℕ) → small text ≡ true → IsAscii text
+ascii_small [] e = IsAscii-nil
+ascii_small (b ∷ bs) e =
+    let h = and_parts (nat_lt b 128) (small bs) e in
+    IsAscii-cons b bs (let g = h.0 in grind arith) (ascii_small bs h.1)
 
 sign_ascii : (minus : Bool) → IsAscii (if minus then codes "-" else [])
 sign_ascii true = IsAscii-cons 45 [] (lit< tt) IsAscii-nil
@@ -25,3 +40,10 @@ canonical_ascii text e =
     let dw = digits-without-leading (whole text) parts.0 in
     let df = digits-without-trailing (fraction text) parts.1 in
     IsAscii-append _ (after_point f) (IsAscii-append _ (or_zero w) (sign_ascii (is_below_zero text)) (zero_ascii w dw)) (after_ascii f (are-digits f df))
+
+pub bool_ascii : (b : Bool) → IsAscii (bool_form b)
+bool_ascii true = ascii_small (codes "true") refl
+bool_ascii false = ascii_small (codes "false") refl
+
+pub octets_ascii : (octets : List ℕ) → IsAscii (encode_upper octets)
+octets_ascii octets = IsAscii-encode_with upper_digits octets (ascii_small upper_digits refl)
