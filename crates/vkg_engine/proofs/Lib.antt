@@ -4,7 +4,6 @@ pub mod IndexLemmas
 pub mod LeftLemmas
 pub mod LinkLemmas
 pub mod LinkedLemmas
-pub mod Nulls
 pub mod RunLaws
 pub mod TableKinds
 pub mod TypedRows

@@ -1,6 +1,5 @@
 pub mod Accepted
 pub mod Certificate
-pub mod Dropping
 pub mod Failing
 pub mod LawfulParts
 pub mod Made

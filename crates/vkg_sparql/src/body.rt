@@ -91,7 +91,7 @@ fn fault_of(
     Ok(fault_if(4, unknown, iris))
 }
 
-#[tactic(auto, using(crate::proofs::Dropping::drop_past))]
+#[tactic(auto, using(std::proofs::lemmas::List::drop_all))]
 fn behind(lexemes: &[Lexeme], start: usize) -> &[Lexeme]
     ensures { result.now ≡ drop start lexemes.now }
 {

@@ -1,19 +1,12 @@
-use Rattle.std.proofs.Common.{◌≡◌, ◌∙◌, ◌++◌, Bool, true, false, not, None, Some, ap, ap₂, map, option_map, string_bytes, sym, take, refl}
+use Rattle.std.proofs.Common.{◌≡◌, ◌∙◌, ◌++◌, None, Some, ap, ap₂, map, option_map, string_bytes, sym, take}
 use Rattle.std.proofs.lemmas.List.{append-nil}
 use Rattle.std.specs.Option.{option_to_list}
+use Rattle.vkg_lists.proofs.Bools.{not_false, not_true}
 use Rattle.vkg_tables.specs.Checks.{repeats}
 use Rattle.vkg_tables.specs.Parts.{all_parts, parts}
 use Rattle.vkg_tables.proofs.PartsLemmas.{any-texts}
 use Rattle.vkg_tables.proofs.FirstLemmas.{first-found, first-step, parts-next, repeats-known, texts-pushed}
 use Rattle.vkg_tables.proofs.keys.first_repeat.Goals as goal
-
-flipped : (b : Bool) → false ≡ not b → b ≡ true
-flipped true e = refl
-flipped false e = cc e
-
-flipped-other : (b : Bool) → true ≡ not b → b ≡ false
-flipped-other false e = refl
-flipped-other true e = cc e
 
 pub loop-i-preserved-in_default : goal.loop-i-preserved-in_default
 loop-i-preserved-in_default c =
@@ -30,7 +23,7 @@ pub returns-then-not-is_new : goal.returns-then-not-is_new
 returns-then-not-is_new c =
     let row = c.index-rows-i.result in
     let some : Some (map string_bytes c.in-Some.found.items) ≡ parts c.args.key.now row = ap (option_map (λ v. map string_bytes v.items)) (sym c.in-Some.is) ∙ c.in_ok-found.ensures ∙ ap (parts c.args.key.now) c.as_slice.ensures in
-    let here = flipped _ (sym c.if-not-is_new.true ∙ c.in_ok-is_new.ensures.added) in
+    let here = not_false _ (sym c.in_ok-is_new.ensures.added ∙ c.if-not-is_new.true) in
     first-found (repeats c.args.key.now) c.args.rows.now c.loop-i.i row _ c.loop-i-test.true c.index-rows-i.is c.loop-i.invariant.first
     (repeats-known c.args.key.now c.args.rows.now c.loop-i.i row _ _ c.requires c.loop-i-test.true c.index-rows-i.is some c.loop-i.invariant.seen
     ∙ sym (any-texts c.in-Some.found.items c.loop-i.seen.keys) ∙ here)
@@ -39,7 +32,7 @@ pub loop-i-preserved : goal.loop-i-preserved
 loop-i-preserved c =
     let row = c.index-rows-i.result in
     let some : Some (map string_bytes c.in-Some.found.items) ≡ parts c.args.key.now row = ap (option_map (λ v. map string_bytes v.items)) (sym c.in-Some.is) ∙ c.in_ok-found.ensures ∙ ap (parts c.args.key.now) c.as_slice.ensures in
-    let absent = flipped-other _ (sym c.if-not-is_new.false ∙ c.in_ok-is_new.ensures.added) in
+    let absent = not_true _ (sym c.in_ok-is_new.ensures.added ∙ c.if-not-is_new.false) in
     record {
       first = first-step (repeats c.args.key.now) c.args.rows.now c.loop-i.i row _ c.loop-i-test.true c.index-rows-i.is c.loop-i.invariant.first
           (repeats-known c.args.key.now c.args.rows.now c.loop-i.i row _ _ c.requires c.loop-i-test.true c.index-rows-i.is some c.loop-i.invariant.seen
