@@ -3,7 +3,7 @@ use Rattle.std.proofs.Common.{◌≡◌, ◌≢◌, ℕ, suc, ◌+◌, ◌<◌, 
 use Rattle.std.specs.Prelude.{find, slice_get, unwrap_or, option_map, IfSome, IsTrue, nat_eq, ◌==◌, is_none}
 use Rattle.std.specs.List.{list_any, list_all, AllByRecursion, Contains, range_with_len}
 use Rattle.std.proofs.lemmas.Bool.{eqb-true}
-use Rattle.std.proofs.lemmas.List.{length-map}
+use Rattle.std.proofs.lemmas.List.{length-map, nil_from_length}
 use Rattle.std.proofs.lemmas.List.FromFn.{length-range_with_len}
 use Rattle.std.proofs.lemmas.Option.{slice_get-map}
 use Rattle.vkg_lists.proofs.Bools.{not_false, and_parts}
@@ -126,14 +126,10 @@ module _ (tables : List WrittenTable) (t u : WrittenTable) (r : WrittenReference
       ∙ by_place (λ k. place_at u.columns (slice_get right k)) (place_of u.columns) 0 right (λ k n e. let z : 0 + k ≡ k = omega arith in ap (λ j. place_at u.columns (slice_get right j)) z ∙ ap (place_at u.columns) e)
 
   has_pairs : pairs ≢ []
-  has_pairs e = no_key_of_none u.columns u.keys some_keys (subst (λ names. are_key u names ≡ true) (none right empty) is_right.keyed)
+  has_pairs e = no_key_of_none u.columns u.keys some_keys (subst (λ names. are_key u names ≡ true) (nil_from_length right empty) is_right.keyed)
     where
       empty : length right ≡ 0
       empty = is_right.size ∙ sym (length-range_with_len 0 (length r.columns)) ∙ ap length (map_none (pair_at t.columns u.columns r.columns right) (range_with_len 0 (length r.columns)) e)
-
-      none : (names : List Name) → length names ≡ 0 → names ≡ []
-      none [] q = refl
-      none (x ∷ xs) q = absurd (omega arith)
 
   keyed : IsTrue (list_any (λ k. same_places (parent_columns plain) k.columns) (keys_at u.columns u.keys))
   keyed = subst (λ ps. list_any (λ k. same_places ps k.columns) (keys_at u.columns u.keys) ≡ true) (sym parents_are)
