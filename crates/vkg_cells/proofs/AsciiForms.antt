@@ -9,10 +9,8 @@ use Rattle.hex.proofs.HexLemmas.{IsAscii-encode_with}
 use Rattle.vkg_lists.proofs.Bools.{and_parts}
 use Rattle.vkg_cells.specs.Form.{bool_form}
 use Rattle.vkg_cells.specs.Number.{is_decimal, canonical, whole, fraction, is_below_zero, or_zero, after_point, without_leading_zeros, without_trailing_zeros}
-use Rattle.vkg_cells.proofs.ValueLemmas.{AreDigits, digits-without-leading, digits-without-trailing}
 use Rattle.vkg_cells.proofs.SignLemmas.{decimal-parts}
-use Rattle.vkg_cells.proofs.CanonicalLemmas.{are-digits}
-use Rattle.vkg_cells.proofs.Digits.{digits_ascii, after_ascii}
+use Rattle.vkg_cells.proofs.Digits.{AreDigits, digits-without-leading, digits-without-trailing, digits_ascii, after_ascii}
 
 -- each byte is below 128, as a test
 abbrev pub small : List ℕ → Bool
@@ -30,7 +28,7 @@ sign_ascii false = IsAscii-nil
 
 zero_ascii : (ds : List ℕ) → AreDigits ds → IsAscii (or_zero ds)
 zero_ascii [] a = IsAscii-cons 48 [] (lit< tt) IsAscii-nil
-zero_ascii (d ∷ ds) a = digits_ascii (d ∷ ds) (are-digits (d ∷ ds) a)
+zero_ascii (d ∷ ds) a = digits_ascii (d ∷ ds) a
 
 pub canonical_ascii : (text : List ℕ) → is_decimal text ≡ true → IsAscii (canonical text)
 canonical_ascii text e =
@@ -39,7 +37,7 @@ canonical_ascii text e =
     let f = without_trailing_zeros (fraction text) in
     let dw = digits-without-leading (whole text) parts.0 in
     let df = digits-without-trailing (fraction text) parts.1 in
-    IsAscii-append _ (after_point f) (IsAscii-append _ (or_zero w) (sign_ascii (is_below_zero text)) (zero_ascii w dw)) (after_ascii f (are-digits f df))
+    IsAscii-append _ (after_point f) (IsAscii-append _ (or_zero w) (sign_ascii (is_below_zero text)) (zero_ascii w dw)) (after_ascii f df)
 
 pub bool_ascii : (b : Bool) → IsAscii (bool_form b)
 bool_ascii true = ascii_small (codes "true") refl

@@ -4,9 +4,10 @@ use Rattle.std.proofs.lemmas.Bool.{le-leb}
 use Rattle.std.specs.List.{after_first, before_first, list_all}
 use Rattle.std.specs.Char.{is_ascii_digit}
 use Rattle.vkg_cells.specs.Number.{after_point, canonical, fraction, is_below_zero, is_decimal, is_digits, is_integer, is_negative, onto_unless_zero, or_zero, unsigned, whole, width, without_leading_zeros, without_trailing_zeros}
-use Rattle.vkg_cells.proofs.ValueLemmas.{AreDigits, HasNoZeroFirst, IsTrimmed, digits-append, digits-without-leading, digits-without-trailing, no-zero-first, trimmed}
+use Rattle.vkg_cells.proofs.Digits.{AreDigits, are-digits, digits-append, digits-some, digits-without-leading, digits-without-trailing}
+use Rattle.vkg_cells.proofs.ValueLemmas.{HasNoZeroFirst, IsTrimmed, no-zero-first, trimmed}
 use Rattle.vkg_cells.proofs.PlaceLemmas.{after-all, after-cut, apart, before-all, before-cut, lacks-digits}
-use Rattle.vkg_cells.proofs.SignLemmas.{decimal-parts, digits-some}
+use Rattle.vkg_cells.proofs.SignLemmas.{decimal-parts}
 
 -- a numeral of its parts
 abbrev pub spelled : Bool → List ℕ → List ℕ → List ℕ
@@ -51,10 +52,6 @@ pub trailing-kept : (f : List ℕ) → IsTrimmed f → without_trailing_zeros f 
 trailing-kept [] h = refl
 trailing-kept (d ∷ []) h = rw (apart d 48 (λ e. h (sym e))) refl
 trailing-kept (d ∷ e ∷ es) h = ap (onto_unless_zero d) (trailing-kept (e ∷ es) h)
-
-pub are-digits : (ds : List ℕ) → AreDigits ds → list_all is_ascii_digit ds ≡ true
-are-digits [] a = refl
-are-digits (d ∷ ds) a = rw (le-leb 48 d a.0, le-leb d 57 a.1, are-digits ds a.2) refl
 
 some-digits : (w f : List ℕ) → AreDigits w → AreDigits f → is_digits (or_zero w ++ f) ≡ true
 some-digits [] f a b = are-digits (48 ∷ f) (lit≤ tt, lit≤ tt, b)

@@ -1,40 +1,66 @@
--- Digits, and what is ASCII of them.
-use Rattle.std.proofs.Common.{◌≡◌, ℕ, ◌<◌, refl, List, [], ◌∷◌, Bool, true, false, cond, ◌==◌, arith, lit<}
+-- Texts of digits, and what is ASCII of them.
+use Rattle.std.proofs.Common.{◌≡◌, ℕ, ◌≤◌, ◌++◌, ◌==◌, refl, List, [], ◌∷◌, Bool, true, false, if◌then◌else◌, arith, leb-true, lit<}
 use Rattle.std.specs.List.{list_all}
 use Rattle.std.specs.Char.{is_ascii_digit}
 use Rattle.std.specs.Str.{IsAscii}
+use Rattle.std.proofs.lemmas.Bool.{le-leb}
 use Rattle.std.proofs.lemmas.Str.Ascii.{IsAscii-nil, IsAscii-cons}
-use Rattle.vkg_lists.proofs.Bools.{and_true, and_parts}
-use Rattle.vkg_cells.specs.Number.{is_digits, after_point, onto_unless_zero, without_trailing_zeros}
+use Rattle.vkg_lists.proofs.Bools.{and_parts}
+use Rattle.vkg_cells.specs.Number.{is_digits, after_point, onto_unless_zero, without_leading_zeros, without_trailing_zeros}
 
-abbrev pub Digits : List ℕ → Type 0
-Digits xs = list_all is_ascii_digit xs ≡ true
+-- each is a digit
+abbrev pub AreDigits : List ℕ → Type 0
+AreDigits [] = Unit {0}
+AreDigits (d ∷ ds) = (48 ≤ d) × (d ≤ 57) × AreDigits ds
 
-pub digits_cons : (d : ℕ) (ds : List ℕ) → is_ascii_digit d ≡ true → Digits ds → Digits (d ∷ ds)
-digits_cons d ds e h = and_true (is_ascii_digit d) (list_all is_ascii_digit ds) e h
+-- as the test tells it
+pub are-digits : (ds : List ℕ) → AreDigits ds → list_all is_ascii_digit ds ≡ true
+are-digits [] a = refl
+are-digits (d ∷ ds) a = rw (le-leb 48 d a.0, le-leb d 57 a.1, are-digits ds a.2) refl
 
-pub digits_parts : (d : ℕ) (ds : List ℕ) → Digits (d ∷ ds) → (is_ascii_digit d ≡ true) × Digits ds
-digits_parts d ds h = and_parts (is_ascii_digit d) (list_all is_ascii_digit ds) h
+digits-all : (ds : List ℕ) → list_all is_ascii_digit ds ≡ true → AreDigits ds
+digits-all [] e = tt
+digits-all (d ∷ ds) e =
+    let here = and_parts (is_ascii_digit d) (list_all is_ascii_digit ds) e in
+    let range = and_parts _ _ here.0 in
+    (leb-true 48 d range.0, leb-true d 57 range.1, digits-all ds here.1)
 
-pub all_digits : (text : List ℕ) → is_digits text ≡ true → Digits text
-all_digits [] e = cc
-all_digits (b ∷ bs) e = e
+pub digits-some : (ds : List ℕ) → is_digits ds ≡ true → AreDigits ds
+digits-some [] e = tt
+digits-some (d ∷ ds) e = digits-all (d ∷ ds) e
 
-onto_digits : (x : ℕ) (xs : List ℕ) → is_ascii_digit x ≡ true → Digits xs → Digits (onto_unless_zero x xs)
-onto_digits x [] e h = elim (x == 48) as (λ b. Digits (cond b [] (x ∷ []))) [ true ↦ refl | false ↦ digits_cons x [] e refl ]
-onto_digits x (y ∷ ys) e h = digits_cons x (y ∷ ys) e h
+pub digits-append : (xs ys : List ℕ) → AreDigits xs → AreDigits ys → AreDigits (xs ++ ys)
+digits-append [] ys a b = b
+digits-append (x ∷ xs) ys a b = (a.0, a.1, digits-append xs ys a.2 b)
 
-pub trail_digits : (xs : List ℕ) → Digits xs → Digits (without_trailing_zeros xs)
-trail_digits [] h = h
-trail_digits (x ∷ xs) h = let p = digits_parts x xs h in onto_digits x (without_trailing_zeros xs) p.0 (trail_digits xs p.1)
+pub digits-parts : (w f : List ℕ) → AreDigits (w ++ f) → AreDigits w × AreDigits f
+digits-parts [] f a = (tt, a)
+digits-parts (d ∷ ds) f a = let rest = digits-parts ds f a.2 in ((a.0, a.1, rest.0), rest.1)
 
-pub small_digit : (b : ℕ) → is_ascii_digit b ≡ true → b < 128
-small_digit b e = grind arith
+pub digits-without-leading : (w : List ℕ) → AreDigits w → AreDigits (without_leading_zeros w)
+digits-without-leading [] a = tt
+digits-without-leading (d ∷ ds) a = by (digits-without-leading ds a.2) (d == 48) refl
+  where
+    by : AreDigits (without_leading_zeros ds) → (b : Bool) → (d == 48) ≡ b → AreDigits (if d == 48 then without_leading_zeros ds else d ∷ ds)
+    by h true e = rw e h
+    by h false e = rw e a
 
-pub digits_ascii : (xs : List ℕ) → Digits xs → IsAscii xs
-digits_ascii [] h = IsAscii-nil
-digits_ascii (x ∷ xs) h = let p = digits_parts x xs h in IsAscii-cons x xs (small_digit x p.0) (digits_ascii xs p.1)
+digits-onto : (d : ℕ) (ds : List ℕ) → 48 ≤ d → d ≤ 57 → AreDigits ds → AreDigits (onto_unless_zero d ds)
+digits-onto d (e ∷ es) a b h = (a, b, h)
+digits-onto d [] a b h = by (d == 48) refl
+  where
+    by : (c : Bool) → (d == 48) ≡ c → AreDigits (if d == 48 then [] else d ∷ [])
+    by true e = rw e tt
+    by false e = rw e (a, b, tt)
 
-pub after_ascii : (xs : List ℕ) → Digits xs → IsAscii (after_point xs)
-after_ascii [] h = IsAscii-nil
-after_ascii (x ∷ xs) h = IsAscii-cons 46 (x ∷ xs) (lit< tt) (digits_ascii (x ∷ xs) h)
+pub digits-without-trailing : (f : List ℕ) → AreDigits f → AreDigits (without_trailing_zeros f)
+digits-without-trailing [] a = tt
+digits-without-trailing (d ∷ ds) a = digits-onto d (without_trailing_zeros ds) a.0 a.1 (digits-without-trailing ds a.2)
+
+pub digits_ascii : (xs : List ℕ) → AreDigits xs → IsAscii xs
+digits_ascii [] a = IsAscii-nil
+digits_ascii (x ∷ xs) a = IsAscii-cons x xs (omega (arith, a.1)) (digits_ascii xs a.2)
+
+pub after_ascii : (xs : List ℕ) → AreDigits xs → IsAscii (after_point xs)
+after_ascii [] a = IsAscii-nil
+after_ascii (x ∷ xs) a = IsAscii-cons 46 (x ∷ xs) (lit< tt) (digits_ascii (x ∷ xs) a)

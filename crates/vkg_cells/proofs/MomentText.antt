@@ -10,7 +10,7 @@ use Rattle.std.specs.Option.{option_or}
 use Rattle.vkg_lists.proofs.Bools.{and_parts}
 use Rattle.vkg_cells.specs.Number.{is_digits, after_point, without_trailing_zeros}
 use Rattle.vkg_cells.specs.Moment.{two_digits_at, day_of_text, clock_of_text, is_date, is_clock, cut, form_if, form_at, form_of_parts, stamp_form}
-use Rattle.vkg_cells.proofs.Digits.{Digits, after_ascii, all_digits, small_digit, trail_digits}
+use Rattle.vkg_cells.proofs.Digits.{AreDigits, after_ascii, digits-some, digits-without-trailing}
 
 some_then : {A B : Type 0} (f : A → Option B) (o : Option A) → is_some (option_and_then f o) ≡ true → (a : A) × (o ≡ Some a) × (is_some (f a) ≡ true)
 some_then f None e = cc
@@ -19,6 +19,9 @@ some_then f (Some a) e = (a, refl, e)
 some_if : {A : Type 0} (b : Bool) (o : Option A) → is_some (cond b o None) ≡ true → (b ≡ true) × (is_some o ≡ true)
 some_if true o e = (refl, e)
 some_if false o e = cc
+
+small_digit : (b : ℕ) → is_ascii_digit b ≡ true → b < 128
+small_digit b e = grind arith
 
 digits_at : (bs : List ℕ) (i n : ℕ) → two_digits_at bs i ≡ Some n → (is_ascii_digit (slice_index bs i) ≡ true) × (is_ascii_digit (slice_index bs (i + 1)) ≡ true)
 digits_at bs i n e =
@@ -95,7 +98,7 @@ clock_fixed text e =
       ascii = ascii_below text 8 long ((((((((tt, small_digit _ d0.0), small_digit _ d0.1), colon2), small_digit _ d3.0), small_digit _ d3.1), colon5), small_digit _ d6.0), small_digit _ d6.1);
     }
 
-pub form_ascii : (date clock ds : List ℕ) → is_date date ≡ true → is_clock clock ≡ true → Digits ds → IsAscii (date ++ codes "T" ++ clock ++ after_point ds)
+pub form_ascii : (date clock ds : List ℕ) → is_date date ≡ true → is_clock clock ≡ true → AreDigits ds → IsAscii (date ++ codes "T" ++ clock ++ after_point ds)
 form_ascii date clock ds d c f = IsAscii-append _ (after_point ds) (IsAscii-append _ clock (IsAscii-append date (codes "T") (date_fixed date d).ascii (IsAscii-cons 84 [] (lit< tt) IsAscii-nil)) (clock_fixed clock c).ascii) (after_ascii ds f)
 
 -- what `stamp_form` gives is made of a date, a time of day and digits
@@ -105,10 +108,10 @@ pub record Made (form : List ℕ) : Type 0 where
   pub fraction : List ℕ
   pub is_date : is_date date ≡ true
   pub is_clock : is_clock clock ≡ true
-  pub is_digits : Digits fraction
+  pub is_digits : AreDigits fraction
   pub is : form ≡ date ++ codes "T" ++ clock ++ after_point fraction
 
-made_if : (b : Bool) (date clock fraction form : List ℕ) → (b ≡ true → (is_date date ≡ true) × (is_clock clock ≡ true) × Digits fraction) → form_if b date clock fraction ≡ Some form → Made form
+made_if : (b : Bool) (date clock fraction form : List ℕ) → (b ≡ true → (is_date date ≡ true) × (is_clock clock ≡ true) × AreDigits fraction) → form_if b date clock fraction ≡ Some form → Made form
 made_if false date clock fraction form h e = cc
 made_if true date clock fraction form h e = record {
   date = date;
@@ -116,17 +119,17 @@ made_if true date clock fraction form h e = record {
   fraction = without_trailing_zeros fraction;
   is_date = (h refl).0;
   is_clock = (h refl).1;
-  is_digits = trail_digits fraction (h refl).2;
+  is_digits = digits-without-trailing fraction (h refl).2;
   is = same_Some _ _ (sym e);
 }
 
 made_at : (date rest : List ℕ) (p : Option (List ℕ × List ℕ)) (form : List ℕ) → form_at date rest p ≡ Some form → Made form
-made_at date rest None form e = made_if (is_date date && is_clock rest) date rest [] form (λ b. let h = and_parts (is_date date) (is_clock rest) b in (h.0, h.1, refl)) e
+made_at date rest None form e = made_if (is_date date && is_clock rest) date rest [] form (λ b. let h = and_parts (is_date date) (is_clock rest) b in (h.0, h.1, tt)) e
 made_at date rest (Some p) form e = made_if (is_date date && is_clock p.0 && is_digits p.1 && nat_le (length p.1) 9) date p.0 p.1 form (λ b.
     let h = and_parts (is_date date && is_clock p.0 && is_digits p.1) (nat_le (length p.1) 9) b in
     let g = and_parts (is_date date && is_clock p.0) (is_digits p.1) h.0 in
     let f = and_parts (is_date date) (is_clock p.0) g.0 in
-    (f.0, f.1, all_digits p.1 g.1)) e
+    (f.0, f.1, digits-some p.1 g.1)) e
 
 made_of : (p : Option (List ℕ × List ℕ)) (form : List ℕ) → form_of_parts p ≡ Some form → Made form
 made_of None form e = cc

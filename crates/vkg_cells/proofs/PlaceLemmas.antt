@@ -6,7 +6,7 @@ use Rattle.std.specs.List.{after_first, before_first, position_or_len}
 use Rattle.std.proofs.Math.Seq.{drop-append-add, take-append_seam}
 use Rattle.std.proofs.Math.Nat.{zero-add}
 use Rattle.vkg_cells.specs.Moment.{cut}
-use Rattle.vkg_cells.proofs.ValueLemmas.{AreDigits}
+use Rattle.vkg_cells.proofs.Digits.{AreDigits}
 
 -- no byte of the list is this one
 abbrev pub Lacks : ℕ → List ℕ → Type 0

@@ -14,22 +14,8 @@ use Rattle.std.proofs.Math.Dec.{lt→ltb}
 use Rattle.std.proofs.lemmas.Bool.{cases_order, leb-true, ltb-true, ltb-false}
 use Rattle.vkg_lists.proofs.Bools.{and_parts}
 use Rattle.vkg_cells.specs.Number.{digits_value, fraction, is_below_zero, is_decimal, is_digits, is_negative, number_cmp, numerator, scale, size, whole, width, without_leading_zeros, without_trailing_zeros}
-use Rattle.vkg_cells.proofs.ValueLemmas.{AreDigits, cmp-less, cmp-equal, cmp-greater, cmp-scaled}
-
-digits-all : (ds : List ℕ) → list_all is_ascii_digit ds ≡ true → AreDigits ds
-digits-all [] e = tt
-digits-all (d ∷ ds) e =
-    let here = and_parts (is_ascii_digit d) (list_all is_ascii_digit ds) e in
-    let range = and_parts _ _ here.0 in
-    (leb-true 48 d range.0, leb-true d 57 range.1, digits-all ds here.1)
-
-pub digits-some : (ds : List ℕ) → is_digits ds ≡ true → AreDigits ds
-digits-some [] e = tt
-digits-some (d ∷ ds) e = digits-all (d ∷ ds) e
-
-digits-parts : (w f : List ℕ) → AreDigits (w ++ f) → AreDigits w × AreDigits f
-digits-parts [] f a = (tt, a)
-digits-parts (d ∷ ds) f a = let rest = digits-parts ds f a.2 in ((a.0, a.1, rest.0), rest.1)
+use Rattle.vkg_cells.proofs.Digits.{AreDigits, digits-parts, digits-some}
+use Rattle.vkg_cells.proofs.ValueLemmas.{cmp-less, cmp-equal, cmp-greater, cmp-scaled}
 
 -- the digits of a decimal, before and after the point
 pub decimal-parts : (text : List ℕ) → is_decimal text ≡ true → AreDigits (whole text) × AreDigits (fraction text)

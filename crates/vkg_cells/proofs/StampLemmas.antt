@@ -6,10 +6,10 @@ use Rattle.std.specs.Option.{option_or}
 use Rattle.vkg_lists.proofs.Bools.{and_parts}
 use Rattle.vkg_cells.specs.Moment.{cut, form_at, form_if, form_of_parts, is_clock, is_date, stamp_form}
 use Rattle.vkg_cells.specs.Number.{after_point, is_digits, without_trailing_zeros}
-use Rattle.vkg_cells.proofs.CanonicalLemmas.{are-digits, trailing-kept}
+use Rattle.vkg_cells.proofs.CanonicalLemmas.{trailing-kept}
+use Rattle.vkg_cells.proofs.Digits.{AreDigits, are-digits, digits-some, digits-without-trailing}
 use Rattle.vkg_cells.proofs.PlaceLemmas.{Lacks, cut-none, cut-some, lacks-cut, lacks-front, lacks-front-of}
-use Rattle.vkg_cells.proofs.SignLemmas.{digits-some}
-use Rattle.vkg_cells.proofs.ValueLemmas.{AreDigits, digits-without-trailing, ends-long, trimmed}
+use Rattle.vkg_cells.proofs.ValueLemmas.{ends-long, trimmed}
 
 -- a moment of its parts
 abbrev written : List ℕ → List ℕ → List ℕ → List ℕ

@@ -1,4 +1,4 @@
--- Digits, and the order of the numbers that they write.
+-- The order of the numbers that digits write.
 use Rattle.std.proofs.Common.{◌≡◌, ◌≢◌, ◌∙◌, ◌+◌, ◌-◌, ◌*◌, ◌^◌, ◌<◌, ◌≤◌, ◌++◌, ◌⊎◌, inl, inr, ℕ, zero, suc, Bool, true, false, List, [], ◌∷◌, refl, sym, ap, arith, length, fold, replicate, lit≤, length-append, append_assoc, eqb-true, if◌then◌else◌, ◌==◌}
 use Rattle.std.specs.Ordering.{nat_cmp, ordering_then}
 use Rattle.std.specs.Cmp.{nat_cmp_is, ranked}
@@ -6,6 +6,7 @@ use Rattle.std.proofs.lemmas.List.{length-replicate, replicate-append-replicate}
 use Rattle.std.proofs.lemmas.List.Sums.{fold-append}
 use Rattle.std.proofs.Math.Nat.{mul-one, pow-suc}
 use Rattle.vkg_cells.specs.Number.{digits_value, onto_unless_zero, without_leading_zeros, without_trailing_zeros}
+use Rattle.vkg_cells.proofs.Digits.{AreDigits, digits-append, digits-without-leading, digits-without-trailing}
 use Rattle.std.specs.Cmp.Lexicographic.{slice_cmp}
 use Rattle.std.specs.declared.cmp.Ordering.{Ordering}
 use Rattle.std.specs.declared.cmp.Ordering.TheVariants.{Less, Equal, Greater}
@@ -34,11 +35,6 @@ then-assoc Greater p q = refl
 abbrev pub onto : ℕ → List ℕ → ℕ
 onto n ds = fold (λ a d. 10 * a + (d - 48)) n ds
 
--- each is a digit
-abbrev pub AreDigits : List ℕ → Type 0
-AreDigits [] = Unit {0}
-AreDigits (d ∷ ds) = (48 ≤ d) × (d ≤ 57) × AreDigits ds
-
 step : (m n x y : ℕ) (o : Ordering) → 48 ≤ x → x ≤ 57 → 48 ≤ y → y ≤ 57
     → ordering_then (nat_cmp (10 * m + (x - 48)) (10 * n + (y - 48))) o ≡ ordering_then (nat_cmp m n) (ordering_then (nat_cmp x y) o)
 step m n x y o a b c d = elim (cases_order m n) [
@@ -66,10 +62,6 @@ cmp-onto (x ∷ xs) (y ∷ ys) a b e m n =
 
 abbrev pub zeros : ℕ → List ℕ
 zeros k = replicate k 48
-
-pub digits-append : (xs ys : List ℕ) → AreDigits xs → AreDigits ys → AreDigits (xs ++ ys)
-digits-append [] ys a b = b
-digits-append (x ∷ xs) ys a b = (a.0, a.1, digits-append xs ys a.2 b)
 
 digits-zeros : (k : ℕ) → AreDigits (zeros k)
 digits-zeros zero = tt
@@ -214,14 +206,6 @@ no-zero-first (d ∷ ds) = by (no-zero-first ds) (d == 48) refl
     by h true e = rw e h
     by h false e = rw e (λ h. eqb-false d 48 e (sym h))
 
-pub digits-without-leading : (w : List ℕ) → AreDigits w → AreDigits (without_leading_zeros w)
-digits-without-leading [] a = tt
-digits-without-leading (d ∷ ds) a = by (digits-without-leading ds a.2) (d == 48) refl
-  where
-    by : AreDigits (without_leading_zeros ds) → (b : Bool) → (d == 48) ≡ b → AreDigits (if d == 48 then without_leading_zeros ds else d ∷ ds)
-    by h true e = rw e h
-    by h false e = rw e a
-
 -- a fraction is its digits without the zeros at its end, and zeros
 pub record EndsInZeros (f : List ℕ) : Type 0 where
   pub count : ℕ
@@ -253,18 +237,6 @@ trimmed-onto d [] h = by (d == 48) refl
 pub trimmed : (f : List ℕ) → IsTrimmed (without_trailing_zeros f)
 trimmed [] = tt
 trimmed (d ∷ ds) = trimmed-onto d (without_trailing_zeros ds) (trimmed ds)
-
-digits-onto : (d : ℕ) (ds : List ℕ) → 48 ≤ d → d ≤ 57 → AreDigits ds → AreDigits (onto_unless_zero d ds)
-digits-onto d (e ∷ es) a b h = (a, b, h)
-digits-onto d [] a b h = by (d == 48) refl
-  where
-    by : (c : Bool) → (d == 48) ≡ c → AreDigits (if d == 48 then [] else d ∷ [])
-    by true e = rw e tt
-    by false e = rw e (a, b, tt)
-
-pub digits-without-trailing : (f : List ℕ) → AreDigits f → AreDigits (without_trailing_zeros f)
-digits-without-trailing [] a = tt
-digits-without-trailing (d ∷ ds) a = digits-onto d (without_trailing_zeros ds) a.0 a.1 (digits-without-trailing ds a.2)
 
 -- a number times a power of ten, by its digits without needless zeros
 scaled : (w f : List ℕ) (s : ℕ) → digits_value (w ++ f) * 10 ^ s

@@ -2,11 +2,11 @@
 use Rattle.std.proofs.Common.{◌≡◌, ◌∙◌, ℕ, ◌+◌, ◌≤◌, Bool, true, false, List, [], ◌∷◌, ◌++◌, length, nat_lt, take, map, refl, sym, ap, ap₂, subst, arith, append_assoc, length-append, Ok, Err, Some, if◌then◌else◌}
 use Rattle.std.proofs.lemmas.List.{length-map, length-take, take_all}
 use Rattle.std.proofs.lemmas.Bool.{ltb-false}
-use Rattle.std.proofs.lemmas.Option.{slice_get-get_or}
-use Rattle.std.proofs.Math.Seq.{get_or-append_seam, set-append_seam}
+use Rattle.std.proofs.Math.Seq.{set-append_seam}
 use Rattle.std.specs.List.{AllZip, slice_get, slice_set}
 use Rattle.std.specs.Prelude.{Option, None, Result}
 use Rattle.vkg_lists.specs.Results.{unless}
+use Rattle.vkg_lists.proofs.Heads.{at_seam}
 use Rattle.vkg_lists.proofs.Results.{ok_same, ok_err}
 use Rattle.vkg_base.specs.Outside.{Files, held}
 use Rattle.vkg_schema.specs.declared.table.Table.{Table}
@@ -66,11 +66,6 @@ not_long false f faults rows others e = refl
 
 short_file : (columns : List Column) (bytes : List ℕ) (rows : List Row) → table_of_bytes columns bytes ≡ Ok rows → nat_lt 2147483647 (length bytes) ≡ false
 short_file columns bytes rows e = not_long (nat_lt 2147483647 (length bytes)) _ _ _ rows (sym e)
-
--- the element behind a list
-at_seam : {A : Type 0} (xs : List A) (y : A) (ys : List A) → slice_get (xs ++ y ∷ ys) (length xs) ≡ Some y
-at_seam xs y ys =
-    slice_get-get_or (xs ++ y ∷ ys) (length xs) y (omega (arith, length-append xs (y ∷ ys))) ∙ ap (λ v. Some v) (get_or-append_seam xs y ys y)
 
 abbrev with_tables : List Table → List (List Row) → Seen
 with_tables schema tables = record { schema = schema; tables = tables }

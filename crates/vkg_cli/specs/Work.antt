@@ -1,5 +1,6 @@
 -- What the program does for a command, over known files.
-use Rattle.std.specs.Prelude.{◌≡◌, ℕ, ◌+◌, Bool, true, false, List, ◌∷◌, [], ◌++◌, codes, length, nat_lt, Option, Some, None, Result, Ok, Err, IfOk}
+use Rattle.std.specs.Prelude.{◌≡◌, ℕ, ◌+◌, Bool, true, false, List, ◌∷◌, [], ◌++◌, codes, length, nat_lt, Option, Some, None, Result, Ok, Err, IfOk, option_map}
+use Rattle.vkg_lists.specs.Results.{unless}
 use Rattle.vkg_base.specs.Outside.{Files}
 use Rattle.vkg_terms.specs.Safe.{safe}
 use Rattle.vkg_schema.specs.declared.table.Table.{Table}
@@ -78,8 +79,7 @@ LoadsTables files folder db k [] = Settles (λ outcome. outcome ≡ Ok db)
 LoadsTables files folder db k (table ∷ tables) = Then (LoadsTable files folder db k table) (λ next. LoadsTables files folder next (k + 1) tables)
 
 abbrev pub unless_fault : {A : Type 0} → Option TableFault → Result A Stop → Result A Stop
-unless_fault None later = later
-unless_fault (Some f) later = Err (table_stop f)
+unless_fault found later = unless (option_map table_stop found) later
 
 -- a check that gives no value
 abbrev pub checked : Option TableFault → Result (Unit {0}) Stop
@@ -150,8 +150,7 @@ abbrev pub data_stop : DataFault → Stop
 data_stop f = stop.Refused (fault.Data (check_of f.fault) f.map f.row f.term)
 
 abbrev pub unless_data : {A : Type 0} → Option DataFault → Result A Stop → Result A Stop
-unless_data None later = later
-unless_data (Some f) later = Err (data_stop f)
+unless_data found later = unless (option_map data_stop found) later
 
 -- a mapping that makes each of its terms over the tables, or the least data error
 abbrev pub Scans : Database → Mapping → Result Mapping Stop → Type 0

@@ -14,9 +14,8 @@ use Rattle.vkg_cells.specs.declared.cell.Cell.TheVariants as cell
 use Rattle.vkg_cells.specs.Field.{cell_of_field, where_number}
 use Rattle.vkg_cells.specs.Form.{IsOfKind}
 use Rattle.vkg_cells.specs.Number.{after_point, canonical, fraction, is_digits, is_integer, is_negative, or_zero, unsigned, whole, width, without_leading_zeros, without_trailing_zeros}
-use Rattle.vkg_cells.proofs.CanonicalLemmas.{are-digits}
+use Rattle.vkg_cells.proofs.Digits.{AreDigits, are-digits}
 use Rattle.vkg_cells.proofs.PlaceLemmas.{after-all, apart, before-all, lacks-digits}
-use Rattle.vkg_cells.proofs.ValueLemmas.{AreDigits}
 
 module _ (d : ℕ) (ds : List ℕ) (a : AreDigits (d ∷ ds)) (some : 48 < d) where
   plain : unsigned (d ∷ ds) ≡ d ∷ ds

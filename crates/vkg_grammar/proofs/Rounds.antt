@@ -1,9 +1,9 @@
 -- What the rounds keep.
 use Rattle.std.proofs.Common.{◌↔◌, IsTrue, ◌≡◌, ℕ, zero, suc, ◌+◌, ◌*◌, ◌/◌, ◌%◌, ◌<◌, ◌≤◌, Bool, true, false, ◌⊎◌, inl, inr, List, [], ◌∷◌, ◌++◌, length, get_or, take, Option, Some, None, refl, ap, sym, ◌∙◌, subst, arith, add-one, below_more, lt-ltb, le-ltb, replicate}
+use Rattle.std.proofs.lemmas.Bool.Decides.{leb_tells}
 use Rattle.std.proofs.lemmas.List.{length-replicate}
 use Rattle.std.proofs.lemmas.List.{get_or_append_left, length_push, take_more, take_all}
 use Rattle.std.proofs.lemmas.Nat.{mul-add-lt, div-mul-add, mod-mul-add}
-use Rattle.std.proofs.Math.Nat.{div-lt_iff_lt-mul, mul_comm}
 use Rattle.vkg_lists.specs.Lists.{AllBelow}
 use Rattle.vkg_grammar.specs.declared.rule.Rule.{Rule}
 use Rattle.vkg_grammar.specs.Grammar.{Shape, One, Parts, Choice, shape_of, IsGrammar, the_parts, the_first, the_second}
@@ -19,9 +19,6 @@ pub record IsFounded (g : List Rule) (rank : ℕ → Option ℕ → ℕ) (stamp 
 pub column_inside : (w i : ℕ) → i < w → column (seen_at i) < w
 column_inside w zero h = h
 column_inside w (suc i) h = rw add-one h
-
-pub row_inside : (w m i : ℕ) → 0 < w → i < w * m → i / w < m
-row_inside w m i pos h = (div-lt_iff_lt-mul pos).1 (rw mul_comm h)
 
 zeros_append : (xs ys : List ℕ) → zeros (xs ++ ys) ≡ zeros xs + zeros ys
 zeros_append [] ys = omega arith
@@ -145,13 +142,8 @@ shape_found {g = g} {n = n} c rank rank' w h kept lt (Parts xs) e f = falls_foun
 shape_found {g = g} {n = n} c rank rank' w h kept lt (Choice xs ys) e (inl f) = inl (falls_found (length g) rank rank' kept xs (w.closed n xs h (the_first e)) lt f)
 shape_found {g = g} {n = n} c rank rank' w h kept lt (Choice xs ys) e (inr f) = inr (falls_found (length g) rank rank' kept ys (w.closed n ys h (the_second e)) lt f)
 
-lt_or_le : (a b : ℕ) → (a < b) ⊎ (b ≤ a)
-lt_or_le a zero = inr (omega arith)
-lt_or_le zero (suc b) = inl (omega arith)
-lt_or_le (suc a) (suc b) = elim (lt_or_le a b) [ inl h ↦ inl (omega arith) | inr h ↦ inr (omega arith) ]
-
 pub column_or_not : (w : ℕ) (c : Option ℕ) → (column c < w) ⊎ (w ≤ column c)
-column_or_not w c = lt_or_le (column c) w
+column_or_not w c = elim (leb_tells w (column c)) [ inl (t, h) ↦ inr h | inr (t, h) ↦ inl h ]
 
 pub founded_next : {g : List Rule} {changed : Bool} (w stamp : ℕ) (old new : List ℕ) → IsGrammar g → length old ≡ w * length g → 0 < stamp → IsFounded g (rank_in old w) stamp → IsRound (BeginReason g w old) stamp old new (length old) changed → IsFounded g (rank_in new w) (stamp + 1)
 founded_next {g = g} w stamp old new wf size pos f r = record { falls = λ n c h p. falls n c h p (column_or_not w c); below = λ n c h. below n c h (column_or_not w c) }

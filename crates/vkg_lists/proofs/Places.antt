@@ -1,5 +1,6 @@
 -- `least_of` gives the least place.
-use Rattle.std.proofs.Common.{◌≡◌, ℕ, zero, suc, ◌<◌, ◌≤◌, ◌⊎◌, inl, inr, ⊎_elim, List, [], ◌∷◌, Option, Some, None, min, refl, sym, ap, subst, ◌∙◌, arith}
+use Rattle.std.proofs.Common.{◌≡◌, ℕ, ◌≤◌, inl, inr, ⊎_elim, List, [], ◌∷◌, Option, Some, None, min, refl, sym, ap, subst, ◌∙◌, arith}
+use Rattle.std.proofs.lemmas.Bool.Decides.{leb_tells}
 use Rattle.std.proofs.lemmas.Option.{none-some, same_Some}
 use Rattle.std.specs.Prelude.{fold}
 use Rattle.std.specs.List.{Contains}
@@ -52,25 +53,20 @@ module _ {A : Type 0} (place : A → Option ℕ) where
     where
       below : (b : ℕ) → ◌≡◌ {A = Option ℕ} (Some at) (Some b) → at ≤ b
       below b k = let same : at ≡ b = cc in omega (arith, same)
-  least_by y xs (Some a) (Some b) is rest later at e = let l = later b refl in let is_min : min a b ≡ at = cc in elim (order a b) [
-    | inl low ↦ let same : a ≡ at = omega (arith, is_min, low) in record {
+  least_by y xs (Some a) (Some b) is rest later at e = let l = later b refl in let is_min : min a b ≡ at = cc in elim (leb_tells a b) [
+    | inl (t, low) ↦ let same : a ≡ at = omega (arith, is_min, low) in record {
       item = y;
       among = Contains-here y xs;
       here = is ∙ ap (λ (n : ℕ). Some n) same;
       least = λ x c m h. ⊎_elim (λ i. let k = same_Some a c (sym is ∙ ap place i ∙ h) in omega (arith, k, same)) (λ d. let k = l.least x c d h in omega (arith, k, low, same)) (Contains-cons_cases y xs x m);
     }
-    | inr high ↦ let same : b ≡ at = omega (arith, is_min, high) in record {
+    | inr (t, high) ↦ let same : b ≡ at = omega (arith, is_min, high) in record {
       item = l.item;
       among = Contains-there y xs l.item l.among;
       here = l.here ∙ ap (λ (n : ℕ). Some n) same;
       least = λ x c m h. ⊎_elim (λ i. let k = same_Some a c (sym is ∙ ap place i ∙ h) in omega (arith, k, high, same)) (λ d. let k = l.least x c d h in omega (arith, k, same)) (Contains-cons_cases y xs x m);
     }
   ]
-    where
-      order : (a b : ℕ) → (a ≤ b) ⊎ (b < a)
-      order zero b = inl (omega arith)
-      order (suc a) zero = inr (omega arith)
-      order (suc a) (suc b) = elim (order a b) [ inl h ↦ inl (omega (arith, h)) | inr h ↦ inr (omega (arith, h)) ]
 
   -- the least place is one that an item has, and none has a lesser one
   pub least_of-some : (xs : List A) (at : ℕ) → least_of place xs ≡ Some at → IsLeastPlace place xs at

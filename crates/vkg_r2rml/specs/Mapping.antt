@@ -21,7 +21,7 @@ fault check place = record { check = check; map = place }
 abbrev pub map_limit : ℕ
 map_limit = 1024
 
--- the first triples map, unless from here, of which a check fails
+-- the first triples map, counted from here, of which a check fails
 abbrev pub in_order : ℕ → List (Checked TriplesMap) → Result (List TriplesMap) MapFault
 in_order place [] = Ok []
 in_order place (Ok m ∷ ms) = in_front m (in_order (place + 1) ms)

@@ -1,19 +1,16 @@
 -- The last item of a list.
-use Rattle.std.proofs.Common.{◌≡◌, ◌-◌, List, [], ◌∷◌, ◌++◌, Some, length, take, map, option_to_list, refl, sym, ap, ◌∙◌, length-append, arith}
+use Rattle.std.proofs.Common.{◌≡◌, ◌-◌, List, [], ◌∷◌, ◌++◌, Some, length, take, map, option_to_list, sym, ap, ◌∙◌, length-append, arith}
 use Rattle.std.proofs.Math.Seq.{take-append_seam}
 use Rattle.std.specs.Prelude.{slice_get}
+use Rattle.vkg_lists.proofs.Heads.{at_seam}
 use Rattle.vkg_turtle.specs.Document.{last_of, front_of}
 
 module _ {A : Type 0} where
-  at_seam : (xs : List A) (x : A) → slice_get (xs ++ x ∷ []) (length xs) ≡ Some x
-  at_seam [] x = refl
-  at_seam (y ∷ xs) x = at_seam xs x
-
   before_end : (xs : List A) (x : A) → length (xs ++ x ∷ []) - 1 ≡ length xs
   before_end xs x = omega (arith, length-append xs (x ∷ []))
 
   pub last_is : (old front : List A) (x : A) → old ≡ front ++ x ∷ [] → last_of old ≡ Some x
-  last_is old front x e = ap last_of e ∙ ap (slice_get (front ++ x ∷ [])) (before_end front x) ∙ at_seam front x
+  last_is old front x e = ap last_of e ∙ ap (slice_get (front ++ x ∷ [])) (before_end front x) ∙ at_seam front x []
 
   pub front_is : (old front : List A) (x : A) → old ≡ front ++ x ∷ [] → front_of old ≡ front
   front_is old front x e = ap front_of e ∙ ap (λ n. take n (front ++ x ∷ [])) (before_end front x) ∙ take-append_seam front (x ∷ [])
