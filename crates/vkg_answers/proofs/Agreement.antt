@@ -3,6 +3,7 @@ use Rattle.std.proofs.Common.{◌≡◌, ℕ, zero, suc, ◌+◌, ◌<◌, ◌�
 use Rattle.std.specs.Prelude.{Option, Some, None, ◌&&◌, ◌||◌, nat_eq, filter, fold, unwrap_or}
 use Rattle.std.specs.List.{list_all}
 use Rattle.std.proofs.lemmas.Bool.{eqb-true}
+use Rattle.std.proofs.lemmas.List.Folds.{list_all-map}
 use Rattle.std.proofs.Math.Bool.{or-true}
 use Rattle.vkg_lists.proofs.Tests.{nat_test}
 use Rattle.vkg_lists.proofs.Counts.{eq_itself}
@@ -40,10 +41,6 @@ holds-or_null a b row o p e f = (λ i. or_cells (e i) (f i)) ∙ or_terms o p
 pub compatible-map : (f g : ℕ → Option Term) (us : List ℕ) → compatible (map f us) (map g us) ≡ list_all (λ v. agree (f v) (g v)) us
 compatible-map f g [] = refl
 compatible-map f g (u ∷ us) = ap (λ b. agree (f u) (g u) && b) (compatible-map f g us)
-
-pub list_all-map : {A B : Type 0} (p : B → Bool) (f : A → B) (xs : List A) → list_all p (map f xs) ≡ list_all (λ x. p (f x)) xs
-list_all-map p f [] = refl
-list_all-map p f (x ∷ xs) = ap (λ b. p (f x) && b) (list_all-map p f xs)
 
 pub all_elim : (p : ℕ → Bool) (vs : List ℕ) → list_all p vs ≡ true → (v : ℕ) → has vs v ≡ true → p v ≡ true
 all_elim p [] h v k = absurd (true≢false (sym k))

@@ -4,7 +4,7 @@ use Rattle.std.specs.Prelude.{Option, Some, None, ◌&&◌, ◌||◌, Contains, 
 use Rattle.std.specs.Option.{option_map_or}
 use Rattle.std.specs.List.Sorted.{IsPermutation}
 use Rattle.std.specs.List.{list_any, zip}
-use Rattle.std.proofs.lemmas.Bool.{eqb-true}
+use Rattle.std.proofs.lemmas.Bool.{eqb-true, or_cases}
 use Rattle.std.proofs.lemmas.List.{map-append}
 use Rattle.std.proofs.lemmas.List.Elements.{Contains-append_cases}
 use Rattle.vkg_lists.proofs.Tests.{nat_test}
@@ -104,10 +104,6 @@ member-append x (y ∷ ns) ms = of (member-append x ns ms) (name_eq x y)
 -- a name in a list with each once is in the list
 member-once : (x : Name) (ns : List Name) → list_any (name_eq x) (distinct name_eq ns) ≡ true → list_any (name_eq x) ns ≡ true
 member-once x ns h = (Decides-list_any name_test ns x).1 (Contains-from_distinct name_eq ns x ((Decides-list_any name_test (distinct name_eq ns) x).0 h))
-
-or_cases : (a b : Bool) → (a || b) ≡ true → (a ≡ true) ⊎ (b ≡ true)
-or_cases true b h = inl refl
-or_cases false b h = inr h
 
 -- what a node names is a variable or a label
 abbrev IsKnown : List ℕ → List ℕ → ℕ → Type 0

@@ -2,6 +2,8 @@
 use Rattle.std.proofs.Common.{◌≡◌, ℕ, List, [], ◌∷◌, codes, Bool, true, false, if◌then◌else◌, arith, nat_lt, refl, lit<}
 use Rattle.std.specs.List.{list_all}
 use Rattle.std.specs.Str.{IsAscii}
+use Rattle.std.specs.Str.Parse.{AllDigits}
+use Rattle.std.proofs.lemmas.Fmt.{IsAscii-from_digits}
 use Rattle.std.proofs.lemmas.Str.{IsAscii-append}
 use Rattle.std.proofs.lemmas.Str.Ascii.{IsAscii-nil, IsAscii-cons}
 use Rattle.hex.specs.Hex.{encode_upper, upper_digits}
@@ -10,7 +12,7 @@ use Rattle.vkg_lists.proofs.Bools.{and_parts}
 use Rattle.vkg_cells.specs.Form.{bool_form}
 use Rattle.vkg_cells.specs.Number.{is_decimal, canonical, whole, fraction, is_below_zero, or_zero, after_point, without_leading_zeros, without_trailing_zeros}
 use Rattle.vkg_cells.proofs.SignLemmas.{decimal-parts}
-use Rattle.vkg_cells.proofs.Digits.{AreDigits, digits-without-leading, digits-without-trailing, digits_ascii, after_ascii}
+use Rattle.vkg_cells.proofs.Digits.{digits-without-leading, digits-without-trailing, after_ascii}
 
 -- each byte is below 128, as a test
 abbrev pub small : List ℕ → Bool
@@ -26,9 +28,9 @@ sign_ascii : (minus : Bool) → IsAscii (if minus then codes "-" else [])
 sign_ascii true = IsAscii-cons 45 [] (lit< tt) IsAscii-nil
 sign_ascii false = IsAscii-nil
 
-zero_ascii : (ds : List ℕ) → AreDigits ds → IsAscii (or_zero ds)
+zero_ascii : (ds : List ℕ) → AllDigits 10 ds → IsAscii (or_zero ds)
 zero_ascii [] a = IsAscii-cons 48 [] (lit< tt) IsAscii-nil
-zero_ascii (d ∷ ds) a = digits_ascii (d ∷ ds) a
+zero_ascii (d ∷ ds) a = IsAscii-from_digits (d ∷ ds) a
 
 pub canonical_ascii : (text : List ℕ) → is_decimal text ≡ true → IsAscii (canonical text)
 canonical_ascii text e =

@@ -1,12 +1,12 @@
 -- The canonical form of a number reads as itself.
-use Rattle.std.proofs.Common.{◌≡◌, ◌∙◌, ◌+◌, ◌≤◌, ◌++◌, ◌==◌, ◌&&◌, ℕ, Bool, true, false, List, [], ◌∷◌, if◌then◌else◌, refl, sym, ap, arith, length, nat_lt, codes, append-nil, lit≤, lit<}
-use Rattle.std.proofs.lemmas.Bool.{le-leb}
-use Rattle.std.specs.List.{after_first, before_first, list_all}
-use Rattle.std.specs.Char.{is_ascii_digit}
+use Rattle.std.proofs.Common.{◌≡◌, ◌∙◌, ◌+◌, ◌≤◌, ◌++◌, ◌==◌, ◌&&◌, ℕ, Bool, true, false, List, [], ◌∷◌, if◌then◌else◌, refl, sym, ap, arith, length, nat_lt, codes, append-nil, lit<}
+use Rattle.std.proofs.lemmas.Bool.{ne_eqb}
+use Rattle.std.specs.List.{after_first, before_first}
 use Rattle.vkg_cells.specs.Number.{after_point, canonical, fraction, is_below_zero, is_decimal, is_digits, is_integer, is_negative, onto_unless_zero, or_zero, unsigned, whole, width, without_leading_zeros, without_trailing_zeros}
-use Rattle.vkg_cells.proofs.Digits.{AreDigits, are-digits, digits-append, digits-some, digits-without-leading, digits-without-trailing}
+use Rattle.std.specs.Str.Parse.{AllDigits}
+use Rattle.vkg_cells.proofs.Digits.{are-digits, digits-append, digits-some, digits-without-leading, digits-without-trailing, first-digit, zero-first}
 use Rattle.vkg_cells.proofs.ValueLemmas.{HasNoZeroFirst, IsTrimmed, no-zero-first, trimmed}
-use Rattle.vkg_cells.proofs.PlaceLemmas.{after-all, after-cut, apart, before-all, before-cut, lacks-digits}
+use Rattle.vkg_cells.proofs.PlaceLemmas.{after-all, after-cut, before-all, before-cut, lacks-digits}
 use Rattle.vkg_cells.proofs.SignLemmas.{decimal-parts}
 
 -- a numeral of its parts
@@ -14,47 +14,47 @@ abbrev pub spelled : Bool → List ℕ → List ℕ → List ℕ
 spelled minus w f = (if minus then codes "-" else []) ++ or_zero w ++ after_point f
 
 unsigned-digits : (d : ℕ) (ds : List ℕ) → 48 ≤ d → unsigned (d ∷ ds) ≡ d ∷ ds
-unsigned-digits d ds h = rw (apart d 43 (λ e. omega (arith, e, h)), apart d 45 (λ e. omega (arith, e, h))) refl
+unsigned-digits d ds h = rw (ne_eqb d 43 (λ e. omega (arith, e, h)), ne_eqb d 45 (λ e. omega (arith, e, h))) refl
 
-unsigned-spelled : (minus : Bool) (w f : List ℕ) → AreDigits w → unsigned (spelled minus w f) ≡ or_zero w ++ after_point f
+unsigned-spelled : (minus : Bool) (w f : List ℕ) → AllDigits 10 w → unsigned (spelled minus w f) ≡ or_zero w ++ after_point f
 unsigned-spelled true w f a = refl
 unsigned-spelled false [] f a = refl
-unsigned-spelled false (d ∷ ds) f a = unsigned-digits d (ds ++ after_point f) a.0
+unsigned-spelled false (d ∷ ds) f a = unsigned-digits d (ds ++ after_point f) (first-digit d ds a).0
 
-negative-spelled : (minus : Bool) (w f : List ℕ) → AreDigits w → is_negative (spelled minus w f) ≡ minus
+negative-spelled : (minus : Bool) (w f : List ℕ) → AllDigits 10 w → is_negative (spelled minus w f) ≡ minus
 negative-spelled true w f a = refl
 negative-spelled false [] f a = refl
-negative-spelled false (d ∷ ds) f a = rw (apart 45 d (λ e. omega (arith, e, a.0))) refl
+negative-spelled false (d ∷ ds) f a = rw (ne_eqb 45 d (λ e. omega (arith, e, (first-digit d ds a).0))) refl
 
-digits-or-zero : (w : List ℕ) → AreDigits w → AreDigits (or_zero w)
-digits-or-zero [] a = (lit≤ tt, lit≤ tt, tt)
+digits-or-zero : (w : List ℕ) → AllDigits 10 w → AllDigits 10 (or_zero w)
+digits-or-zero [] a = zero-first [] tt
 digits-or-zero (d ∷ ds) a = a
 
-before-spelled : (ds f : List ℕ) → AreDigits ds → before_first (λ b. b == 46) (ds ++ after_point f) ≡ ds
+before-spelled : (ds f : List ℕ) → AllDigits 10 ds → before_first (λ b. b == 46) (ds ++ after_point f) ≡ ds
 before-spelled ds [] a = rw (append-nil ds) (before-all 46 ds (lacks-digits 46 ds (lit< tt) a))
 before-spelled ds (d ∷ f) a = before-cut 46 ds (d ∷ f) (lacks-digits 46 ds (lit< tt) a)
 
-after-spelled : (ds f : List ℕ) → AreDigits ds → after_first (λ b. b == 46) (ds ++ after_point f) ≡ f
+after-spelled : (ds f : List ℕ) → AllDigits 10 ds → after_first (λ b. b == 46) (ds ++ after_point f) ≡ f
 after-spelled ds [] a = rw (append-nil ds) (after-all 46 ds (lacks-digits 46 ds (lit< tt) a))
 after-spelled ds (d ∷ f) a = after-cut 46 ds (d ∷ f) (lacks-digits 46 ds (lit< tt) a)
 
-whole-spelled : (minus : Bool) (w f : List ℕ) → AreDigits w → whole (spelled minus w f) ≡ or_zero w
+whole-spelled : (minus : Bool) (w f : List ℕ) → AllDigits 10 w → whole (spelled minus w f) ≡ or_zero w
 whole-spelled minus w f a = rw (unsigned-spelled minus w f a) (before-spelled (or_zero w) f (digits-or-zero w a))
 
-fraction-spelled : (minus : Bool) (w f : List ℕ) → AreDigits w → fraction (spelled minus w f) ≡ f
+fraction-spelled : (minus : Bool) (w f : List ℕ) → AllDigits 10 w → fraction (spelled minus w f) ≡ f
 fraction-spelled minus w f a = rw (unsigned-spelled minus w f a) (after-spelled (or_zero w) f (digits-or-zero w a))
 
 leading-kept : (w : List ℕ) → HasNoZeroFirst w → without_leading_zeros (or_zero w) ≡ w
 leading-kept [] h = refl
-leading-kept (d ∷ ds) h = rw (apart d 48 (λ e. h (sym e))) refl
+leading-kept (d ∷ ds) h = rw (ne_eqb d 48 (λ e. h (sym e))) refl
 
 pub trailing-kept : (f : List ℕ) → IsTrimmed f → without_trailing_zeros f ≡ f
 trailing-kept [] h = refl
-trailing-kept (d ∷ []) h = rw (apart d 48 (λ e. h (sym e))) refl
+trailing-kept (d ∷ []) h = rw (ne_eqb d 48 (λ e. h (sym e))) refl
 trailing-kept (d ∷ e ∷ es) h = ap (onto_unless_zero d) (trailing-kept (e ∷ es) h)
 
-some-digits : (w f : List ℕ) → AreDigits w → AreDigits f → is_digits (or_zero w ++ f) ≡ true
-some-digits [] f a b = are-digits (48 ∷ f) (lit≤ tt, lit≤ tt, b)
+some-digits : (w f : List ℕ) → AllDigits 10 w → AllDigits 10 f → is_digits (or_zero w ++ f) ≡ true
+some-digits [] f a b = are-digits (48 ∷ f) (zero-first f b)
 some-digits (d ∷ ds) f a b = are-digits (d ∷ ds ++ f) (digits-append (d ∷ ds) f a b)
 
 -- a canonical form reads as what it is the form of
@@ -95,7 +95,7 @@ is-read text d =
     once true true = refl
     once true false = refl
 
-digits-of : (text : List ℕ) → is_integer text ≡ true → AreDigits (unsigned text)
+digits-of : (text : List ℕ) → is_integer text ≡ true → AllDigits 10 (unsigned text)
 digits-of text h = digits-some (unsigned text) h
 
 pub integer-decimal : (text : List ℕ) → is_integer text ≡ true → is_decimal text ≡ true

@@ -3,6 +3,7 @@ use Rattle.std.proofs.Common.{◌≡◌, ℕ, zero, suc, ◌+◌, ◌-◌, ◌*�
 use Rattle.std.specs.Prelude.{is_some, option_and_then, slice_index}
 use Rattle.std.specs.Char.{is_ascii_digit}
 use Rattle.std.specs.Str.{IsAscii}
+use Rattle.std.specs.Str.Parse.{AllDigits}
 use Rattle.std.proofs.lemmas.Str.{IsAscii-append}
 use Rattle.std.proofs.lemmas.Str.Ascii.{IsAscii-nil, IsAscii-cons}
 use Rattle.std.proofs.lemmas.Option.{same_Some}
@@ -10,7 +11,7 @@ use Rattle.std.specs.Option.{option_or}
 use Rattle.vkg_lists.proofs.Bools.{and_parts}
 use Rattle.vkg_cells.specs.Number.{is_digits, after_point, without_trailing_zeros}
 use Rattle.vkg_cells.specs.Moment.{two_digits_at, day_of_text, clock_of_text, is_date, is_clock, cut, form_if, form_at, form_of_parts, stamp_form}
-use Rattle.vkg_cells.proofs.Digits.{AreDigits, after_ascii, digits-some, digits-without-trailing}
+use Rattle.vkg_cells.proofs.Digits.{after_ascii, digits-some, digits-without-trailing}
 
 some_then : {A B : Type 0} (f : A → Option B) (o : Option A) → is_some (option_and_then f o) ≡ true → (a : A) × (o ≡ Some a) × (is_some (f a) ≡ true)
 some_then f None e = cc
@@ -98,7 +99,7 @@ clock_fixed text e =
       ascii = ascii_below text 8 long ((((((((tt, small_digit _ d0.0), small_digit _ d0.1), colon2), small_digit _ d3.0), small_digit _ d3.1), colon5), small_digit _ d6.0), small_digit _ d6.1);
     }
 
-pub form_ascii : (date clock ds : List ℕ) → is_date date ≡ true → is_clock clock ≡ true → AreDigits ds → IsAscii (date ++ codes "T" ++ clock ++ after_point ds)
+pub form_ascii : (date clock ds : List ℕ) → is_date date ≡ true → is_clock clock ≡ true → AllDigits 10 ds → IsAscii (date ++ codes "T" ++ clock ++ after_point ds)
 form_ascii date clock ds d c f = IsAscii-append _ (after_point ds) (IsAscii-append _ clock (IsAscii-append date (codes "T") (date_fixed date d).ascii (IsAscii-cons 84 [] (lit< tt) IsAscii-nil)) (clock_fixed clock c).ascii) (after_ascii ds f)
 
 -- what `stamp_form` gives is made of a date, a time of day and digits
@@ -108,10 +109,10 @@ pub record Made (form : List ℕ) : Type 0 where
   pub fraction : List ℕ
   pub is_date : is_date date ≡ true
   pub is_clock : is_clock clock ≡ true
-  pub is_digits : AreDigits fraction
+  pub is_digits : AllDigits 10 fraction
   pub is : form ≡ date ++ codes "T" ++ clock ++ after_point fraction
 
-made_if : (b : Bool) (date clock fraction form : List ℕ) → (b ≡ true → (is_date date ≡ true) × (is_clock clock ≡ true) × AreDigits fraction) → form_if b date clock fraction ≡ Some form → Made form
+made_if : (b : Bool) (date clock fraction form : List ℕ) → (b ≡ true → (is_date date ≡ true) × (is_clock clock ≡ true) × AllDigits 10 fraction) → form_if b date clock fraction ≡ Some form → Made form
 made_if false date clock fraction form h e = cc
 made_if true date clock fraction form h e = record {
   date = date;

@@ -6,7 +6,7 @@ use Rattle.std.specs.Cmp.{IsTotalOrder, bool_cmp_total, int_cmp_total, nat_cmp_t
 use Rattle.std.specs.Cmp.Lexicographic.{nat_list_cmp_total}
 use Rattle.std.specs.declared.cmp.Ordering.{Ordering}
 use Rattle.std.proofs.Math.IntN.{pos-*ℤ-pos}
-use Rattle.std.proofs.Math.Nat.{mul-lt-mul_of_pos_right, mul-pos, mul_assoc, mul_comm, one-le-pow, zero-mul}
+use Rattle.std.proofs.Math.Nat.{mul-lt-mul_of_pos_right, mul-pos, mul_right_comm, one-le-pow, zero-mul}
 use Rattle.std.proofs.Math.Dec.{lit<}
 use Rattle.std.proofs.lemmas.Bool.{cases_order}
 use Rattle.vkg_lists.specs.Texts.{bytes_cmp}
@@ -59,9 +59,6 @@ number-over a b k =
     (λ i. int_cmp (signed-times (is_negative a) (size a) (10 ^ scale b) i) (signed-times (is_negative b) (size b) (10 ^ scale a) i))
     ∙ sym (int-scaled (is_negative a) (is_negative b) (size a * 10 ^ scale b) (size b * 10 ^ scale a) (10 ^ k) (power k))
 
-swap : (x p q : ℕ) → x * p * q ≡ x * q * p
-swap x p q = mul_assoc x p q ∙ ap (λ n. x * n) (mul_comm p q) ∙ sym (mul_assoc x q p)
-
 -- three numbers over one denominator
 module _ (a b c : List ℕ) where
   abbrev first : ℤ
@@ -79,11 +76,11 @@ module _ (a b c : List ℕ) where
   second-third : number_cmp b c ≡ int_cmp second third
   second-third =
       number-over b c (scale a)
-      ∙ (λ i. int_cmp (over b (swap (size b) (10 ^ scale c) (10 ^ scale a) i)) (over c (swap (size c) (10 ^ scale b) (10 ^ scale a) i)))
+      ∙ (λ i. int_cmp (over b (mul_right_comm (size b) (10 ^ scale c) (10 ^ scale a) i)) (over c (mul_right_comm (size c) (10 ^ scale b) (10 ^ scale a) i)))
 
   first-third : number_cmp a c ≡ int_cmp first third
   first-third =
-      number-over a c (scale b) ∙ (λ i. int_cmp (over a (swap (size a) (10 ^ scale c) (10 ^ scale b) i)) third)
+      number-over a c (scale b) ∙ (λ i. int_cmp (over a (mul_right_comm (size a) (10 ^ scale c) (10 ^ scale b) i)) third)
 
 pub number-total : IsTotalOrder number_cmp
 number-total = record {

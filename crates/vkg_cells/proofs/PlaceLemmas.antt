@@ -1,31 +1,18 @@
 -- What stands before and after the first of a byte.
-use Rattle.std.proofs.Common.{◌≡◌, ◌≢◌, ◌∙◌, ◌+◌, ◌<◌, ◌++◌, ◌==◌, ℕ, zero, suc, Bool, true, false, List, [], ◌∷◌, Some, None, refl, sym, ap, subst, arith, length, take, drop, eqb-true, append-nil, length-append}
-use Rattle.std.proofs.lemmas.Bool.{eqb-false}
+use Rattle.std.proofs.Common.{◌≡◌, ◌∙◌, ◌+◌, ◌<◌, ◌++◌, ◌==◌, ℕ, zero, suc, Bool, true, false, List, [], ◌∷◌, Some, None, refl, sym, ap, subst, arith, length, take, drop, eqb-true, append-nil, length-append}
+use Rattle.std.proofs.lemmas.Bool.{eq-eqb, ne_eqb}
 use Rattle.std.proofs.lemmas.Option.{none-some}
 use Rattle.std.specs.List.{after_first, before_first, position_or_len}
-use Rattle.std.proofs.Math.Seq.{drop-append-add, take-append_seam}
+use Rattle.std.proofs.Math.Seq.{drop-append-add, take-append_seam, take-length}
 use Rattle.std.proofs.Math.Nat.{zero-add}
 use Rattle.vkg_cells.specs.Moment.{cut}
-use Rattle.vkg_cells.proofs.Digits.{AreDigits}
+use Rattle.std.specs.Str.Parse.{AllDigits}
+use Rattle.vkg_cells.proofs.Digits.{first-digit}
 
 -- no byte of the list is this one
 abbrev pub Lacks : ℕ → List ℕ → Type 0
 Lacks c [] = Unit {0}
 Lacks c (x ∷ xs) = ((x == c) ≡ false) × Lacks c xs
-
-pub apart : (x c : ℕ) → x ≢ c → (x == c) ≡ false
-apart x c n = by (x == c) refl
-  where
-    by : (b : Bool) → (x == c) ≡ b → (x == c) ≡ false
-    by true e = absurd (n (eqb-true x c e))
-    by false e = e
-
-itself : (c : ℕ) → (c == c) ≡ true
-itself c = by (c == c) refl
-  where
-    by : (b : Bool) → (c == c) ≡ b → (c == c) ≡ true
-    by true e = e
-    by false e = absurd (eqb-false c c e refl)
 
 abbrev place : ℕ → List ℕ → ℕ
 place c text = position_or_len (λ b. b == c) text
@@ -35,7 +22,7 @@ place-behind c [] ys h = sym (zero-add (place c ys))
 place-behind c (x ∷ xs) ys h = rw h.0 (omega (arith, place-behind c xs ys h.1))
 
 place-here : (c : ℕ) (ys : List ℕ) → place c (c ∷ ys) ≡ 0
-place-here c ys = rw (itself c) refl
+place-here c ys = rw (eq-eqb c c refl) refl
 
 place-cut : (c : ℕ) (xs ys : List ℕ) → Lacks c xs → place c (xs ++ c ∷ ys) ≡ length xs
 place-cut c xs ys h = omega (arith, place-behind c xs (c ∷ ys) h, place-here c ys)
@@ -72,30 +59,24 @@ lacks-take c zero xs h = tt
 lacks-take c (suc n) [] h = tt
 lacks-take c (suc n) (x ∷ xs) h = (h.0, lacks-take c n xs h.1)
 
-pub lacks-digits : (c : ℕ) (xs : List ℕ) → c < 48 → AreDigits xs → Lacks c xs
+pub lacks-digits : (c : ℕ) (xs : List ℕ) → c < 48 → AllDigits 10 xs → Lacks c xs
 lacks-digits c [] h a = tt
-lacks-digits c (x ∷ xs) h a = (apart x c (λ e. omega (arith, e, h, a.0)), lacks-digits c xs h a.2)
+lacks-digits c (x ∷ xs) h a = (ne_eqb x c (λ e. omega (arith, e, h, (first-digit x xs a).0)), lacks-digits c xs h a.1)
 
 pub cut-none : (c : ℕ) (xs : List ℕ) → Lacks c xs → cut c xs ≡ None
-cut-none c xs h = rw (place-all c xs h, itself (length xs)) refl
+cut-none c xs h = rw (place-all c xs h, eq-eqb (length xs) (length xs) refl) refl
 
 pub cut-some : (c : ℕ) (xs ys : List ℕ) → Lacks c xs → cut c (xs ++ c ∷ ys) ≡ Some (xs, ys)
 cut-some c xs ys h =
-    rw (place-cut c xs ys h, apart (length xs) (length (xs ++ c ∷ ys)) (λ e. omega (arith, e, length-append xs (c ∷ ys))))
+    rw (place-cut c xs ys h, ne_eqb (length xs) (length (xs ++ c ∷ ys)) (λ e. omega (arith, e, length-append xs (c ∷ ys))))
     (λ i. Some (take-append_seam xs (c ∷ ys) i, drop-append-add xs (c ∷ ys) 1 i))
-
-all-taken : (xs : List ℕ) → take (length xs) xs ≡ xs
-all-taken xs = ap (take (length xs)) (sym (append-nil xs)) ∙ take-append_seam xs []
 
 pub lacks-cut : (c : ℕ) (text : List ℕ) → cut c text ≡ None → Lacks c text
 lacks-cut c text e = by (place c text == length text) refl
   where
     by : (b : Bool) → (place c text == length text) ≡ b → Lacks c text
-    by true f = subst (Lacks c) (ap (λ n. take n text) (eqb-true (place c text) (length text) f) ∙ all-taken text) (lacks-before c text)
-    by false f = absurd (some_is_none (rw f at e))
-      where
-        some_is_none : {A : Type 0} {a : A} → Some a ≡ None → ⊥
-        some_is_none h = cc
+    by true f = subst (Lacks c) (ap (λ n. take n text) (eqb-true (place c text) (length text) f) ∙ take-length text) (lacks-before c text)
+    by false f = absurd (none-some _ (sym (rw f at e)))
 
 pub lacks-front : (c : ℕ) (text : List ℕ) (p : List ℕ × List ℕ) → cut c text ≡ Some p → Lacks c p.0
 lacks-front c text p e = by (place c text == length text) refl

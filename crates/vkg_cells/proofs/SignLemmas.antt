@@ -1,8 +1,6 @@
 -- The order of numbers with a sign.
 use Rattle.std.proofs.Common.{◌≡◌, ◌∙◌, ◌+◌, ◌*◌, ◌^◌, ◌<◌, ◌++◌, inl, inr, ℕ, zero, suc, Bool, true, false, List, [], ◌∷◌, pos, negsuc, refl, sym, ap, arith, length, nat_lt, lit<}
 use Rattle.std.specs.Prelude.{neg_ℤ, ◌*ℤ◌, ◌<ℤ◌}
-use Rattle.std.specs.List.{list_all}
-use Rattle.std.specs.Char.{is_ascii_digit}
 use Rattle.std.specs.Ordering.{nat_cmp, int_cmp, ordering_then}
 use Rattle.std.specs.Cmp.{int_cmp_is, ranked}
 use Rattle.std.specs.Cmp.Lexicographic.{slice_cmp}
@@ -11,14 +9,15 @@ use Rattle.std.specs.declared.cmp.Ordering.TheVariants.{Less, Equal, Greater}
 use Rattle.std.proofs.Math.IntN.{negsuc-*ℤ-pos, pos-*ℤ-pos, zero-*ℤ}
 use Rattle.std.proofs.Math.Nat.{mul-one, mul-pos, one-le-pow, zero-mul}
 use Rattle.std.proofs.Math.Dec.{lt→ltb}
-use Rattle.std.proofs.lemmas.Bool.{cases_order, leb-true, ltb-true, ltb-false}
+use Rattle.std.proofs.lemmas.Bool.{cases_order, ltb-true, ltb-false}
 use Rattle.vkg_lists.proofs.Bools.{and_parts}
-use Rattle.vkg_cells.specs.Number.{digits_value, fraction, is_below_zero, is_decimal, is_digits, is_negative, number_cmp, numerator, scale, size, whole, width, without_leading_zeros, without_trailing_zeros}
-use Rattle.vkg_cells.proofs.Digits.{AreDigits, digits-parts, digits-some}
+use Rattle.vkg_cells.specs.Number.{digits_value, fraction, is_below_zero, is_decimal, is_negative, number_cmp, numerator, scale, size, whole, width, without_leading_zeros, without_trailing_zeros}
+use Rattle.std.specs.Str.Parse.{AllDigits}
+use Rattle.vkg_cells.proofs.Digits.{digits-parts, digits-some}
 use Rattle.vkg_cells.proofs.ValueLemmas.{cmp-less, cmp-equal, cmp-greater, cmp-scaled}
 
 -- the digits of a decimal, before and after the point
-pub decimal-parts : (text : List ℕ) → is_decimal text ≡ true → AreDigits (whole text) × AreDigits (fraction text)
+pub decimal-parts : (text : List ℕ) → is_decimal text ≡ true → AllDigits 10 (whole text) × AllDigits 10 (fraction text)
 decimal-parts text e = digits-parts (whole text) (fraction text) (digits-some (whole text ++ fraction text) e)
 
 pub neg-times : (n m : ℕ) → neg_ℤ (pos n) *ℤ pos m ≡ neg_ℤ (pos (n * m))
@@ -60,7 +59,7 @@ above-neg x zero h = absurd (omega (arith, h))
 above-neg x (suc y) h = refl
 
 -- a number has a digit that counts exactly where it is not zero
-size-order : (w f : List ℕ) → AreDigits w → AreDigits f
+size-order : (w f : List ℕ) → AllDigits 10 w → AllDigits 10 f
     → nat_cmp (digits_value (w ++ f)) 0 ≡ ordering_then (ordering_then (nat_cmp (length (without_leading_zeros w)) 0) (slice_cmp nat_cmp (without_leading_zeros w) []))
     (slice_cmp nat_cmp (without_trailing_zeros f) [])
 size-order w f dw df =

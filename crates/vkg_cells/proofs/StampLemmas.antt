@@ -7,7 +7,8 @@ use Rattle.vkg_lists.proofs.Bools.{and_parts}
 use Rattle.vkg_cells.specs.Moment.{cut, form_at, form_if, form_of_parts, is_clock, is_date, stamp_form}
 use Rattle.vkg_cells.specs.Number.{after_point, is_digits, without_trailing_zeros}
 use Rattle.vkg_cells.proofs.CanonicalLemmas.{trailing-kept}
-use Rattle.vkg_cells.proofs.Digits.{AreDigits, are-digits, digits-some, digits-without-trailing}
+use Rattle.std.specs.Str.Parse.{AllDigits}
+use Rattle.vkg_cells.proofs.Digits.{are-digits, digits-some, digits-without-trailing}
 use Rattle.vkg_cells.proofs.PlaceLemmas.{Lacks, cut-none, cut-some, lacks-cut, lacks-front, lacks-front-of}
 use Rattle.vkg_cells.proofs.ValueLemmas.{ends-long, trimmed}
 
@@ -60,12 +61,12 @@ again-with date clock f form d c h e =
     let digits = digits-without-trailing f (digits-some f all.2) in
     subst (λ t. stamp_form t ≡ Some t) e (by (without_trailing_zeros f) refl all.0 all.1 digits (trailing-kept (without_trailing_zeros f) (trimmed f)) all.3)
   where
-    by : (t : List ℕ) → without_trailing_zeros f ≡ t → is_date date ≡ true → is_clock clock ≡ true → AreDigits (without_trailing_zeros f)
+    by : (t : List ℕ) → without_trailing_zeros f ≡ t → is_date date ≡ true → is_clock clock ≡ true → AllDigits 10 (without_trailing_zeros f)
         → without_trailing_zeros (without_trailing_zeros f) ≡ without_trailing_zeros f → nat_le (length f) 9 ≡ true
         → stamp_form (written date clock (without_trailing_zeros f)) ≡ Some (written date clock (without_trailing_zeros f))
     by [] q x y a k n = rw q (written-none date clock d c (rw (x, y) refl))
     by (b ∷ bs) q x y a k n =
-        let shown : AreDigits (b ∷ bs) = rw q at a in
+        let shown : AllDigits 10 (b ∷ bs) = rw q at a in
         let kept : without_trailing_zeros (b ∷ bs) ≡ b ∷ bs = rw q at k in
         let short : length (b ∷ bs) ≤ 9 = omega (arith, ends-long f, leb-true (length f) 9 n, ap length q) in
         rw q (written-some date clock b bs d c (rw (x, y, are-digits (b ∷ bs) shown, le-leb (length (b ∷ bs)) 9 short) refl) kept)

@@ -1,12 +1,13 @@
 -- The order of the numbers that digits write.
-use Rattle.std.proofs.Common.{◌≡◌, ◌≢◌, ◌∙◌, ◌+◌, ◌-◌, ◌*◌, ◌^◌, ◌<◌, ◌≤◌, ◌++◌, ◌⊎◌, inl, inr, ℕ, zero, suc, Bool, true, false, List, [], ◌∷◌, refl, sym, ap, arith, length, fold, replicate, lit≤, length-append, append_assoc, eqb-true, if◌then◌else◌, ◌==◌}
+use Rattle.std.proofs.Common.{◌≡◌, ◌≢◌, ◌∙◌, ◌+◌, ◌-◌, ◌*◌, ◌^◌, ◌<◌, ◌≤◌, ◌++◌, ◌⊎◌, inl, inr, ℕ, zero, suc, Bool, true, false, List, [], ◌∷◌, refl, sym, ap, arith, length, fold, replicate, length-append, append_assoc, eqb-true, if◌then◌else◌, ◌==◌}
 use Rattle.std.specs.Ordering.{nat_cmp, ordering_then}
 use Rattle.std.specs.Cmp.{nat_cmp_is, ranked}
 use Rattle.std.proofs.lemmas.List.{length-replicate, replicate-append-replicate}
 use Rattle.std.proofs.lemmas.List.Sums.{fold-append}
 use Rattle.std.proofs.Math.Nat.{mul-one, pow-suc}
 use Rattle.vkg_cells.specs.Number.{digits_value, onto_unless_zero, without_leading_zeros, without_trailing_zeros}
-use Rattle.vkg_cells.proofs.Digits.{AreDigits, digits-append, digits-without-leading, digits-without-trailing}
+use Rattle.std.specs.Str.Parse.{AllDigits}
+use Rattle.vkg_cells.proofs.Digits.{digits-append, digits-without-leading, digits-without-trailing, first-digit, zero-first}
 use Rattle.std.specs.Cmp.Lexicographic.{slice_cmp}
 use Rattle.std.specs.declared.cmp.Ordering.{Ordering}
 use Rattle.std.specs.declared.cmp.Ordering.TheVariants.{Less, Equal, Greater}
@@ -51,35 +52,37 @@ step m n x y o a b c d = elim (cases_order m n) [
     ]
 
 -- as many digits are ordered as their texts are
-pub cmp-onto : (xs ys : List ℕ) → AreDigits xs → AreDigits ys → length xs ≡ length ys → (m n : ℕ)
+pub cmp-onto : (xs ys : List ℕ) → AllDigits 10 xs → AllDigits 10 ys → length xs ≡ length ys → (m n : ℕ)
     → nat_cmp (onto m xs) (onto n ys) ≡ ordering_then (nat_cmp m n) (slice_cmp nat_cmp xs ys)
 cmp-onto [] [] a b e m n = sym (then-equal (nat_cmp m n))
 cmp-onto [] (y ∷ ys) a b e m n = absurd (omega (arith, e))
 cmp-onto (x ∷ xs) [] a b e m n = absurd (omega (arith, e))
 cmp-onto (x ∷ xs) (y ∷ ys) a b e m n =
-    cmp-onto xs ys a.2 b.2 (omega (arith, e)) (10 * m + (x - 48)) (10 * n + (y - 48))
-    ∙ step m n x y (slice_cmp nat_cmp xs ys) a.0 a.1 b.0 b.1
+    let p = first-digit x xs a in
+    let q = first-digit y ys b in
+    cmp-onto xs ys a.1 b.1 (omega (arith, e)) (10 * m + (x - 48)) (10 * n + (y - 48))
+    ∙ step m n x y (slice_cmp nat_cmp xs ys) p.0 p.1 q.0 q.1
 
 abbrev pub zeros : ℕ → List ℕ
 zeros k = replicate k 48
 
-digits-zeros : (k : ℕ) → AreDigits (zeros k)
+digits-zeros : (k : ℕ) → AllDigits 10 (zeros k)
 digits-zeros zero = tt
-digits-zeros (suc k) = (lit≤ tt, lit≤ tt, digits-zeros k)
+digits-zeros (suc k) = zero-first (zeros k) (digits-zeros k)
 
 onto-leading : (k : ℕ) (xs : List ℕ) → onto 0 (zeros k ++ xs) ≡ onto 0 xs
 onto-leading zero xs = refl
 onto-leading (suc k) xs = onto-leading k xs
 
 -- fewer digits are a lesser number, where the first of the others is no zero
-shorter : (xs : List ℕ) (y : ℕ) (ys : List ℕ) → AreDigits xs → AreDigits (y ∷ ys) → 48 < y → length xs ≤ length ys
+shorter : (xs : List ℕ) (y : ℕ) (ys : List ℕ) → AllDigits 10 xs → AllDigits 10 (y ∷ ys) → 48 < y → length xs ≤ length ys
     → nat_cmp (onto 0 xs) (onto 0 (y ∷ ys)) ≡ Less
 shorter xs y ys a b above fits =
     let k = length ys - length xs in
     let padded = zeros k ++ xs in
     let long : length (48 ∷ padded) ≡ length (y ∷ ys) = rw (length-append, length-replicate) (omega arith) in
     ap (λ n. nat_cmp n (onto 0 (y ∷ ys))) (sym (onto-leading (suc k) xs))
-    ∙ cmp-onto (48 ∷ padded) (y ∷ ys) (lit≤ tt, lit≤ tt, digits-append (zeros k) xs (digits-zeros k) a) b long 0 0
+    ∙ cmp-onto (48 ∷ padded) (y ∷ ys) (zero-first padded (digits-append (zeros k) xs (digits-zeros k) a)) b long 0 0
     ∙ ap (λ o. ordering_then o (slice_cmp nat_cmp padded ys)) (cmp-less 48 y above)
 
 cmp-append : (xs ys us vs : List ℕ) → length xs ≡ length ys
@@ -107,42 +110,42 @@ same-zeros zero (suc l) e = absurd (omega (arith, e))
 same-zeros (suc k) zero e = absurd (omega (arith, e))
 same-zeros (suc k) (suc l) e = same-zeros k l (omega (arith, e))
 
-zeros-below : (d : ℕ) (ds : List ℕ) → AreDigits (d ∷ ds) → IsTrimmed (d ∷ ds) → (k l : ℕ) → k ≡ length (d ∷ ds) + l
+zeros-below : (d : ℕ) (ds : List ℕ) → AllDigits 10 (d ∷ ds) → IsTrimmed (d ∷ ds) → (k l : ℕ) → k ≡ length (d ∷ ds) + l
     → slice_cmp nat_cmp (zeros k) (d ∷ ds ++ zeros l) ≡ Less
 zeros-below d ds a t zero l e = absurd (omega (arith, e))
 zeros-below d [] a t (suc k) l e =
-    let above : 48 < d = omega (arith, a.0, t) in
+    let above : 48 < d = omega (arith, (first-digit d [] a).0, t) in
     ap (λ o. ordering_then o (slice_cmp nat_cmp (zeros k) (zeros l))) (cmp-less 48 d above)
 zeros-below d (c ∷ cs) a t (suc k) l e =
-    ap (ordering_then (nat_cmp 48 d)) (zeros-below c cs a.2 t k l (omega (arith, e))) ∙ below (cases_order 48 d)
+    ap (ordering_then (nat_cmp 48 d)) (zeros-below c cs a.1 t k l (omega (arith, e))) ∙ below (cases_order 48 d)
   where
     below : (48 ≡ d) ⊎ ((48 < d) ⊎ (d < 48)) → ordering_then (nat_cmp 48 d) Less ≡ Less
     below (inl h) = rw (cmp-equal 48 d h) refl
     below (inr (inl h)) = rw (cmp-less 48 d h) refl
-    below (inr (inr h)) = absurd (omega (arith, a.0, h))
+    below (inr (inr h)) = absurd (omega (arith, (first-digit d (c ∷ cs) a).0, h))
 
-zeros-above : (d : ℕ) (ds : List ℕ) → AreDigits (d ∷ ds) → IsTrimmed (d ∷ ds) → (k l : ℕ) → k ≡ length (d ∷ ds) + l
+zeros-above : (d : ℕ) (ds : List ℕ) → AllDigits 10 (d ∷ ds) → IsTrimmed (d ∷ ds) → (k l : ℕ) → k ≡ length (d ∷ ds) + l
     → slice_cmp nat_cmp (d ∷ ds ++ zeros l) (zeros k) ≡ Greater
 zeros-above d ds a t zero l e = absurd (omega (arith, e))
 zeros-above d [] a t (suc k) l e =
-    let above : 48 < d = omega (arith, a.0, t) in
+    let above : 48 < d = omega (arith, (first-digit d [] a).0, t) in
     ap (λ o. ordering_then o (slice_cmp nat_cmp (zeros l) (zeros k))) (cmp-greater d 48 above)
 zeros-above d (c ∷ cs) a t (suc k) l e =
-    ap (ordering_then (nat_cmp d 48)) (zeros-above c cs a.2 t k l (omega (arith, e))) ∙ above (cases_order d 48)
+    ap (ordering_then (nat_cmp d 48)) (zeros-above c cs a.1 t k l (omega (arith, e))) ∙ above (cases_order d 48)
   where
     above : (d ≡ 48) ⊎ ((d < 48) ⊎ (48 < d)) → ordering_then (nat_cmp d 48) Greater ≡ Greater
     above (inl h) = rw (cmp-equal d 48 h) refl
-    above (inr (inl h)) = absurd (omega (arith, a.0, h))
+    above (inr (inl h)) = absurd (omega (arith, (first-digit d (c ∷ cs) a).0, h))
     above (inr (inr h)) = rw (cmp-greater d 48 h) refl
 
 -- zeros behind two fractions to one length change nothing
-cmp-padded : (f g : List ℕ) → AreDigits f → AreDigits g → IsTrimmed f → IsTrimmed g → (k l : ℕ) → length f + k ≡ length g + l
+cmp-padded : (f g : List ℕ) → AllDigits 10 f → AllDigits 10 g → IsTrimmed f → IsTrimmed g → (k l : ℕ) → length f + k ≡ length g + l
     → slice_cmp nat_cmp (f ++ zeros k) (g ++ zeros l) ≡ slice_cmp nat_cmp f g
 cmp-padded [] [] a b t u k l e = same-zeros k l (omega (arith, e))
 cmp-padded [] (d ∷ ds) a b t u k l e = zeros-below d ds b u k l (omega (arith, e))
 cmp-padded (c ∷ cs) [] a b t u k l e = zeros-above c cs a t l k (omega (arith, e))
 cmp-padded (c ∷ cs) (d ∷ ds) a b t u k l e =
-    ap (ordering_then (nat_cmp c d)) (cmp-padded cs ds a.2 b.2 (trimmed-rest c cs t) (trimmed-rest d ds u) k l (omega (arith, e)))
+    ap (ordering_then (nat_cmp c d)) (cmp-padded cs ds a.1 b.1 (trimmed-rest c cs t) (trimmed-rest d ds u) k l (omega (arith, e)))
 
 -- the first digit is no zero
 abbrev pub HasNoZeroFirst : List ℕ → Type 0
@@ -150,7 +153,7 @@ HasNoZeroFirst [] = Unit {0}
 HasNoZeroFirst (d ∷ ds) = 48 ≢ d
 
 -- two numbers, each by its digits before and after the point, where the latter are made as many by zeros
-pub cmp-magnitude : (w v f g : List ℕ) → AreDigits w → AreDigits v → AreDigits f → AreDigits g
+pub cmp-magnitude : (w v f g : List ℕ) → AllDigits 10 w → AllDigits 10 v → AllDigits 10 f → AllDigits 10 g
     → HasNoZeroFirst w → HasNoZeroFirst v → IsTrimmed f → IsTrimmed g → (k l : ℕ) → length f + k ≡ length g + l
     → nat_cmp (onto 0 (w ++ (f ++ zeros k))) (onto 0 (v ++ (g ++ zeros l)))
     ≡ ordering_then (ordering_then (nat_cmp (length w) (length v)) (slice_cmp nat_cmp w v)) (slice_cmp nat_cmp f g)
@@ -163,7 +166,7 @@ cmp-magnitude w v f g dw dv df dg zw zv tf tg k l e = elim (cases_order (length 
   | inr (inr more) ↦ rw (cmp-greater (length w) (length v) more) (turned (onto 0 (w ++ (f ++ zeros k))) (onto 0 (v ++ (g ++ zeros l))) (fewer v w g f l k dv dw dg df zw (sym e) more))
 ]
   where
-    behind : (w f : List ℕ) (k : ℕ) → AreDigits w → AreDigits f → AreDigits (w ++ (f ++ zeros k))
+    behind : (w f : List ℕ) (k : ℕ) → AllDigits 10 w → AllDigits 10 f → AllDigits 10 (w ++ (f ++ zeros k))
     behind w f k a b = digits-append w (f ++ zeros k) a (digits-append f (zeros k) b (digits-zeros k))
 
     length-all : (w f : List ℕ) (k : ℕ) → length (w ++ (f ++ zeros k)) ≡ length w + (length f + k)
@@ -172,13 +175,13 @@ cmp-magnitude w v f g dw dv df dg zw zv tf tg k l e = elim (cases_order (length 
     as_long : length w ≡ length v → length (w ++ (f ++ zeros k)) ≡ length (v ++ (g ++ zeros l))
     as_long same = rw (length-all w f k, length-all v g l) (omega (arith, same, e))
 
-    fewer : (w v f g : List ℕ) (k l : ℕ) → AreDigits w → AreDigits v → AreDigits f → AreDigits g → HasNoZeroFirst v
+    fewer : (w v f g : List ℕ) (k l : ℕ) → AllDigits 10 w → AllDigits 10 v → AllDigits 10 f → AllDigits 10 g → HasNoZeroFirst v
         → length f + k ≡ length g + l → length w < length v
         → nat_cmp (onto 0 (w ++ (f ++ zeros k))) (onto 0 (v ++ (g ++ zeros l))) ≡ Less
     fewer w [] f g k l dw dv df dg z e h = absurd (omega (arith, h))
     fewer w (d ∷ ds) f g k l dw dv df dg z e h =
         shorter (w ++ (f ++ zeros k)) d (ds ++ (g ++ zeros l)) (behind w f k dw df) (behind (d ∷ ds) g l dv dg)
-        (omega (arith, dv.0, z)) (rw (length-all w f k, length-all ds g l) (omega (arith, e, h)))
+        (omega (arith, (first-digit d ds dv).0, z)) (rw (length-all w f k, length-all ds g l) (omega (arith, e, h)))
 
     turned : (x y : ℕ) → nat_cmp y x ≡ Less → nat_cmp x y ≡ Greater
     turned x y h = cmp-greater x y (ranked y x Less (sym h))
@@ -255,7 +258,7 @@ ends-long f =
     sym (ap length z.whole ∙ length-append (without_trailing_zeros f) (zeros z.count) ∙ ap (λ n. length (without_trailing_zeros f) + n) (length-replicate {A = ℕ} z.count 48))
 
 -- the sizes of two numbers, by their digits without needless zeros
-pub cmp-scaled : (w f v g : List ℕ) → AreDigits w → AreDigits f → AreDigits v → AreDigits g
+pub cmp-scaled : (w f v g : List ℕ) → AllDigits 10 w → AllDigits 10 f → AllDigits 10 v → AllDigits 10 g
     → nat_cmp (digits_value (w ++ f) * 10 ^ length g) (digits_value (v ++ g) * 10 ^ length f)
     ≡ ordering_then (ordering_then (nat_cmp (length (without_leading_zeros w)) (length (without_leading_zeros v)))
     (slice_cmp nat_cmp (without_leading_zeros w) (without_leading_zeros v)))

@@ -1,19 +1,15 @@
 -- A word is one number at most.
-use Rattle.std.proofs.Common.{◌≡◌, ◌∙◌, ◌<◌, ◌≤◌, ◌^◌, ◌&&◌, ℕ, Bool, true, false, List, Option, Some, None, Ok, Result, if◌then◌else◌, refl, sym, ap, decimal, nat_lt, nat_le, arith, lit<}
+use Rattle.std.proofs.Common.{◌≡◌, ◌∙◌, ◌<◌, ◌≤◌, ◌^◌, ◌&&◌, ℕ, Bool, true, false, List, Option, Some, None, Ok, Result, if◌then◌else◌, refl, sym, ap, decimal, nat_lt, nat_le, arith, lit<, true≢false}
 use Rattle.std.specs.Prelude.{MatchOption}
 use Rattle.std.specs.Str.{bytes_eq}
 use Rattle.std.specs.Str.Parse.{ParsesUnsigned, digits_value}
 use Rattle.std.proofs.Math.Nat.{lt_trans}
 use Rattle.std.proofs.lemmas.Bool.{lt-ltb, ltb-true, le-leb, leb-true}
 use Rattle.std.proofs.lemmas.Option.{same_Some}
-use Rattle.std.proofs.lemmas.Fmt.{digits_value-decimal, parse-decimal}
+use Rattle.std.proofs.lemmas.Fmt.{decimal_is_IsNumeral, parse-decimal}
 use Rattle.std.proofs.lemmas.Slice.Eq.{bytes_eq-Decides}
 use Rattle.vkg_lists.proofs.Bools.{and_parts, and_true}
 use Rattle.vkg_company.specs.Count.{IsCount, count_in, if_count, is_count}
-use Rattle.vkg_company.proofs.Numbers.{own}
-
-not_both : false ≡ true → ⊥
-not_both e = cc e
 
 counted : (word : List ℕ) (n : ℕ) → is_count word n ≡ true → IsCount word n
 counted word n e =
@@ -32,7 +28,7 @@ decided word n h = by (is_count word n) refl
   where
     by : (b : Bool) → is_count word n ≡ b → MatchOption (if b then Some n else None) ((m : ℕ) → IsCount word m → ⊥) (IsCount word)
     by true e = counted word n e
-    by false e = λ m k. not_both (sym e ∙ ap (is_count word) (same_Some n m (h m k.limit k.written)) ∙ tested word m k)
+    by false e = λ m k. true≢false (sym (sym e ∙ ap (is_count word) (same_Some n m (h m k.limit k.written)) ∙ tested word m k))
 
 small : (n : ℕ) → n ≤ 100000 → n < 2 ^ 64
 small n h = lt_trans (let j : n < 100001 = omega (arith, h) in j) (lit< tt)
@@ -48,5 +44,5 @@ counted_in word None h = by (is_count word (digits_value 10 word)) refl
     by true e = absurd (h (digits_value 10 word) (counted word (digits_value 10 word) e))
     by false e = refl
 counted_in word (Some n) k =
-    let same : digits_value 10 word ≡ n = ap (digits_value 10) k.written ∙ digits_value-decimal own n (small n k.limit) in
+    let same : digits_value 10 word ≡ n = ap (digits_value 10) k.written ∙ (decimal_is_IsNumeral n (small n k.limit)).1 in
     sym (ap (if_count word) same ∙ ap (λ b. if b then Some n else None) (tested word n k))

@@ -3,26 +3,25 @@ use Rattle.std.proofs.Common.{◌≡◌, ◌∙◌, ◌+◌, ◌≤◌, ◌<◌,
 use Rattle.std.specs.Prelude.{IsUtf8}
 use Rattle.std.specs.Fmt.{digits}
 use Rattle.std.specs.List.{after_first, before_first}
-use Rattle.std.specs.Str.Parse.{digits_value}
+use Rattle.std.specs.Str.Parse.{AllDigits}
 use Rattle.std.proofs.Math.Nat.{lt_trans}
-use Rattle.std.proofs.lemmas.Bool.{le-ltb}
-use Rattle.std.proofs.lemmas.Fmt.{IsAscii-decimal, decimal_nonempty, digits_decimal, first_decimal, length-decimal-le}
+use Rattle.std.proofs.lemmas.Bool.{le-ltb, ne_eqb}
+use Rattle.std.proofs.lemmas.Fmt.{IsAscii-decimal, decimal_is_IsNumeral, decimal_nonempty, first_decimal, length-decimal-le}
 use Rattle.std.proofs.lemmas.Str.{IsUtf8-from_ascii}
-use Rattle.std.proofs.lemmas.Str.Parse.{IsDigitsTest, IsNumeralModel, numerals_by_value}
 use Rattle.vkg_cells.specs.declared.cell.SqlType.TheVariants as kind
 use Rattle.vkg_cells.specs.declared.cell.Cell.TheVariants as cell
 use Rattle.vkg_cells.specs.Field.{cell_of_field, where_number}
 use Rattle.vkg_cells.specs.Form.{IsOfKind}
 use Rattle.vkg_cells.specs.Number.{after_point, canonical, fraction, is_digits, is_integer, is_negative, or_zero, unsigned, whole, width, without_leading_zeros, without_trailing_zeros}
-use Rattle.vkg_cells.proofs.Digits.{AreDigits, are-digits}
-use Rattle.vkg_cells.proofs.PlaceLemmas.{after-all, apart, before-all, lacks-digits}
+use Rattle.vkg_cells.proofs.Digits.{are-digits}
+use Rattle.vkg_cells.proofs.PlaceLemmas.{after-all, before-all, lacks-digits}
 
-module _ (d : ℕ) (ds : List ℕ) (a : AreDigits (d ∷ ds)) (some : 48 < d) where
+module _ (d : ℕ) (ds : List ℕ) (a : AllDigits 10 (d ∷ ds)) (some : 48 < d) where
   plain : unsigned (d ∷ ds) ≡ d ∷ ds
-  plain = rw (apart d 43 (λ e. omega (arith, e, some)), apart d 45 (λ e. omega (arith, e, some))) refl
+  plain = rw (ne_eqb d 43 (λ e. omega (arith, e, some)), ne_eqb d 45 (λ e. omega (arith, e, some))) refl
 
   no_sign : is_negative (d ∷ ds) ≡ false
-  no_sign = rw (apart 45 d (λ e. omega (arith, e, some))) refl
+  no_sign = rw (ne_eqb 45 d (λ e. omega (arith, e, some))) refl
 
   all_whole : whole (d ∷ ds) ≡ d ∷ ds
   all_whole = ap (before_first (λ b. b == 46)) plain ∙ before-all 46 (d ∷ ds) (lacks-digits 46 (d ∷ ds) (lit< tt) a)
@@ -31,7 +30,7 @@ module _ (d : ℕ) (ds : List ℕ) (a : AreDigits (d ∷ ds)) (some : 48 < d) wh
   no_fraction = ap (after_first (λ b. b == 46)) plain ∙ after-all 46 (d ∷ ds) (lacks-digits 46 (d ∷ ds) (lit< tt) a)
 
   leads : without_leading_zeros (whole (d ∷ ds)) ≡ d ∷ ds
-  leads = ap without_leading_zeros all_whole ∙ rw (apart d 48 (λ e. omega (arith, e, some))) refl
+  leads = ap without_leading_zeros all_whole ∙ rw (ne_eqb d 48 (λ e. omega (arith, e, some))) refl
 
   trails : without_trailing_zeros (fraction (d ∷ ds)) ≡ []
   trails = ap without_trailing_zeros no_fraction
@@ -53,13 +52,7 @@ module _ (d : ℕ) (ds : List ℕ) (a : AreDigits (d ∷ ds)) (some : 48 < d) wh
   field : length (d ∷ ds) ≤ 38 → cell_of_field kind.Int (d ∷ ds) ≡ Ok (cell.Int (d ∷ ds))
   field h = (λ i. where_number (integer i) (d ∷ ds) (cell.Int (own_form i))) ∙ narrow h
 
-tells : IsDigitsTest AreDigits
-tells = record { empty = tt; parts = λ c cs a. ((a.0, a.1), a.2); more = λ c cs r a. (r.0, r.1, a) }
-
-pub own : IsNumeralModel AreDigits (digits_value 10)
-own = numerals_by_value AreDigits tells
-
-field_of : (text : List ℕ) → AreDigits text → 0 < length text → 48 < get_or text 0 0 → length text ≤ 38 → cell_of_field kind.Int text ≡ Ok (cell.Int text)
+field_of : (text : List ℕ) → AllDigits 10 text → 0 < length text → 48 < get_or text 0 0 → length text ≤ 38 → cell_of_field kind.Int text ≡ Ok (cell.Int text)
 field_of [] a some first short = absurd (omega (arith, some))
 field_of (d ∷ ds) a some first short = field d ds a first short
 
@@ -71,7 +64,7 @@ pub number_field : (n : ℕ) → n < 2 ^ 64 → cell_of_field kind.Int (decimal 
 number_field zero h = zero_field
 number_field (suc n) h =
     let short : length (decimal (suc n)) ≤ 20 = length-decimal-le 20 (suc n) (lit< tt) (lt_trans h (lit< tt)) h in
-    field_of (decimal (suc n)) (digits_decimal own (suc n) h) (decimal_nonempty (suc n) h) (first_decimal (suc n) (omega arith) h) (omega (arith, short))
+    field_of (decimal (suc n)) (decimal_is_IsNumeral (suc n) h).0.1 (decimal_nonempty (suc n) h) (first_decimal (suc n) (omega arith) h) (omega (arith, short))
 
 pub number_kind : (n : ℕ) → n < 2 ^ 64 → IsOfKind kind.Int (cell.Int (decimal n))
 number_kind n h = (decimal n, IsUtf8-from_ascii (decimal n) (IsAscii-decimal n h), number_field n h)

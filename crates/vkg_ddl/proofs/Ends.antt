@@ -7,7 +7,7 @@ use Rattle.std.proofs.lemmas.Bool.{cases_lt}
 use Rattle.std.proofs.lemmas.Bool.Decides.{nat_tests}
 use Rattle.std.proofs.lemmas.List.{length_push}
 use Rattle.std.proofs.lemmas.List.Sums.{fold_more}
-use Rattle.std.proofs.lemmas.Option.{same_Some}
+use Rattle.std.proofs.lemmas.Option.{none-some, same_Some}
 use Rattle.std.specs.Bool.{then_some}
 use Rattle.vkg_lists.specs.Results.{in_front}
 use Rattle.vkg_tokens.specs.declared.cutting.Piece.{Piece}
@@ -115,9 +115,6 @@ no_last text i l h =
 below : (n : ℕ) → (128 ≤ n → ⊥) → n < 128
 below n h = elim (cases_lt n 128) [ inl l ↦ l | inr g ↦ absurd (h g) ]
 
-differ : {A : Type 0} {o : Option A} {x : A} → o ≡ None → o ≡ Some x → ⊥
-differ e f = cc
-
 -- the ends of the first n bytes
 record AreAsciiEnds (rest : List ℕ) (n : ℕ) : Type 0 where
   some : 0 < n
@@ -131,11 +128,11 @@ ends_of (b ∷ bs) zero class s l e = absurd (omega (arith, s))
 ends_of (b ∷ bs) (suc n) class s l e = record {
   some = s;
   inside = l;
-  first = below b (λ h. differ (no_first b (take n bs) h) e);
+  first = below b (λ h. none-some _ (sym (no_first b (take n bs) h) ∙ e));
   last =
       let here : suc n ≡ n + 1 = omega arith in
       let at : suc n - 1 ≡ n = omega arith in
-      below (get_or (b ∷ bs) (suc n - 1) 0) (λ h. differ (no_last (b ∷ bs) n (omega (arith, l)) (subst (λ k. 128 ≤ get_or (b ∷ bs) k 0) at h)) (ap (λ k. token_class lang.Ddl (take k (b ∷ bs))) (sym here) ∙ e));
+      below (get_or (b ∷ bs) (suc n - 1) 0) (λ h. none-some _ (sym (no_last (b ∷ bs) n (omega (arith, l)) (subst (λ k. 128 ≤ get_or (b ∷ bs) k 0) at h)) ∙ ap (λ k. token_class lang.Ddl (take k (b ∷ bs))) (sym here) ∙ e));
 }
 
 found_by : (rest : List ℕ) (m n class : ℕ) (o : Option ℕ) → suc m ≤ length rest → (longest_to lang.Ddl rest m ≡ Some (class, n) → AreAsciiEnds rest n) → token_class lang.Ddl (take (suc m) rest) ≡ o → or_shorter o (suc m) (longest_to lang.Ddl rest m) ≡ Some (class, n) → AreAsciiEnds rest n

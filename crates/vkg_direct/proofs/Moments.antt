@@ -1,6 +1,7 @@
 -- The forms of dates and times are of their datatypes' lexical spaces.
 use Rattle.std.proofs.Common.{◌≡◌, ℕ, refl, ◌∙◌, ap, List, [], ◌∷◌, ◌++◌, length, get_or, take, drop, codes, Bool, true, false, ◌&&◌, ◌||◌, arith, ◌==◌, append_assoc, take_all, take_at, drop_at}
 use Rattle.std.specs.Char.{is_ascii_digit}
+use Rattle.std.specs.Str.Parse.{AllDigits}
 use Rattle.std.proofs.lemmas.List.Sums.{position_or_len_is, AllPass-from_list_all}
 use Rattle.std.proofs.Math.ListN.{drop_of_length-le}
 use Rattle.std.proofs.Math.Seq.{take-length, drop-length}
@@ -8,7 +9,7 @@ use Rattle.vkg_cells.specs.Number.{after_point}
 use Rattle.vkg_cells.specs.Moment.{is_date, is_clock}
 use Rattle.vkg_cells.specs.WellTyped.{is_xsd_date, is_zone, is_fraction, is_moment, is_end_of_day, zone_place, is_xsd_date_time}
 use Rattle.vkg_lists.proofs.Bools.{and_true, or_left}
-use Rattle.vkg_cells.proofs.Digits.{AreDigits, are-digits}
+use Rattle.vkg_cells.proofs.Digits.{are-digits}
 use Rattle.vkg_cells.proofs.MomentText.{clock_fixed, date_fixed}
 
 pub date_is : (text : List ℕ) → is_date text ≡ true → is_xsd_date text ≡ true
@@ -25,20 +26,20 @@ begins_zone b = (b == 90) || (b == 43) || (b == 45)
 no_zone_digit : (b : ℕ) → is_ascii_digit b ≡ true → begins_zone b ≡ false
 no_zone_digit b e = grind arith
 
-no_zone : (ds : List ℕ) → AreDigits ds → zone_place ds ≡ length ds
+no_zone : (ds : List ℕ) → AllDigits 10 ds → zone_place ds ≡ length ds
 no_zone ds d =
     position_or_len_is begins_zone ds (length ds) 0 (omega arith) (λ k l. no_zone_digit (get_or ds k 0) (AllPass-from_list_all is_ascii_digit ds (are-digits ds d) k 0 l)) (λ l. absurd (omega (arith, l)))
 
-no_zone_point : (ds : List ℕ) → AreDigits ds → zone_place (after_point ds) ≡ length (after_point ds)
+no_zone_point : (ds : List ℕ) → AllDigits 10 ds → zone_place (after_point ds) ≡ length (after_point ds)
 no_zone_point [] d = refl
 no_zone_point (b ∷ ds) d = omega (arith, no_zone (b ∷ ds) d)
 
-fraction_is : (ds : List ℕ) → AreDigits ds → is_fraction (after_point ds) ≡ true
+fraction_is : (ds : List ℕ) → AllDigits 10 ds → is_fraction (after_point ds) ≡ true
 fraction_is [] d = refl
 fraction_is (b ∷ ds) d = are-digits (b ∷ ds) d
 
 -- a date, a `T`, a time of day and the digits of a fraction
-module _ (date clock ds : List ℕ) (d : is_date date ≡ true) (c : is_clock clock ≡ true) (f : AreDigits ds) where
+module _ (date clock ds : List ℕ) (d : is_date date ≡ true) (c : is_clock clock ≡ true) (f : AllDigits 10 ds) where
   abbrev form : List ℕ
   form = date ++ codes "T" ++ clock ++ after_point ds
 

@@ -45,9 +45,6 @@ element_of n [] k x e = cc
 element_of n (y ∷ ys) zero x e = let s : y ≡ x = cc in let i : n ≡ n + 0 = omega arith in λ j. Some (i j, s j)
 element_of n (y ∷ ys) (suc k) x e = let i : (n + 1) + k ≡ n + suc k = omega arith in element_of (n + 1) ys k x e ∙ ap (λ m. Some (m, x)) i
 
-below_place : {A : Type 0} (xs : List A) (k : ℕ) (x : A) → slice_get xs k ≡ Some x → k < length xs
-below_place xs k x e = slice_get_within xs k x e
-
 -- ---- places that are below a bound
 
 module _ (table : Table) where
@@ -143,7 +140,7 @@ module _ (base : List ℕ) (schema : List Table) (well : IsWellFormed schema) wh
     pair_within po c = elim (Contains-append_cases (map (column_property base t) (enumerate_from 0 t.columns)) (map (reference_property base t) t.references) po c) [
       | inl d ↦
           let r = Contains-from_map (column_property base t) (enumerate_from 0 t.columns) po d in
-          let l : r.0.0 < length t.columns = below_place t.columns r.0.0 r.0.1 (place_of t.columns r.0 r.1) in
+          let l : r.0.0 < length t.columns = slice_get_within t.columns r.0.0 r.0.1 (place_of t.columns r.0 r.1) in
           subst (IsPairWithin schema maps m) r.2 (record {
             predicates = (record { columns = tt; narrow = refl }, tt);
             objects = (record { columns = (subst (λ n. r.0.0 < n) width l, tt); narrow = refl }, tt);
@@ -160,7 +157,7 @@ module _ (base : List ℕ) (schema : List Table) (well : IsWellFormed schema) wh
 
     map_within : IsMapWithin schema maps m
     map_within = record {
-      table = below_place schema k t here;
+      table = slice_get_within schema k t here;
       subject = record { columns = pieces_below t (length (kinds_at schema k)) (primary_key t) (subst (λ n. AllBelow n (primary_key t)) width (found_below t t.keys fine.keys)); narrow = refl };
       graphs = tt;
       predicate_objects = recursion_from_each (IsPairWithin schema maps m) (properties_of base t) pair_within;

@@ -1,5 +1,6 @@
 -- What the table says, and why the parser ends.
 use Rattle.std.proofs.Common.{◌≡◌, ℕ, zero, suc, ◌+◌, ◌*◌, ◌<◌, ◌≤◌, ◌⊎◌, inl, inr, List, [], ◌∷◌, ◌++◌, length, get_or, Option, Some, None, refl, ap, sym, subst, append-nil, arith}
+use Rattle.std.proofs.Math.Logic.{⊎_swap}
 use Rattle.std.proofs.Math.Nat.{eq-zero-or-pos}
 use Rattle.vkg_lists.proofs.Members.{recursion_append}
 use Rattle.vkg_lists.specs.Lists.{AllBelow}
@@ -248,10 +249,6 @@ module _ (g : List Rule) (rank : ℕ → Option ℕ → ℕ) where
         | inr f ↦ absurd (a.empty e (ahead_empty (ahead_begins ys w ll.productive t b (falls_begins f))))
       ]
 
-  swapped : {A B : Type 0} → A ⊎ B → B ⊎ A
-  swapped (inl a) = inr a
-  swapped (inr b) = inl b
-
   choice_falls : {n : ℕ} {xs ys : List ℕ} → IsTable g rank → n < length g → shape_of g n ≡ Choice xs ys → (c : Option ℕ) → 0 < rank n c → Falls rank (rank n c) c xs ⊎ Falls rank (rank n c) c ys
   choice_falls {n = n} {xs = xs} {ys = ys} t h e c pos = let f : ShapeFalls rank (rank n c) c (Choice xs ys) = subst (λ y. ShapeFalls rank (rank n c) c y) e (t.falls n c h pos) in f
 
@@ -264,7 +261,7 @@ module _ (g : List Rule) (rank : ℕ → Option ℕ → ℕ) where
 
   pub second_drop : {n : ℕ} {xs ys : List ℕ} {c : Option ℕ} (s : List ℕ) → IsGrammar g → IsLL1 g → IsTable g rank → n < length g → shape_of g n ≡ Choice xs ys → Picked g ys xs c → (0 < rank n c) ⊎ (0 < rank n None) → height rank c (ys ++ s) < height rank c (n ∷ s)
   second_drop {n = n} {xs = xs} {ys = ys} {c = c} s w ll t h e p d =
-      nearer_drop s w ll t h (the_second e) (choice_nearer w ll t (apart_other (apart ll h e)) (w.closed n ys h (the_second e)) (w.closed n xs h (the_first e)) p (λ c pos. swapped (choice_falls t h e c pos)) (λ c b. choice_up t h e c (inr b)) d)
+      nearer_drop s w ll t h (the_second e) (choice_nearer w ll t (apart_other (apart ll h e)) (w.closed n ys h (the_second e)) (w.closed n xs h (the_first e)) p (λ c pos. ⊎_swap (choice_falls t h e c pos)) (λ c b. choice_up t h e c (inr b)) d)
 
   -- what the test at a choice says is why the way is picked
   pub picked_first : {n : ℕ} {xs ys : List ℕ} (c : Option ℕ) → IsGrammar g → IsLL1 g → IsTable g rank → n < length g → shape_of g n ≡ Choice xs ys → Begins rank c xs ⊎ ((Begins rank c ys → ⊥) × Begins rank None xs) → Picked g xs ys c

@@ -2,6 +2,7 @@
 use Rattle.std.proofs.Common.{◌≡◌, ℕ, zero, suc, ◌+◌, ◌*◌, ◌<◌, ◌⊎◌, inl, inr, List, [], ◌∷◌, ◌++◌, length, get_or, Option, Some, None, refl, ap, sym, ◌∙◌, subst, arith, reverse}
 use Rattle.std.proofs.lemmas.List.{reverse-append}
 use Rattle.std.proofs.lemmas.Nat.{mul-add-lt}
+use Rattle.std.proofs.lemmas.Option.{none-some}
 use Rattle.vkg_lists.specs.Lists.{AllBelow}
 use Rattle.vkg_grammar.specs.declared.note.Note.{Note}
 use Rattle.vkg_grammar.specs.declared.note.Act.TheVariants.{Leaf}
@@ -50,13 +51,10 @@ did_second {g = g} {rank = rank} {c = c} {n = n} before old xs ys l e b a m =
 
 -- A token that is not stuck is the one that is seen.
 pub did_take : {g : List Rule} {rank : ℕ → Option ℕ → ℕ} {c : Option ℕ} {n k : ℕ} (before : List ℕ) (old : List Note) {new : List Note} → Looking g rank c n → shape_of g n ≡ One k → new ≡ old ++ noted n Leaf ∷ [] → HasStepped g rank c n before before old new Taken
-did_take {g = g} {rank = rank} {c = c} {n = n} {k = k} before old l e m = elim l.live [ inl p ↦ (k, falls c p, e, refl, m) | inr p ↦ absurd (not_empty (falls None p)) ]
+did_take {g = g} {rank = rank} {c = c} {n = n} {k = k} before old l e m = elim l.live [ inl p ↦ (k, falls c p, e, refl, m) | inr p ↦ absurd (none-some k (falls None p)) ]
   where
     falls : (c : Option ℕ) → 0 < rank n c → c ≡ Some k
     falls c p = let f : ShapeFalls rank (rank n c) c (One k) = subst (λ y. ShapeFalls rank (rank n c) c y) e (l.is_table.falls n c l.inside p) in f
-
-    not_empty : None ≡ Some k → ⊥
-    not_empty q = cc
 
 pub is_stuck_at : {g : List Rule} {rank : ℕ → Option ℕ → ℕ} {c : Option ℕ} {n : ℕ} → IsGrammar g → IsTable g rank → n < length g → (rank n c ≡ 0) × (rank n None ≡ 0) → (Ahead g (n ∷ []) c → ⊥) × (Ahead g (n ∷ []) None → ⊥)
 is_stuck_at {g = g} {rank = rank} {c = c} {n = n} w t h z =

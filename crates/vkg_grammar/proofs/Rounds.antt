@@ -1,6 +1,6 @@
 -- What the rounds keep.
-use Rattle.std.proofs.Common.{◌↔◌, IsTrue, ◌≡◌, ℕ, zero, suc, ◌+◌, ◌*◌, ◌/◌, ◌%◌, ◌<◌, ◌≤◌, Bool, true, false, ◌⊎◌, inl, inr, List, [], ◌∷◌, ◌++◌, length, get_or, take, Option, Some, None, refl, ap, sym, ◌∙◌, subst, arith, add-one, below_more, lt-ltb, le-ltb, replicate}
-use Rattle.std.proofs.lemmas.Bool.Decides.{leb_tells}
+use Rattle.std.proofs.Common.{◌↔◌, IsTrue, ◌≡◌, ℕ, zero, suc, ◌+◌, ◌*◌, ◌%◌, ◌<◌, ◌≤◌, Bool, true, false, ◌⊎◌, inl, inr, List, [], ◌∷◌, ◌++◌, length, get_or, take, Option, Some, None, refl, ap, sym, ◌∙◌, subst, arith, add-one, below_more, lt-ltb, le-ltb, replicate}
+use Rattle.std.proofs.lemmas.Bool.{cases_lt}
 use Rattle.std.proofs.lemmas.List.{length-replicate}
 use Rattle.std.proofs.lemmas.List.{get_or_append_left, length_push, take_more, take_all}
 use Rattle.std.proofs.lemmas.Nat.{mul-add-lt, div-mul-add, mod-mul-add}
@@ -143,7 +143,7 @@ shape_found {g = g} {n = n} c rank rank' w h kept lt (Choice xs ys) e (inl f) = 
 shape_found {g = g} {n = n} c rank rank' w h kept lt (Choice xs ys) e (inr f) = inr (falls_found (length g) rank rank' kept ys (w.closed n ys h (the_second e)) lt f)
 
 pub column_or_not : (w : ℕ) (c : Option ℕ) → (column c < w) ⊎ (w ≤ column c)
-column_or_not w c = elim (leb_tells w (column c)) [ inl (t, h) ↦ inr h | inr (t, h) ↦ inl h ]
+column_or_not w c = cases_lt (column c) w
 
 pub founded_next : {g : List Rule} {changed : Bool} (w stamp : ℕ) (old new : List ℕ) → IsGrammar g → length old ≡ w * length g → 0 < stamp → IsFounded g (rank_in old w) stamp → IsRound (BeginReason g w old) stamp old new (length old) changed → IsFounded g (rank_in new w) (stamp + 1)
 founded_next {g = g} w stamp old new wf size pos f r = record { falls = λ n c h p. falls n c h p (column_or_not w c); below = λ n c h. below n c h (column_or_not w c) }

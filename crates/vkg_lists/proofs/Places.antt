@@ -1,6 +1,6 @@
 -- `least_of` gives the least place.
 use Rattle.std.proofs.Common.{◌≡◌, ℕ, ◌≤◌, inl, inr, ⊎_elim, List, [], ◌∷◌, Option, Some, None, min, refl, sym, ap, subst, ◌∙◌, arith}
-use Rattle.std.proofs.lemmas.Bool.Decides.{leb_tells}
+use Rattle.std.proofs.lemmas.Bool.{cases_lt}
 use Rattle.std.proofs.lemmas.Option.{none-some, same_Some}
 use Rattle.std.specs.Prelude.{fold}
 use Rattle.std.specs.List.{Contains}
@@ -53,18 +53,18 @@ module _ {A : Type 0} (place : A → Option ℕ) where
     where
       below : (b : ℕ) → ◌≡◌ {A = Option ℕ} (Some at) (Some b) → at ≤ b
       below b k = let same : at ≡ b = cc in omega (arith, same)
-  least_by y xs (Some a) (Some b) is rest later at e = let l = later b refl in let is_min : min a b ≡ at = cc in elim (leb_tells a b) [
-    | inl (t, low) ↦ let same : a ≡ at = omega (arith, is_min, low) in record {
-      item = y;
-      among = Contains-here y xs;
-      here = is ∙ ap (λ (n : ℕ). Some n) same;
-      least = λ x c m h. ⊎_elim (λ i. let k = same_Some a c (sym is ∙ ap place i ∙ h) in omega (arith, k, same)) (λ d. let k = l.least x c d h in omega (arith, k, low, same)) (Contains-cons_cases y xs x m);
-    }
-    | inr (t, high) ↦ let same : b ≡ at = omega (arith, is_min, high) in record {
+  least_by y xs (Some a) (Some b) is rest later at e = let l = later b refl in let is_min : min a b ≡ at = cc in elim (cases_lt b a) [
+    | inl high ↦ let same : b ≡ at = omega (arith, is_min, high) in record {
       item = l.item;
       among = Contains-there y xs l.item l.among;
       here = l.here ∙ ap (λ (n : ℕ). Some n) same;
       least = λ x c m h. ⊎_elim (λ i. let k = same_Some a c (sym is ∙ ap place i ∙ h) in omega (arith, k, high, same)) (λ d. let k = l.least x c d h in omega (arith, k, same)) (Contains-cons_cases y xs x m);
+    }
+    | inr low ↦ let same : a ≡ at = omega (arith, is_min, low) in record {
+      item = y;
+      among = Contains-here y xs;
+      here = is ∙ ap (λ (n : ℕ). Some n) same;
+      least = λ x c m h. ⊎_elim (λ i. let k = same_Some a c (sym is ∙ ap place i ∙ h) in omega (arith, k, same)) (λ d. let k = l.least x c d h in omega (arith, k, low, same)) (Contains-cons_cases y xs x m);
     }
   ]
 

@@ -2,6 +2,7 @@
 use Rattle.std.proofs.Common.{◌≡◌, refl, sym, ◌∙◌, ap, subst, ℕ, ◌+◌, ◌<◌, ◌≤◌, ◌⊎◌, inl, inr, List, [], ◌∷◌, ◌++◌, map, flat_map, Option, Some, None, Ok, Err, true, false, nat_lt, arith}
 use Rattle.std.specs.Prelude.{Contains}
 use Rattle.std.specs.List.{enumerate_from}
+use Rattle.std.proofs.lemmas.Option.{same_Some}
 use Rattle.vkg_lists.proofs.Results.{err_same}
 use Rattle.vkg_lists.specs.Firsts.{first_of}
 use Rattle.vkg_lists.proofs.Members.{Contains-none, Contains-here, Contains-there, Contains-cons_cases, Contains-flat_map}
@@ -77,9 +78,6 @@ no_earlier F n xs a f p b c d = elim (nat_lt p.0 f.place) as (λ t. nat_lt p.0 f
   ] refl
 ] refl
 
-some_same : {A : Type 0} (a b : A) → ◌≡◌ {A = Option A} (Some a) (Some b) → a ≡ b
-some_same a b e = ap (λ o. elim o [ Some x ↦ x | None ↦ a ]) e
-
 -- ---- the places of a data error
 
 module _ (mapping : Mapping) (db : Database) where
@@ -112,7 +110,7 @@ module _ (mapping : Mapping) (db : Database) where
     where
       split : (made : Made) → term_of mapping.base term row ≡ made → first_of (map (fault_at k r t) (fault_of made)) ≡ Some f → (other : TermMap) × (fault : TermFault) × (Some term ≡ Some other) × (term_of mapping.base other row ≡ Err fault) × (f ≡ fault_at k r t fault)
       split (Ok x) i e = cc
-      split (Err fault) i e = (term, fault, refl, i, sym (some_same (fault_at k r t fault) f e))
+      split (Err fault) i e = (term, fault, refl, i, sym (same_Some (fault_at k r t fault) f e))
 
   least : (f : DataFault) → least_data_fault mapping db ≡ Some f → IsLeastFault mapping db f
   least f e =
@@ -141,7 +139,7 @@ module _ (mapping : Mapping) (db : Database) where
                     | inl l ↦ inr (inr (i, inr (j, l)))
                     | inr n ↦
                         let t : Some is.term_map ≡ c.item = one_item 0 (term_maps a.item) (g.term, Some is.term_map) (c.place, c.item) term_is c.is (sym n) in
-                        let u : is.term_map ≡ o.0 = some_same is.term_map o.0 (t ∙ o.2) in
+                        let u : is.term_map ≡ o.0 = same_Some is.term_map o.0 (t ∙ o.2) in
                         let fault : o.1 ≡ g.fault = err_same o.1 g.fault (sym o.3 ∙ ap (λ row. term_of mapping.base o.0 row) (sym r) ∙ ap (λ m. term_of mapping.base m is.cells) (sym u) ∙ is.fails) in
                         inl (λ x. record { fault = fault x; map = i x; row = j x; term = n x })
                   ]

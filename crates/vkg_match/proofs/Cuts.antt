@@ -3,6 +3,7 @@ use Rattle.std.proofs.Common.{◌≡◌, ℕ, refl, sym, ap, subst, ◌∙◌, L
 use Rattle.std.specs.Prelude.{Some, fold, chars}
 use Rattle.std.specs.List.{AllByRecursion}
 use Rattle.std.specs.Str.{NoCharPasses}
+use Rattle.std.proofs.lemmas.List.{map_push}
 use Rattle.std.proofs.lemmas.Str.{encodes-chars, NoCharPasses-append, NoCharPasses-nil}
 use Rattle.vkg_lists.specs.Options.{joined}
 use Rattle.vkg_lists.proofs.Members.{recursion_push, recursion_append}
@@ -32,10 +33,6 @@ whole-last (x ∷ xs) l m =
     ap (λ w. joined x.0 (joined (Some (encode x.1)) w)) (whole-last xs l m)
     ∙ ap (joined x.0) (sym (joined_assoc (Some (encode x.1)) (whole xs l) m))
     ∙ sym (joined_assoc x.0 (joined (Some (encode x.1)) (whole xs l)) m)
-
-map-append-one : {A B : Type 0} (f : A → B) (xs : List A) (y : A) → map f (xs ++ y ∷ []) ≡ map f xs ++ f y ∷ []
-map-append-one f [] y = refl
-map-append-one f (x ∷ xs) y = ap (λ r. f x ∷ r) (map-append-one f xs y)
 
 module _ (sort : Sort) (row : Row) where
   pieces_text-append : (ps qs : List Piece) → pieces_text sort row (ps ++ qs) ≡ joined (pieces_text sort row ps) (pieces_text sort row qs)
@@ -72,7 +69,7 @@ module _ (sort : Sort) (row : Row) where
 
   at_text : (cut : Cut) (c : ℕ) → whole_text (cut_at cut c) ≡ joined (whole_text cut) (Some (encode c))
   at_text cut c =
-      ap (λ xs. whole xs (Some [])) (map-append-one part cut.done (record { pieces = last_pieces cut; mark = c }))
+      ap (λ xs. whole xs (Some [])) (map_push part cut.done (record { pieces = last_pieces cut; mark = c }))
       ∙ whole-append (parts cut) (last cut) c (Some [])
       ∙ ap (joined (whole_text cut)) (joined_nil (Some (encode c)))
 

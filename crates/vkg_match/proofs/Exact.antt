@@ -1,5 +1,5 @@
 -- The verdict is exact.
-use Rattle.std.proofs.Common.{◌≡◌, ◌⊎◌, inl, inr, ℕ, zero, suc, lit<, nat_lt, refl, sym, ap, subst, ◌∙◌, List, [], ◌∷◌, Bool, true, false, cond, ◌&&◌, ◌||◌, ◌==◌, arith, map, Result, Ok, Err, IsUtf8, append-nil}
+use Rattle.std.proofs.Common.{◌≡◌, ◌⊎◌, inl, inr, ℕ, zero, suc, lit<, nat_lt, refl, sym, ap, subst, ◌∙◌, List, [], ◌∷◌, Bool, true, false, cond, ◌&&◌, ◌||◌, ◌==◌, arith, map, Result, Ok, Err, IsUtf8, append-nil, true≢false}
 use Rattle.std.specs.Prelude.{IfOk, Option, Some, None, option_map, bytes_eq}
 use Rattle.std.specs.List.{AllByRecursion, list_all}
 use Rattle.std.proofs.lemmas.Str.{IsUtf8-nil, IsUtf8-append}
@@ -433,10 +433,7 @@ sorts_apart : (row : Row) (e f : TermExpr) (o p : Option Term) → term_at row e
 sorts_apart row e f None p a b s = refl
 sorts_apart row e f (Some t) None a b s = refl
 sorts_apart row e f (Some t) (Some u) a b s =
-    is_false _ (λ x. not_both (sym s ∙ (λ i. same_sort (sym (sort_at row e t a) i) (sym (sort_at row f u b) i)) ∙ equal_sort t u x))
-  where
-    not_both : false ≡ true → ⊥
-    not_both e = cc
+    is_false _ (λ x. true≢false (sym (equal_sort t u x) ∙ (λ i. same_sort (sort_at row e t a i) (sort_at row f u b i)) ∙ s))
 
 by_sorts_exact : (row : Row) (e f : TermExpr) → IsComposed e f → Known row e → Known row f → same_terms (term_at row e) (term_at row f) ≡ is_met (by_sorts e f) row
 by_sorts_exact row e f c h g =
@@ -459,13 +456,10 @@ exact e f s t row h g = terms_hold row e f ∙ terms_exact row e f (s, h) (t, g)
 pub there_at : (row : Row) (e : TermExpr) (t : Term) → term_of (value_of (term_expr e) row) ≡ Some t → term_at row e ≡ Some t
 there_at row e t m = sym (term_back (term_at row e)) ∙ ap term_of (sym (term_value row e)) ∙ m
 
-not_true : true ≡ false → ⊥
-not_true e = cc
-
 -- an expression that never makes a term makes it on no row
 pub never : (row : Row) (e : TermExpr) (t : Term) → Known row e → IsUtf8 (term_name t) → verdict_of e (Fixed t) ≡ Never → term_of (value_of (term_expr e) row) ≡ Some t → ⊥
 never row e t h u v m =
-    not_true (sym (term_itself t) ∙ (λ i. same_terms (sym (there_at row e t m) i) (Some t)) ∙ terms_exact row e (Fixed t) h (u, tt) ∙ ap (λ w. is_met w row) v)
+    true≢false (sym (term_itself t) ∙ (λ i. same_terms (sym (there_at row e t m) i) (Some t)) ∙ terms_exact row e (Fixed t) h (u, tt) ∙ ap (λ w. is_met w row) v)
 
 pub exactly : (e f : TermExpr) (v : Verdict) → v ≡ verdict_of e f → IsExact e f v
 exactly e f v is = subst (IsExact e f) (sym is) (exact e f)

@@ -3,7 +3,7 @@ use Rattle.std.proofs.Common.{◌≡◌, ◌⊎◌, inl, inr, ℕ, refl, sym, ap
 use Rattle.std.specs.Prelude.{Option, Some, None, option_map, option_and_then, bytes_eq, IsSome, is_some, chars, flat_map, encode_utf8}
 use Rattle.std.specs.List.{list_all}
 use Rattle.std.specs.Str.{NonePass, NoCharPasses, is_utf8}
-use Rattle.std.proofs.lemmas.Option.{none-some, same_Some}
+use Rattle.std.proofs.lemmas.Option.{cond_some, none-some, same_Some}
 use Rattle.std.proofs.lemmas.Slice.Eq.{bytes_eq-Decides}
 use Rattle.std.proofs.lemmas.Str.{scalars-chars, is_utf8-from_IsUtf8, IsUtf8-from_is_utf8, NoCharPasses-append, NoCharPasses-nil, encode_ascii}
 use Rattle.std.proofs.Math.Bool.{and-true}
@@ -127,13 +127,9 @@ cell_null row hole (Some d) e = ap (λ b. b && true) (ap is_known_true (truth_ba
 
 pub text_kept : (s t : List ℕ) (b : Bool) → text_if s b ≡ Some t → (IsUtf8 s × (b ≡ true)) × (s ≡ t)
 text_kept s t b e = elim (is_utf8 s) as (λ u. is_utf8 s ≡ u → cond (u && b) (Some s) None ≡ Some t → (IsUtf8 s × (b ≡ true)) × (s ≡ t)) [
-  | true ↦ λ u f. let h = by b f in ((IsUtf8-from_is_utf8 s u, h.0), h.1)
+  | true ↦ λ u f. let h = cond_some b s t f in ((IsUtf8-from_is_utf8 s u, h.0), h.1)
   | false ↦ λ u f. absurd (none-some t f)
 ] refl e
-  where
-    by : (b : Bool) → cond b (Some s) None ≡ Some t → (b ≡ true) × (s ≡ t)
-    by true f = (refl, same_Some s t f)
-    by false f = absurd (none-some t f)
 
 pub text_there : (s : List ℕ) (b : Bool) → IsUtf8 s → b ≡ true → text_if s b ≡ Some s
 text_there s b u e = rw (is_utf8-from_IsUtf8 s u, e) refl

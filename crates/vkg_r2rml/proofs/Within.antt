@@ -3,11 +3,11 @@ use Rattle.std.proofs.Common.{◌≡◌, ◌∙◌, ℕ, zero, suc, ◌+◌, ◌
 use Rattle.std.specs.Prelude.{Option, Some, None, option_map, Result, Ok, Err, IfSome, slice_get, unwrap_or, codes, ◌==◌, ok_or, nat_lt, if◌then◌else◌}
 use Rattle.std.specs.Option.{option_map_or}
 use Rattle.std.specs.List.{AllByRecursion, AllZip}
+use Rattle.std.proofs.lemmas.Bool.{eqb-true}
 use Rattle.std.proofs.lemmas.List.{length-map}
 use Rattle.std.proofs.lemmas.Option.{slice_get-map, slice_get_within}
 use Rattle.std.specs.Result.{result_ok}
 use Rattle.vkg_lists.specs.Results.{unless, in_front}
-use Rattle.vkg_lists.proofs.Tests.{nat_test}
 use Rattle.vkg_lists.proofs.Results.{ok_same}
 use Rattle.vkg_terms.specs.declared.term.Term.{Term}
 use Rattle.vkg_terms.specs.declared.term.Term.TheVariants.{Iri, Blank, Lit}
@@ -55,9 +55,6 @@ kinds_are schema table = of (slice_get schema table)
     of : (o : Option Table) → map (λ (c : Column). c.kind) (option_map_or (λ (t : Table). t.columns) o []) ≡ unwrap_or (option_map (λ (t : Table). map (λ (c : Column). c.kind) t.columns) o) []
     of None = refl
     of (Some t) = refl
-
-is_equal : (m n : ℕ) → (m == n) ≡ true → m ≡ n
-is_equal m n e = (nat_test.decides m n).0 e
 
 module _ (triples : List Triple) (schema : List Table) (base : List ℕ) where
   -- ---- term maps
@@ -144,14 +141,14 @@ module _ (triples : List Triple) (schema : List Table) (base : List ℕ) where
     where
       compared : (p : ℕ × ℕ) (b : Bool) → (family_at schema table p.0 == family_at schema parent p.1) ≡ b → ◌≡◌ {A = Checked (ℕ × ℕ)} (if b then Ok p else Err 20) (Ok c) →
           (p ≡ c) × (family_at schema table p.0 ≡ family_at schema parent p.1)
-      compared p true w e = (ok_same p c e, is_equal (family_at schema table p.0) (family_at schema parent p.1) w)
+      compared p true w e = (ok_same p c e, eqb-true (family_at schema table p.0) (family_at schema parent p.1) w)
       compared p false w e = cc
 
   are_conditions : (table parent : ℕ) (nodes : List Term) (cs : List (ℕ × ℕ)) → conditions triples schema table (Some parent) nodes ≡ Ok cs → AreConditions schema table parent cs
   are_conditions table parent [] cs e = of (table == parent) refl e
     where
       of : (b : Bool) → (table == parent) ≡ b → ◌≡◌ {A = Checked (List (ℕ × ℕ))} (if b then Ok [] else Err 19) (Ok cs) → AreConditions schema table parent cs
-      of true w e = subst (AreConditions schema table parent) (ok_same [] cs e) (sym (is_equal table parent w))
+      of true w e = subst (AreConditions schema table parent) (ok_same [] cs e) (sym (eqb-true table parent w))
       of false w e = cc
   are_conditions table parent (node ∷ nodes) cs e =
       let all = of_all (IsCondition (kinds_at schema table) (kinds_at schema parent)) (condition triples schema table (Some parent)) (node ∷ nodes) cs (condition_is table parent) e in

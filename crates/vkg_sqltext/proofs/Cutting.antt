@@ -1,17 +1,16 @@
 -- A text is cut in one way where each part of it shows its own end.
-use Rattle.std.proofs.Common.{◌≡◌, ◌≢◌, ◌∙◌, ℕ, ◌<◌, ◌≤◌, ◌^◌, ◌==◌, ◌&&◌, ◌⊎◌, inl, inr, Bool, true, false, not, if◌then◌else◌, List, [], ◌∷◌, ◌++◌, flat_map, length, refl, sym, ap, subst, arith, append_assoc, eqb-true, nat_le}
+use Rattle.std.proofs.Common.{◌≡◌, ◌≢◌, ◌∙◌, ℕ, ◌<◌, ◌^◌, ◌==◌, ◌⊎◌, inl, inr, Bool, true, false, not, if◌then◌else◌, List, [], ◌∷◌, ◌++◌, flat_map, length, refl, sym, ap, subst, arith, append_assoc, eqb-true}
 use Rattle.std.specs.Prelude.{IsUtf8, chars, decimal}
+use Rattle.std.specs.Char.{is_ascii_digit}
 use Rattle.std.specs.List.{list_all}
-use Rattle.std.specs.Str.Parse.{AllDigits}
 use Rattle.std.proofs.Math.Utf8.{encode}
-use Rattle.std.proofs.lemmas.Bool.{eq-eqb}
-use Rattle.std.proofs.lemmas.Bool.Decides.{nat_tests}
+use Rattle.std.proofs.lemmas.Bool.{eq-eqb, eqb-false}
 use Rattle.std.proofs.lemmas.Fmt.{decimal_is_IsNumeral}
 use Rattle.std.proofs.lemmas.Str.{encode_same}
-use Rattle.std.proofs.lemmas.Str.Parse.{tells_digits}
 use Rattle.vkg_lists.proofs.Runs.{stops}
-use Rattle.vkg_lists.proofs.Bools.{and_parts, and_true}
+use Rattle.vkg_lists.proofs.Bools.{and_parts}
 use Rattle.vkg_lists.proofs.Heads.{head_same, tail_same}
+use Rattle.vkg_cells.proofs.Digits.{are-digits}
 use Rattle.vkg_sqltext.specs.Text.{doubled, quoted}
 use Rattle.vkg_terms.proofs.TextLemmas.{chars_same, starts}
 
@@ -22,27 +21,15 @@ stops_behind p q (b ∷ w) x h f s = ap not (f b (and_parts (q b) (list_all q w)
 
 -- ---- decimals
 
-abbrev pub is_digit : ℕ → Bool
-is_digit b = nat_le 48 b && nat_le b 57
+pub decimal_digits : (n : ℕ) → n < 2 ^ 64 → list_all is_ascii_digit (decimal n) ≡ true
+decimal_digits n h = are-digits (decimal n) (decimal_is_IsNumeral n h).0.1
 
-digit_passes : (b : ℕ) → 48 ≤ b → b ≤ 57 → is_digit b ≡ true
-digit_passes b l h = grind (arith, nat_tests)
-
-all_digits : (ds : List ℕ) → AllDigits 10 ds → list_all is_digit ds ≡ true
-all_digits [] h = refl
-all_digits (d ∷ ds) h =
-    let p = tells_digits.parts d ds h in
-    and_true (is_digit d) (list_all is_digit ds) (digit_passes d p.0.0 p.0.1) (all_digits ds p.1)
-
-pub decimal_digits : (n : ℕ) → n < 2 ^ 64 → list_all is_digit (decimal n) ≡ true
-decimal_digits n h = all_digits (decimal n) (decimal_is_IsNumeral n h).0.1
-
-no_other : (b : ℕ) (ds x z : List ℕ) → 0 < length ds → list_all is_digit ds ≡ true → is_digit b ≡ false → b ∷ x ≡ ds ++ z → ⊥
+no_other : (b : ℕ) (ds x z : List ℕ) → 0 < length ds → list_all is_ascii_digit ds ≡ true → is_ascii_digit b ≡ false → b ∷ x ≡ ds ++ z → ⊥
 no_other b [] x z l h n e = absurd (omega (arith, l))
-no_other b (d ∷ ds) x z l h n e = absurd (let g : true ≡ false = sym (and_parts (is_digit d) (list_all is_digit ds) h).0 ∙ ap is_digit (sym (head_same b d x (ds ++ z) e)) ∙ n in cc)
+no_other b (d ∷ ds) x z l h n e = absurd (let g : true ≡ false = sym (and_parts (is_ascii_digit d) (list_all is_ascii_digit ds) h).0 ∙ ap is_ascii_digit (sym (head_same b d x (ds ++ z) e)) ∙ n in cc)
 
 -- a decimal begins with a digit
-pub decimal_opens : (n b : ℕ) (x z : List ℕ) → n < 2 ^ 64 → is_digit b ≡ false → b ∷ x ≡ decimal n ++ z → ⊥
+pub decimal_opens : (n b : ℕ) (x z : List ℕ) → n < 2 ^ 64 → is_ascii_digit b ≡ false → b ∷ x ≡ decimal n ++ z → ⊥
 decimal_opens n b x z h k e = no_other b (decimal n) x z (decimal_is_IsNumeral n h).0.0 (decimal_digits n h) k e
 
 -- ---- texts within signs that are doubled
@@ -54,12 +41,9 @@ module _ (sign : ℕ) (small : sign < 128) where
   abbrev Written : ℕ → List ℕ → Type 0
   Written c v = ((c ≡ sign) × (v ≡ c ∷ c ∷ [])) ⊎ ((c ≢ sign) × (v ≡ encode c))
 
-  differs : (c : ℕ) → (c == sign) ≡ false → c ≢ sign
-  differs c f e = absurd (let g : true ≡ false = sym (eq-eqb c sign e) ∙ f in cc)
-
   written_by : (c : ℕ) (b : Bool) → (c == sign) ≡ b → Written c (if b then c ∷ c ∷ [] else encode c)
   written_by c true e = inl (eqb-true c sign e, refl)
-  written_by c false e = inr (differs c e, refl)
+  written_by c false e = inr (eqb-false c sign e, refl)
 
   written : (c : ℕ) → Written c (doubled sign c)
   written c = written_by c (c == sign) refl

@@ -1,5 +1,6 @@
 -- The text of an expression begins with a word, and the word tells its form.
 use Rattle.std.proofs.Common.{◌≡◌, ◌∙◌, ℕ, ◌<◌, ◌^◌, ◌==◌, ◌&&◌, Bool, true, false, if◌then◌else◌, suc, List, [], ◌∷◌, ◌++◌, flat_map, refl, sym, ap, arith, append_assoc, nat_le}
+use Rattle.std.specs.Char.{is_ascii_digit}
 use Rattle.std.specs.Prelude.{IsUtf8, codes, decimal}
 use Rattle.std.specs.List.{list_all, list_any}
 use Rattle.std.specs.Str.{bytes_eq}
@@ -35,7 +36,7 @@ use Rattle.vkg_expr.specs.Typing.{fits}
 use Rattle.vkg_expr.specs.TermExprs.{text_const}
 use Rattle.vkg_sqltext.specs.Laws.{HoldsAnnotation, HoldsCell}
 use Rattle.vkg_sqltext.specs.Text.{commas, compare_text, constant_text, expr_text, expr_texts, kind_text, operator_text, quoted, take_text, test_text}
-use Rattle.vkg_sqltext.proofs.Cutting.{decimal_digits, is_digit, quoted_same, stops_behind}
+use Rattle.vkg_sqltext.proofs.Cutting.{decimal_digits, quoted_same, stops_behind}
 
 -- what stands behind the word: nothing, a quoted text, one without a word, a number, a kind, a term, or arguments
 data Head : Type 0 where
@@ -392,7 +393,7 @@ ends_letters (at_bracket x) = refl
 ends_letters (at_comma x) = refl
 ends_letters (at_space x) = refl
 
-ends_digits : {x : List ℕ} → Ends x → stops is_digit x ≡ true
+ends_digits : {x : List ℕ} → Ends x → stops is_ascii_digit x ≡ true
 ends_digits at_end = refl
 ends_digits (at_bracket x) = refl
 ends_digits (at_comma x) = refl
@@ -404,14 +405,14 @@ ends_quotes (at_bracket x) = refl
 ends_quotes (at_comma x) = refl
 ends_quotes (at_space x) = refl
 
-digit_no_letter : (b : ℕ) → is_digit b ≡ true → is_letter b ≡ false
+digit_no_letter : (b : ℕ) → is_ascii_digit b ≡ true → is_letter b ≡ false
 digit_no_letter b h = grind (arith, nat_tests)
 
 rest_stops : (h : Head) (x : List ℕ) → SoundHead h → Ends x → stops is_letter (rest h ++ x) ≡ true
 rest_stops (Bare w) x s e = ends_letters e
 rest_stops (Spaced w t) x s e = refl
 rest_stops (Quote t) x s e = refl
-rest_stops (Column n) x s e = stops_behind is_letter is_digit (decimal (suc n)) x (decimal_digits (suc n) s) digit_no_letter (ends_letters e)
+rest_stops (Column n) x s e = stops_behind is_letter is_ascii_digit (decimal (suc n)) x (decimal_digits (suc n) s) digit_no_letter (ends_letters e)
 rest_stops (Cast k) x s e = refl
 rest_stops (Whole t) x s e = refl
 rest_stops (Calls w es) x s e = refl
@@ -527,7 +528,7 @@ head_one (Quote p) (Quote q) x y a s t u z e n same =
     let r = quoted_same p q x y s t (ends_quotes u) (ends_quotes z) same in
     (ap Quote r.0, r.1)
 head_one (Column i) (Column j) x y a s t u z e n same =
-    let r = run_same is_digit (decimal (suc i)) (decimal (suc j)) x y (decimal_digits (suc i) s) (decimal_digits (suc j) t) (ends_digits u) (ends_digits z) same in
+    let r = run_same is_ascii_digit (decimal (suc i)) (decimal (suc j)) x y (decimal_digits (suc i) s) (decimal_digits (suc j) t) (ends_digits u) (ends_digits z) same in
     let g : suc i ≡ suc j = decimal_injective (suc i) (suc j) s t r.0 in
     let h : i ≡ j = omega (arith, g) in
     (ap Column h, r.1)
