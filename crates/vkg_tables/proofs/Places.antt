@@ -1,7 +1,7 @@
 -- The least place over things that are looked at one by one is the first place row by row.
 use Rattle.std.proofs.Common.{◌≡◌, ◌∙◌, ◌+◌, ◌<◌, ◌≤◌, ◌++◌, ℕ, Bool, true, false, List, [], ◌∷◌, Option, Some, None, option_map, if◌then◌else◌, refl, ap, subst, arith, length, length-append, nat_lt, le-ltb, lt-ltb, map}
 use Rattle.std.specs.Prelude.{⊤, slice_get}
-use Rattle.std.specs.List.{enumerate_from, flat_map, zip}
+use Rattle.std.specs.List.{enumerate_from, flat_map, position_from, zip}
 use Rattle.std.specs.Option.{option_or}
 use Rattle.vkg_schema.specs.declared.table.Table.{Table}
 use Rattle.vkg_schema.specs.Rows.{Row}
@@ -20,11 +20,6 @@ first_table check place_of n [] dbs = None
 first_table check place_of n (t ∷ ts) [] = None
 first_table check place_of n (t ∷ ts) (rows ∷ dbs) = option_or (option_map (table_fault check n) (place_of t rows)) (first_table check place_of (n + 1) ts dbs)
 
--- the number, from n, of the first that passes
-abbrev number_where : {X : Type 0} → (X → Bool) → ℕ → List X → Option ℕ
-number_where q n [] = None
-number_where q n (x ∷ xs) = if q x then Some n else number_where q (n + 1) xs
-
 abbrev or_later : Option ℕ → ℕ → Option (ℕ × ℕ) → Option (ℕ × ℕ)
 or_later (Some k) m rest = Some (m, k)
 or_later None m rest = rest
@@ -32,7 +27,7 @@ or_later None m rest = rest
 -- the first row at which one of the things fails, and the first such thing
 abbrev row_major : {X A : Type 0} → (X → List A → A → Bool) → List X → List A → List A → Option (ℕ × ℕ)
 row_major p xs before [] = None
-row_major p xs before (r ∷ rs) = or_later (number_where (λ x. p x before r) 1 xs) (length before + 1) (row_major p xs (before ++ r ∷ []) rs)
+row_major p xs before (r ∷ rs) = or_later (position_from (λ x. p x before r) 1 xs) (length before + 1) (row_major p xs (before ++ r ∷ []) rs)
 
 abbrev AtLeast : ℕ → Option ℕ → Type 0
 AtLeast m None = ⊤
@@ -94,7 +89,7 @@ module _ {X : Type 0} where
 
   -- some fail at row m, and the others later
   split-row : (q : X → Bool) (m : ℕ) (g : X → Option ℕ) → ((x : X) → AtLeast (m + 1) (g x)) → (n : ℕ) (xs : List X)
-      → least_place (λ x. if q x then Some m else g x) n xs ≡ or_later (number_where q n xs) m (least_place g n xs)
+      → least_place (λ x. if q x then Some m else g x) n xs ≡ or_later (position_from q n xs) m (least_place g n xs)
   split-row q m g h n [] = refl
   split-row q m g h n (x ∷ xs) = by (q x) (split-row q m g h (n + 1) xs)
     where
@@ -110,11 +105,11 @@ module _ {X : Type 0} where
       later None e = ap (earlier (option_map (λ r. (r, n)) (g x))) e
       later (Some k) e = ap (earlier (option_map (λ r. (r, n)) (g x))) e ∙ earlier-second m k (g x) n (h x)
 
-      by : (b : Bool) → rest ≡ or_later (number_where q (n + 1) xs) m (least_place g (n + 1) xs)
+      by : (b : Bool) → rest ≡ or_later (position_from q (n + 1) xs) m (least_place g (n + 1) xs)
           → earlier (option_map (λ r. (r, n)) (if b then Some m else g x)) rest
-          ≡ or_later (if b then Some n else number_where q (n + 1) xs) m (earlier (option_map (λ r. (r, n)) (g x)) (least_place g (n + 1) xs))
+          ≡ or_later (if b then Some n else position_from q (n + 1) xs) m (earlier (option_map (λ r. (r, n)) (g x)) (least_place g (n + 1) xs))
       by true e = earlier-first m n rest (from-least m (λ y. if q y then Some m else g y) (λ y. here y (q y)) (n + 1) xs)
-      by false e = later (number_where q (n + 1) xs) e
+      by false e = later (position_from q (n + 1) xs) e
 
 module _ {X A : Type 0} (p : X → List A → A → Bool) (xs : List X) where
   least-row_major : (before rows : List A) → least_place (λ x. first_after (p x) before rows) 1 xs ≡ row_major p xs before rows
@@ -122,20 +117,20 @@ module _ {X A : Type 0} (p : X → List A → A → Bool) (xs : List X) where
   least-row_major before (r ∷ rs) =
       split-row (λ x. p x before r) (length before + 1) (λ x. first_after (p x) (before ++ r ∷ []) rs)
       (λ x. subst (λ n. AtLeast (n + 1) (first_after (p x) (before ++ r ∷ []) rs)) (length-append before (r ∷ [])) (after-least (p x) (before ++ r ∷ []) rs)) 1 xs
-      ∙ ap (or_later (number_where (λ x. p x before r) 1 xs) (length before + 1)) (least-row_major (before ++ r ∷ []) rs)
+      ∙ ap (or_later (position_from (λ x. p x before r) 1 xs) (length before + 1)) (least-row_major (before ++ r ∷ []) rs)
 
 -- ---- the first of the places
 module _ {X : Type 0} (q : X → Bool) (m : ℕ) where
   first-number : (n : ℕ) (xs : List X) (rest : List (ℕ × ℕ))
-      → or_later (number_where q n xs) m (slice_get rest 0) ≡ slice_get (flat_map (λ x. if q x.1 then (m, x.0) ∷ [] else []) (enumerate_from n xs) ++ rest) 0
+      → or_later (position_from q n xs) m (slice_get rest 0) ≡ slice_get (flat_map (λ x. if q x.1 then (m, x.0) ∷ [] else []) (enumerate_from n xs) ++ rest) 0
   first-number n [] rest = refl
   first-number n (x ∷ xs) rest = by (q x) (first-number (n + 1) xs rest)
     where
       more : List (ℕ × ℕ)
       more = flat_map (λ x. if q x.1 then (m, x.0) ∷ [] else []) (enumerate_from (n + 1) xs)
 
-      by : (b : Bool) → or_later (number_where q (n + 1) xs) m (slice_get rest 0) ≡ slice_get (more ++ rest) 0
-          → or_later (if b then Some n else number_where q (n + 1) xs) m (slice_get rest 0)
+      by : (b : Bool) → or_later (position_from q (n + 1) xs) m (slice_get rest 0) ≡ slice_get (more ++ rest) 0
+          → or_later (if b then Some n else position_from q (n + 1) xs) m (slice_get rest 0)
           ≡ slice_get (((if b then (m, n) ∷ [] else []) ++ more) ++ rest) 0
       by true e = refl
       by false e = e
@@ -145,7 +140,7 @@ module _ {X A : Type 0} (p : X → List A → A → Bool) (xs : List X) where
       → row_major p xs before rows ≡ slice_get (flat_map (λ r. flat_map (λ x. if p x.1 r.0 r.1 then (length r.0 + 1, x.0) ∷ [] else []) (enumerate_from 1 xs)) (with_before before rows)) 0
   row_major-first before [] = refl
   row_major-first before (r ∷ rs) =
-      ap (or_later (number_where (λ x. p x before r) 1 xs) (length before + 1)) (row_major-first (before ++ r ∷ []) rs)
+      ap (or_later (position_from (λ x. p x before r) 1 xs) (length before + 1)) (row_major-first (before ++ r ∷ []) rs)
       ∙ first-number (λ x. p x before r) (length before + 1) 1 xs _
 
   pub least_place-first : (rows : List A) → least_place (λ x. first_after (p x) [] rows) 1 xs ≡ slice_get (places_where p xs rows) 0

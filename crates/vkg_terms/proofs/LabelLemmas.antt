@@ -2,22 +2,23 @@
 use Rattle.std.proofs.Common.{◌≡◌, ◌<◌, ◌++◌, ◌/◌, ◌%◌, ℕ, List, [], ◌∷◌, true, ap, refl, arith, suc, ◌==◌}
 use Rattle.std.specs.Prelude.{flat_map, slice_index}
 use Rattle.std.proofs.lemmas.Bool.Decides.{nat_tests}
+use Rattle.std.specs.Char.{digit_char}
 use Rattle.vkg_lists.proofs.Heads.{head_same, tail_same}
 use Rattle.hex.specs.Hex.{encode_with, encode_lower, lower_digits, IsBytes}
 use Rattle.vkg_terms.proofs.Octets.{use_below}
-use Rattle.vkg_terms.specs.Label.{blank_label, lower_hex}
+use Rattle.vkg_terms.specs.Label.{blank_label}
 
 -- the digits of an octet
 abbrev digits : ℕ → List ℕ
-digits octet = lower_hex (octet / 16) ∷ lower_hex (octet % 16) ∷ []
+digits octet = digit_char (octet / 16) ∷ digit_char (octet % 16) ∷ []
 
-lower_hex_same : (a b : ℕ) → lower_hex a ≡ lower_hex b → a ≡ b
-lower_hex_same a b e = grind (arith, nat_tests)
+digit_char_same : (a b : ℕ) → digit_char a ≡ digit_char b → a ≡ b
+digit_char_same a b e = grind (arith, nat_tests)
 
-octet_same : (a b : ℕ) → lower_hex (a / 16) ≡ lower_hex (b / 16) → lower_hex (a % 16) ≡ lower_hex (b % 16) → a ≡ b
+octet_same : (a b : ℕ) → digit_char (a / 16) ≡ digit_char (b / 16) → digit_char (a % 16) ≡ digit_char (b % 16) → a ≡ b
 octet_same a b high low =
-    let h = lower_hex_same _ _ high in
-    let l = lower_hex_same _ _ low in
+    let h = digit_char_same _ _ high in
+    let l = digit_char_same _ _ low in
     omega (arith, h, l)
 
 digits_same : (a b : List ℕ) → flat_map digits a ≡ flat_map digits b → a ≡ b
@@ -34,10 +35,10 @@ digits_same (x ∷ xs) (y ∷ ys) e =
 pub label_same : (a b : List ℕ) → blank_label a ≡ blank_label b → a ≡ b
 label_same a b e = digits_same a b (tail_same _ _ _ _ e)
 
-digit_table : (d : ℕ) → d < 16 → (lower_hex d == slice_index lower_digits d) ≡ true
-digit_table = use_below 16 (λ d. lower_hex d == slice_index lower_digits d) refl
+digit_table : (d : ℕ) → d < 16 → (digit_char d == slice_index lower_digits d) ≡ true
+digit_table = use_below 16 (λ d. digit_char d == slice_index lower_digits d) refl
 
-digit_kit : (d : ℕ) → d < 16 → lower_hex d ≡ slice_index lower_digits d
+digit_kit : (d : ℕ) → d < 16 → digit_char d ≡ slice_index lower_digits d
 digit_kit d h = let e = digit_table d h in grind (arith, nat_tests)
 
 digits_kit : (text : List ℕ) → IsBytes text → flat_map digits text ≡ encode_lower text
