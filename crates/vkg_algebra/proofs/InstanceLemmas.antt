@@ -1,13 +1,16 @@
 -- The instances of triple patterns in a graph, by what they bind.
-use Rattle.std.proofs.Common.{◌≡◌, ◌≢◌, ◌∙◌, ℕ, zero, suc, ◌<◌, Bool, true, false, cond, IsSome, List, [], ◌∷◌, ◌++◌, flat_map, length, Option, Some, None, ⊎_elim, refl, sym, ap, subst, nat_eq}
+use Rattle.std.proofs.Common.{◌≡◌, ◌≢◌, ◌∙◌, ℕ, ◌<◌, Bool, true, false, cond, IsSome, List, [], ◌∷◌, ◌++◌, flat_map, length, Option, Some, None, ⊎_elim, refl, sym, ap, subst, nat_eq}
+use Rattle.std.specs.Prelude.{is_some}
 use Rattle.std.specs.List.{AllByRecursion, Contains, IsDistinct}
 use Rattle.std.proofs.Math.ListN.{length-replicate}
 use Rattle.std.proofs.lemmas.Bool.{cases_Bool}
 use Rattle.std.proofs.lemmas.List.{get_or-set_other, get_or-set_same, length-set}
 use Rattle.std.proofs.lemmas.List.Elements.{Contains-append_left, Contains-append_right}
+use Rattle.std.proofs.lemmas.Option.{same_Some}
 use Rattle.vkg_lists.proofs.Counts.{eq_apart}
 use Rattle.vkg_lists.proofs.Distinct.{IsDistinct-filter, IsDistinct-flat_map}
-use Rattle.vkg_lists.proofs.Members.{Contains-none, Contains-here, Contains-cons_cases, Contains-flat_map, Contains-from_filter, Contains-from_flat_map, each_from_recursion, recursion_from_each, Contains-only}
+use Rattle.vkg_lists.proofs.Heads.{replicate_same}
+use Rattle.vkg_lists.proofs.Members.{Contains-none, Contains-here, Contains-cons_cases, Contains-flat_map, Contains-from_filter, Contains-from_flat_map, each_from_recursion, recursion_from_each, Contains-only, Contains-cond}
 use Rattle.vkg_lists.proofs.Tests.{nat_test}
 use Rattle.vkg_maps.specs.Dataset.{graph_eq, quad_eq}
 use Rattle.vkg_maps.proofs.Quads.{quads_apart, graphs_apart}
@@ -23,15 +26,13 @@ use Rattle.vkg_algebra.specs.Evaluation.{Dataset, graph_of}
 use Rattle.vkg_algebra.specs.Laws.{AreBelow, HasInstances, node_numbers, node_term, pattern_numbers}
 use Rattle.vkg_algebra.specs.Patterns.{instances, node_solutions, pattern_solutions, triple_solutions}
 use Rattle.vkg_algebra.specs.Solutions.{Solution, lookup, only, unbound}
-use Rattle.vkg_algebra.proofs.MapLemmas.{in_one, solution_test}
+use Rattle.vkg_algebra.proofs.MapLemmas.{solution_test}
 use Rattle.vkg_algebra.proofs.PatternLemmas.{Describes, IsMapOf, both_join, once_join, one_distinct, same_bound}
 
 -- ---- a place of a pattern
 
 lookup-unbound : (n v : ℕ) → lookup (unbound n) v ≡ None
-lookup-unbound zero v = refl
-lookup-unbound (suc n) zero = refl
-lookup-unbound (suc n) (suc v) = lookup-unbound n v
+lookup-unbound n v = replicate_same n v None
 
 lookup-only : (n v : ℕ) (t : Term) → v < n → lookup (only n v t) v ≡ Some t
 lookup-only n v t l = get_or-set_same (unbound n) v (Some t) None (subst (λ k. v < k) (sym (length-replicate {A = Option Term} n None)) l)
@@ -41,10 +42,6 @@ lookup-only_other n v w t h = get_or-set_other (unbound n) v w (Some t) None h �
 
 length-only : (n v : ℕ) (t : Term) → length (only n v t) ≡ n
 length-only n v t = length-set (unbound n) v (Some t) ∙ length-replicate n None
-
-some_is : (o : Option Term) (t : Term) → o ≡ Some t → IsSome o
-some_is None t h = cc
-some_is (Some u) t h = refl
 
 is_only : (n v : ℕ) (t : Term) → v < n → (s : Solution) → s ≡ only n v t → IsMapOf n (v ∷ []) (λ s. lookup s v ≡ Some t) s
 is_only n v t l s e = record {
@@ -61,7 +58,7 @@ numbered n v t l = record {
   onto = λ s c. ⊎_elim (λ e. is_only n v t l s (sym e)) (λ d. absurd (Contains-none s d)) (Contains-cons_cases (only n v t) [] s c);
   back = λ s m. subst (Contains (only n v t ∷ [])) (same_bound (only n v t) s (is_only n v t l (only n v t) refl) m (λ w c.
       let e = Contains-only v w c in subst (λ k. lookup (only n v t) k ≡ lookup s k) e (lookup-only n v t l ∙ sym m.fact))) (Contains-here (only n v t) []);
-  binds = λ s p w c. subst (λ k. IsSome (lookup s k)) (Contains-only v w c) (some_is (lookup s v) t p);
+  binds = λ s p w c. subst (λ k. IsSome (lookup s k)) (Contains-only v w c) (ap is_some p);
   moves = λ s u p h. h v (Contains-here v []) ∙ p;
 }
 
@@ -74,7 +71,7 @@ is_unbound n s e p = record {
 
 fixed : (n : ℕ) (u t : Term) → Describes n [] (λ s. Some u ≡ Some t) (cond (term_eq u t) (unbound n ∷ []) [])
 fixed n u t = record {
-  onto = λ s c. let one = in_one (term_eq u t) (unbound n) s c in is_unbound n s (sym one.1) (ap Some ((terms_apart.decides u t).0 one.0));
+  onto = λ s c. let one = Contains-cond (term_eq u t) (unbound n) s c in is_unbound n s (sym one.1) (ap Some ((terms_apart.decides u t).0 one.0));
   back = λ s m. back s m (term_eq u t) ((terms_apart.decides u t).1 (let f : Some u ≡ Some t = m.fact in cc));
   binds = λ s p v c. absurd (Contains-none v c);
   moves = λ s v p h. p;
@@ -140,14 +137,11 @@ module _ (n : ℕ) (p : TriplePattern) (below : (v : ℕ) → Contains (pattern_
       (λ q r s c k a b.
       let m = ((triple_described q).onto s a).fact in
       let o = ((triple_described r).onto s b).fact in
-      let subject : q.subject ≡ r.subject = of_one (node_term s p.subject) q.subject r.subject m.0 o.0 in
-      let predicate : q.predicate ≡ r.predicate = of_one (node_term s p.predicate) q.predicate r.predicate m.1.0 o.1.0 in
-      let object : q.object ≡ r.object = of_one (node_term s p.object) q.object r.object m.1.1 o.1.1 in
+      let subject : q.subject ≡ r.subject = same_Some q.subject r.subject (sym m.0 ∙ o.0) in
+      let predicate : q.predicate ≡ r.predicate = same_Some q.predicate r.predicate (sym m.1.0 ∙ o.1.0) in
+      let object : q.object ≡ r.object = same_Some q.object r.object (sym m.1.1 ∙ o.1.1) in
       let graph : q.graph ≡ r.graph = one q c ∙ sym (one r k) in
       λ i. record { subject = subject i; predicate = predicate i; object = object i; graph = graph i })
-    where
-      of_one : (o : Option Term) (t u : Term) → o ≡ Some t → o ≡ Some u → t ≡ u
-      of_one o t u e f = cc
 
 -- ---- several patterns
 

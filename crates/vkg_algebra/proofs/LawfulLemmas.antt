@@ -1,10 +1,11 @@
 -- The algebra of a query names nothing that the query does not name.
-use Rattle.std.proofs.Common.{◌≡◌, ◌∙◌, List, [], ◌∷◌, ◌++◌, Option, Some, None, fold, flat_map, length, inl, inr, ⊎_elim, subst, sym, ap, append_assoc}
+use Rattle.std.proofs.Common.{◌≡◌, ◌∙◌, ℕ, List, [], ◌∷◌, ◌++◌, Option, Some, None, fold, flat_map, length, ⊎_elim, subst, sym, ap, append_assoc}
 use Rattle.std.specs.List.{Contains}
 use Rattle.std.proofs.lemmas.List.Concat.{flat_map-append}
 use Rattle.std.proofs.lemmas.List.Elements.{Contains-append_left, Contains-append_right, Contains-append_cases}
 use Rattle.vkg_lists.proofs.Members.{Contains-none, Contains-here, Contains-there, Contains-cons_cases}
 use Rattle.vkg_sparql.specs.declared.pattern.Node.{Node}
+use Rattle.vkg_sparql.specs.declared.pattern.Node.TheVariants as node
 use Rattle.vkg_sparql.specs.declared.pattern.TriplePattern.{TriplePattern}
 use Rattle.vkg_sparql.specs.Query.{Condition, And, Part, Triples, Graph, Groups, Group, End, Then, Unions, Last, Union, Query}
 use Rattle.vkg_sparql.specs.Query as query
@@ -48,6 +49,10 @@ along {xs} e f = subst (λ l. Within xs l) e f
 
 from : {xs ys zs : List Node} → xs ≡ ys → Within ys zs → Within xs zs
 from {xs} {ys} {zs} e f = subst (λ l. Within l zs) (sym e) f
+
+-- nodes among lawful ones are lawful
+pub lawful_part : (n : ℕ) (xs ys : List Node) → ((x : Node) → Contains xs x → Contains ys x) → IsLawful n ys → IsLawful n xs
+lawful_part n xs ys f h = record { within = λ x c. h.within x (f x c); apart = λ v c e. h.apart v (f (node.Variable v) c) (f (node.Label v) e) }
 
 -- ---- simplification
 
@@ -154,7 +159,4 @@ within_query q = then (within_simplified (group_algebra (elements q.group))) (th
 
 -- the algebra of a lawful query is lawful
 pub lawful_algebra : (q : Query) → IsLawfulQuery q → IsLawfulAlgebra (length q.names) (algebra_of q)
-lawful_algebra q h = record {
-  within = λ x c. h.within x ((within_query q).each x c);
-  apart = λ v c d. h.apart v ((within_query q).each _ c) ((within_query q).each _ d);
-}
+lawful_algebra q h = lawful_part (length q.names) (algebra_nodes (algebra_of q)) (query_nodes q) (within_query q).each h

@@ -2,15 +2,13 @@
 use Rattle.std.proofs.Common.{◌≡◌, ◌∙◌, ℕ, suc, true, List, [], ◌∷◌, ◌++◌, flat_map, map, length, Option, Some, None, ⊎_elim, refl, sym, ap, arith, append-nil}
 use Rattle.std.specs.List.{Contains, list_all}
 use Rattle.std.proofs.lemmas.List.Elements.{Contains-append_cases}
-use Rattle.vkg_lists.proofs.Bools.{and_parts}
 use Rattle.vkg_lists.proofs.Members.{Contains-none, Contains-cons_cases, each_of_all}
 use Rattle.vkg_lists.proofs.Texts.{joined_is}
-use Rattle.vkg_lists.proofs.Heads.{head_same, tail_same}
 use Rattle.vkg_terms.specs.declared.term.Term.{Term}
 use Rattle.vkg_terms.specs.declared.term.Term.TheVariants.{Iri, Blank, Lit}
 use Rattle.vkg_terms.specs.NQuads.{term_text}
 use Rattle.vkg_terms.specs.Writable.{HoldsText, IsWritable, is_inline}
-use Rattle.vkg_terms.proofs.TextLemmas.{term_text_inline, term_text_same}
+use Rattle.vkg_terms.proofs.TextLemmas.{term_text_inline, term_text_same, until}
 use Rattle.vkg_algebra.specs.Answer.{place_text, solution_line}
 use Rattle.vkg_algebra.specs.Laws.{BindsWritable}
 use Rattle.vkg_algebra.specs.Solutions.{Solution}
@@ -46,15 +44,6 @@ place_same (Some t) (Some u) w x e = ap Some (term_text_same t u (holds_text t (
 abbrev behind_tabs : List (List ℕ) → List ℕ
 behind_tabs texts = flat_map (λ u. 9 ∷ u) texts
 
--- texts without a tab are one up to the first tab
-to_tab : (a b x y : List ℕ) → list_all is_inline a ≡ true → list_all is_inline b ≡ true → a ++ 9 ∷ x ≡ b ++ 9 ∷ y → (a ≡ b) × (x ≡ y)
-to_tab [] [] x y h g e = (refl, tail_same _ _ _ _ e)
-to_tab [] (d ∷ b) x y h g e = let s = ap is_inline (head_same _ _ _ _ e) in cc (s, (and_parts (is_inline d) (list_all is_inline b) g).0)
-to_tab (c ∷ a) [] x y h g e = let s = ap is_inline (head_same _ _ _ _ e) in cc (s, (and_parts (is_inline c) (list_all is_inline a) h).0)
-to_tab (c ∷ a) (d ∷ b) x y h g e =
-    let more = to_tab a b x y (and_parts (is_inline c) (list_all is_inline a) h).1 (and_parts (is_inline d) (list_all is_inline b) g).1 (tail_same _ _ _ _ e) in
-    (λ i. head_same _ _ _ _ e i ∷ more.0 i, more.1)
-
 places_same : (o p : Option Term) (s t : Solution) → length s ≡ length t → BindsWritable (o ∷ s) → BindsWritable (p ∷ t)
     → place_text o ++ behind_tabs (map place_text s) ≡ place_text p ++ behind_tabs (map place_text t) → o ∷ s ≡ p ∷ t
 places_same o p [] [] n w x e =
@@ -62,7 +51,7 @@ places_same o p [] [] n w x e =
 places_same o p [] (q ∷ t) n w x e = absurd (omega arith)
 places_same o p (r ∷ s) [] n w x e = absurd (omega arith)
 places_same o p (r ∷ s) (q ∷ t) n w x e =
-    let parts = to_tab (place_text o) (place_text p) _ _ (place_inline o (w 0)) (place_inline p (x 0)) e in
+    let parts = until is_inline 9 (place_text o) (place_text p) _ _ refl (place_inline o (w 0)) (place_inline p (x 0)) e in
     let more = places_same r q s t (omega arith) (λ v. w (suc v)) (λ v. x (suc v)) parts.1 in
     λ i. place_same o p (w 0) (x 0) parts.0 i ∷ more i
 

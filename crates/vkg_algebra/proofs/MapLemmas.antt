@@ -1,11 +1,14 @@
 -- Solutions as maps: when two are one, joins of maps by what they bind, the left join in words.
-use Rattle.std.proofs.Common.{◌≡◌, ◌⊎◌, ℕ, suc, Bool, true, false, not, ◌&&◌, cond, List, [], ◌∷◌, length, inl, inr, ⊎_elim, refl, sym, subst, true≢false, arith}
+use Rattle.std.proofs.Common.{◌≡◌, ℕ, Bool, true, false, not, ◌&&◌, List, length, None, inl, inr, ⊎_elim, refl, sym, subst}
 use Rattle.std.specs.Bool.{Decides}
 use Rattle.std.specs.List.{Contains, filter, flat_map, list_all}
+use Rattle.std.proofs.lemmas.Bool.{both_ways}
+use Rattle.std.proofs.lemmas.List.{ext_get_or}
 use Rattle.std.proofs.lemmas.List.Elements.{Contains-append_left, Contains-append_right, Contains-append_cases}
 use Rattle.vkg_lists.specs.Rows.{merged_if_compatible}
 use Rattle.vkg_lists.specs.Sets.{IsEqualityTest}
-use Rattle.vkg_lists.proofs.Members.{Contains-none, Contains-here, Contains-cons_cases, Contains-filter, Contains-from_filter, Contains-flat_map, Contains-from_flat_map, each_of_all, all_of_each}
+use Rattle.vkg_lists.proofs.Bools.{and_true, not_true}
+use Rattle.vkg_lists.proofs.Members.{Contains-filter, Contains-from_filter, Contains-flat_map, Contains-from_flat_map, each_of_all, all_of_each, Contains-cond, Contains-from_cond}
 use Rattle.vkg_lists.proofs.Rows.{Decides-compatible, value_at-merge}
 use Rattle.vkg_lists.proofs.Tests.{list_test, option_test}
 use Rattle.vkg_terms.proofs.SameLemmas.{terms_apart}
@@ -23,10 +26,7 @@ solution_test = list_test (option_test terms_apart)
 
 -- two maps of one size that bind the same are one
 pub same_map : (s t : Solution) → length s ≡ length t → ((v : ℕ) → lookup s v ≡ lookup t v) → s ≡ t
-same_map [] [] e h = refl
-same_map [] (y ∷ t) e h = absurd (omega arith)
-same_map (x ∷ s) [] e h = absurd (omega arith)
-same_map (x ∷ s) (y ∷ t) e h = λ i. h 0 i ∷ same_map s t (omega arith) (λ v. h (suc v)) i
+same_map s t e h = ext_get_or None s t e (λ v l. h v)
 
 -- compatible in words
 pub says_compatible : (l r : Solution) → Decides (compatible l r) (AreCompatible l r)
@@ -34,14 +34,6 @@ says_compatible l r = Decides-compatible terms_apart l r
 
 pub keeps_maps : (l r : Solution) → KeepsMaps l r
 keeps_maps l r = record { tested = says_compatible l r; merged = value_at-merge l r }
-
-pub in_one : {A : Type 0} (b : Bool) (x z : A) → Contains (cond b (x ∷ []) []) z → (b ≡ true) × (x ≡ z)
-in_one true x z c = ⊎_elim (λ e. (refl, e)) (λ d. absurd (Contains-none z d)) (Contains-cons_cases x [] z c)
-in_one false x z c = absurd (Contains-none z c)
-
-one_in : {A : Type 0} (b : Bool) (x : A) → b ≡ true → Contains (cond b (x ∷ []) []) x
-one_in true x h = Contains-here x []
-one_in false x h = absurd (true≢false (sym h))
 
 -- a map of a join is merged from two
 pub record IsPair (ls rs : List Solution) (m : Solution) : Type 0 where
@@ -56,20 +48,15 @@ pub Contains-from_join : (ls rs : List Solution) (m : Solution) → Contains (jo
 Contains-from_join ls rs m c =
     let outer = Contains-from_flat_map (λ l. flat_map (λ r. merged_if_compatible term_eq l r) rs) ls m c in
     let inner = Contains-from_flat_map (λ r. merged_if_compatible term_eq outer.0 r) rs m outer.2 in
-    let one = in_one (compatible outer.0 inner.0) (merge outer.0 inner.0) m inner.2 in
+    let one = Contains-cond (compatible outer.0 inner.0) (merge outer.0 inner.0) m inner.2 in
     record { first = outer.0; second = inner.0; of_first = outer.1; of_second = inner.1; agree = one.0; is = one.1 }
 
 pub Contains-join : (ls rs : List Solution) (l r : Solution) → Contains ls l → Contains rs r → compatible l r ≡ true → Contains (join ls rs) (merge l r)
 Contains-join ls rs l r c d h =
     Contains-flat_map (λ l. flat_map (λ r. merged_if_compatible term_eq l r) rs) ls l (merge l r) c
-    (Contains-flat_map (λ r. merged_if_compatible term_eq l r) rs r (merge l r) d (one_in (compatible l r) (merge l r) h))
+    (Contains-flat_map (λ r. merged_if_compatible term_eq l r) rs r (merge l r) d (Contains-from_cond (compatible l r) (merge l r) h))
 
 -- ---- the left join
-
-not_both : (b c : Bool) → not (b && c) ≡ true → b ≡ true → c ≡ true → ⊥
-not_both true true h e f = true≢false (sym h)
-not_both true false h e f = true≢false (sym f)
-not_both false c h e f = true≢false (sym e)
 
 both_not : (b c : Bool) → (b ≡ true → c ≡ true → ⊥) → not (b && c) ≡ true
 both_not true true h = absurd (h refl refl)
@@ -104,7 +91,9 @@ module _ (holds : Solution → Bool) (ls rs : List Solution) where
       let kept = Contains-from_filter (λ l. list_all (λ r. not (compatible l r && holds (merge l r))) rs) ls m c in
       record {
         of_first = kept.0;
-        fails = λ r d a h. not_both (compatible m r) (holds (merge m r)) (each_of_all (λ r. not (compatible m r && holds (merge m r))) rs kept.1 r d) ((says_compatible m r).1 a) h;
+        fails = λ r d a h. both_ways (compatible m r && holds (merge m r))
+            (not_true (compatible m r && holds (merge m r)) (each_of_all (λ r. not (compatible m r && holds (merge m r))) rs kept.1 r d))
+            (and_true (compatible m r) (holds (merge m r)) ((says_compatible m r).1 a) h);
       }
 
   pub of_alone : (m : Solution) → IsAlone holds ls rs m → Contains (difference holds ls rs) m

@@ -1,12 +1,13 @@
 -- The instances of a basic graph pattern are the maps under which each pattern is a triple of the graph.
-use Rattle.std.proofs.Common.{◌≡◌, ◌∙◌, ◌⊎◌, ℕ, zero, suc, ◌≢◌, Bool, true, false, cond, IsSome, List, [], ◌∷◌, ◌++◌, flat_map, length, Option, Some, None, inl, inr, ⊎_elim, refl, sym, ap, subst, true≢false, arith}
+use Rattle.std.proofs.Common.{◌≡◌, ◌∙◌, ◌⊎◌, ℕ, zero, suc, Bool, true, false, cond, IsSome, List, [], ◌∷◌, ◌++◌, flat_map, length, Option, Some, None, inl, inr, ⊎_elim, refl, sym, ap, subst, true≢false, arith}
 use Rattle.std.specs.List.{Contains, IsDistinct}
 use Rattle.std.specs.Option.{option_or}
 use Rattle.std.proofs.lemmas.Bool.{cases_Bool}
 use Rattle.std.proofs.lemmas.List.Elements.{Contains-append_left, Contains-append_right, Contains-append_cases}
 use Rattle.vkg_lists.proofs.Counts.{Decides-list_any}
 use Rattle.vkg_lists.proofs.Distinct.{IsDistinct-cons, IsDistinct-flat_map, IsDistinct-nil}
-use Rattle.vkg_lists.proofs.Members.{Contains-none, Contains-from_flat_map}
+use Rattle.vkg_lists.proofs.Members.{Contains-none, Contains-from_flat_map, Contains-cond}
+use Rattle.vkg_lists.proofs.Results.{some_if}
 use Rattle.vkg_lists.proofs.Rows.{length-merge, value_at-merge}
 use Rattle.vkg_lists.proofs.Tests.{nat_test}
 use Rattle.vkg_lists.specs.Rows.{merged_if_compatible}
@@ -16,7 +17,7 @@ use Rattle.vkg_algebra.specs.Answer.{solution_eq}
 use Rattle.vkg_algebra.specs.Laws.{AreCompatible}
 use Rattle.vkg_algebra.specs.Solutions.{Solution, compatible, join, lookup, merge}
 use Rattle.vkg_algebra.specs.Visible.{has}
-use Rattle.vkg_algebra.proofs.MapLemmas.{Contains-from_join, Contains-join, in_one, same_map, says_compatible, solution_test}
+use Rattle.vkg_algebra.proofs.MapLemmas.{Contains-from_join, Contains-join, same_map, says_compatible, solution_test}
 
 -- ---- what a merged map binds
 
@@ -42,10 +43,6 @@ lookup-restricted : (keep : ℕ → Bool) (s : Solution) (v : ℕ) → lookup (r
 lookup-restricted keep [] v = sym (cond_same (keep v) None)
 lookup-restricted keep (x ∷ s) zero = refl
 lookup-restricted keep (x ∷ s) (suc v) = lookup-restricted (λ w. keep (suc w)) s v
-
-some_kept : (b : Bool) (o : Option Term) → IsSome (cond b o None) → b ≡ true
-some_kept true o h = refl
-some_kept false o h = cc
 
 same_kept : (b : Bool) (o : Option Term) (t : Term) → cond b o None ≡ Some t → o ≡ Some t
 same_kept true o t h = h
@@ -129,12 +126,12 @@ module _ {n : ℕ} {vs ws : List ℕ} {P Q : Solution → Type 0} {ls rs : List 
       let r = restricted (has ws) s in
       let in_first : Contains ls l = d.back l (record {
         size = length-restricted (has vs) s ∙ m.size;
-        bound = λ v h. from_among vs v (some_kept (has vs v) (lookup s v) (subst IsSome (lookup-restricted (has vs) s v) h));
+        bound = λ v h. from_among vs v (some_if (has vs v) (lookup s v) (subst IsSome (lookup-restricted (has vs) s v) h)).0;
         fact = d.moves s l m.fact.0 (kept_at vs s);
       }) in
       let in_second : Contains rs r = e.back r (record {
         size = length-restricted (has ws) s ∙ m.size;
-        bound = λ v h. from_among ws v (some_kept (has ws v) (lookup s v) (subst IsSome (lookup-restricted (has ws) s v) h));
+        bound = λ v h. from_among ws v (some_if (has ws v) (lookup s v) (subst IsSome (lookup-restricted (has ws) s v) h)).0;
         fact = e.moves s r m.fact.1 (kept_at ws s);
       }) in
       let agree : AreCompatible l r = λ v t u f g.
@@ -160,12 +157,12 @@ module _ {n : ℕ} {vs ws : List ℕ} {P Q : Solution → Type 0} {ls rs : List 
   once_join f g = IsDistinct-flat_map solution_test solution_test (λ l. flat_map (λ r. merged_if_compatible term_eq l r) rs) ls f
       (λ l c. IsDistinct-flat_map solution_test solution_test (λ r. merged_if_compatible term_eq l r) rs g
       (λ r k. one_distinct (compatible l r) (merge l r))
-      (λ r t z k h a b. second_same l r t z (in_one (compatible l r) (merge l r) z a) (in_one (compatible l t) (merge l t) z b) k h))
+      (λ r t z k h a b. second_same l r t z (Contains-cond (compatible l r) (merge l r) z a) (Contains-cond (compatible l t) (merge l t) z b) k h))
       (λ l t z c k a b.
       let r = Contains-from_flat_map (λ r. merged_if_compatible term_eq l r) rs z a in
       let u = Contains-from_flat_map (λ r. merged_if_compatible term_eq t r) rs z b in
-      let x = in_one (compatible l r.0) (merge l r.0) z r.2 in
-      let y = in_one (compatible t u.0) (merge t u.0) z u.2 in
+      let x = Contains-cond (compatible l r.0) (merge l r.0) z r.2 in
+      let y = Contains-cond (compatible t u.0) (merge t u.0) z u.2 in
       let m = d.onto l c in
       let o = d.onto t k in
       same_bound l t m o (λ v h. sym (at_first l r.0 m.fact v h) ∙ ap (λ s. lookup s v) (x.1 ∙ sym y.1) ∙ at_first t u.0 o.fact v h))

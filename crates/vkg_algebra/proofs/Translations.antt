@@ -3,12 +3,12 @@ use Rattle.std.proofs.Common.{◌≡◌, ◌∙◌, ℕ, ◌+◌, ◌<◌, List,
 use Rattle.vkg_sparql.specs.declared.query.Part.{Part as PartValue}
 use Rattle.vkg_sparql.specs.declared.query.Part.TheVariants as value
 use Rattle.vkg_sparql.specs.Seen.{group_seen, part_seen, unions_seen}
-use Rattle.std.proofs.lemmas.List.{drop_more}
+use Rattle.vkg_lists.proofs.Firsts.{opened}
 use Rattle.vkg_sparql.specs.declared.pattern.TriplePattern.{TriplePattern}
 use Rattle.vkg_sparql.specs.Query.{Condition, Groups, Unions, Last, Union}
 use Rattle.vkg_algebra.specs.Algebra.{Algebra, Bgp, Join, LeftJoin}
 use Rattle.vkg_algebra.specs.Algebra as algebra
-use Rattle.vkg_algebra.specs.Translation.{Element, Block, Test, Optionally, Inner, before, condition_of, element, elements, filtered, group_algebra, grown, joined, optional, pattern_of, patterns_of, simplified, tests_of, united}
+use Rattle.vkg_algebra.specs.Translation.{Element, Block, Test, Optionally, Inner, before, condition_of, element, elements, filtered, group_algebra, grown, joined, pattern_of, patterns_of, simplified, tests_of, united}
 use Rattle.vkg_algebra.specs.Simplified.{condition_in, filtered_in, grown_by, grown_simply, inner_of, united_simply}
 use Rattle.vkg_sparql.proofs.SeenForms.{seen-Groups}
 
@@ -76,7 +76,7 @@ module _ (items : List (List PartValue)) (i : ℕ) {item parts : List PartValue}
   -- one more group
   pub united_more : i < length items → item ≡ get_or items i item → parts ≡ item → b ≡ simplified (group_algebra (elements (group_seen parts))) → c ≡ algebra.Union a b → united_simply c (unions_seen (drop (i + 1) items)) ≡ united_simply a (unions_seen (drop i items))
   united_more below is same next whole =
-      let left : drop i items ≡ item ∷ drop (i + 1) items = drop_more items i item below ∙ ap (λ x. x ∷ drop (i + 1) items) (sym is) in
+      let left : drop i items ≡ item ∷ drop (i + 1) items = opened items i item below is in
       whole_with (drop (i + 1) items)
       ∙ ap (λ ps. united_simply (algebra.Union a (simplified (group_algebra (elements (group_seen ps))))) (unions_seen (drop (i + 1) items))) same
       ∙ ap (λ pss. united_simply a (unions_seen pss)) (sym left)

@@ -1,27 +1,17 @@
 -- Variables by first appearance.
-use Rattle.std.proofs.Common.{◌≡◌, ◌∙◌, ℕ, Bool, true, false, not, List, [], ◌∷◌, ◌++◌, nat_eq, refl, sym, ap, subst, true≢false, append_assoc, append-nil}
-use Rattle.std.specs.Bool.{Decides}
+use Rattle.std.proofs.Common.{◌≡◌, ◌∙◌, ℕ, true, false, not, List, [], ◌∷◌, ◌++◌, nat_eq, refl, sym, ap, subst, true≢false, append_assoc, append-nil}
 use Rattle.std.specs.List.{filter, list_any, Contains}
-use Rattle.vkg_lists.specs.Sets.{distinct}
 use Rattle.vkg_lists.proofs.Counts.{Decides-contains_test}
-use Rattle.vkg_lists.proofs.Distinct.{Contains-distinct, Contains-from_distinct, distinct-append, distinct-distinct, distinct_push_new, distinct_push_old}
+use Rattle.vkg_lists.proofs.Distinct.{Contains-distinct, Contains-from_distinct, distinct-append, distinct-distinct, distinct_push_new, distinct_push_old, list_any-distinct}
 use Rattle.vkg_lists.proofs.Tests.{nat_test}
 use Rattle.vkg_algebra.specs.Algebra.{Algebra, Bgp, Join, LeftJoin, Union, Filter, Graph}
 use Rattle.vkg_algebra.specs.Visible.{AddsEach, appearing, each_once, name_variables, visible}
-
-same_answer : {P Q : Type 0} (b c : Bool) → Decides b P → Decides c Q → (P → Q) → (Q → P) → b ≡ c
-same_answer true c (p, q) (r, s) f g = sym (s (f (p refl)))
-same_answer false true (p, q) (r, s) f g = q (g (r refl))
-same_answer false false d e f g = refl
-
-any-distinct : (xs : List ℕ) (y : ℕ) → list_any (λ x. nat_eq x y) (distinct nat_eq xs) ≡ list_any (λ x. nat_eq x y) xs
-any-distinct xs y = same_answer _ _ (Decides-contains_test nat_test (distinct nat_eq xs) y) (Decides-contains_test nat_test xs y) (Contains-from_distinct nat_eq xs y) (Contains-distinct nat_test xs y)
 
 -- each of two lists may be taken with each number once
 pub each_once-append : (xs ys : List ℕ) → each_once (each_once xs ++ each_once ys) ≡ each_once (xs ++ ys)
 each_once-append xs ys =
     distinct-append nat_test (each_once xs) (each_once ys)
-    ∙ (λ i. distinct-distinct nat_eq xs i ++ filter (λ y. not (any-distinct xs y i)) (distinct-distinct nat_eq ys i))
+    ∙ (λ i. distinct-distinct nat_eq xs i ++ filter (λ y. not (list_any-distinct nat_test xs y i)) (distinct-distinct nat_eq ys i))
     ∙ sym (distinct-append nat_test xs ys)
 
 each_once-append_right : (xs ys : List ℕ) → each_once (xs ++ each_once ys) ≡ each_once (xs ++ ys)

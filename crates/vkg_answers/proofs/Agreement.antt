@@ -1,14 +1,16 @@
 -- The condition of a Join over shared variables is that the solutions are compatible.
-use Rattle.std.proofs.Common.{◌≡◌, ℕ, zero, suc, ◌+◌, ◌<◌, ◌≤◌, Bool, true, false, List, [], ◌∷◌, ◌++◌, map, length, refl, sym, ap, ◌∙◌, arith, true≢false}
+use Rattle.std.proofs.Common.{◌≡◌, ℕ, zero, suc, ◌+◌, ◌<◌, ◌≤◌, Bool, true, false, List, [], ◌∷◌, ◌++◌, map, length, refl, sym, ap, ◌∙◌, arith}
 use Rattle.std.specs.Prelude.{Option, Some, None, ◌&&◌, ◌||◌, nat_eq, filter, fold, unwrap_or}
 use Rattle.std.specs.List.{list_all}
-use Rattle.std.proofs.lemmas.Bool.{eqb-true}
 use Rattle.std.proofs.lemmas.List.Folds.{list_all-map}
 use Rattle.std.proofs.Math.Bool.{or-true}
+use Rattle.vkg_lists.proofs.Members.{each_of_all, all_of_each}
 use Rattle.vkg_lists.proofs.Tests.{nat_test}
-use Rattle.vkg_lists.proofs.Counts.{eq_itself}
+use Rattle.vkg_lists.proofs.Counts.{eq_itself, Decides-list_any}
 use Rattle.vkg_lists.proofs.Bools.{and_parts, same_truth}
+use Rattle.vkg_lists.proofs.Rows.{agree_none}
 use Rattle.vkg_terms.specs.declared.term.Term.{Term}
+use Rattle.vkg_terms.specs.Same.{term_eq}
 use Rattle.vkg_cells.specs.declared.cell.Cell.{Cell}
 use Rattle.vkg_cells.specs.Order.{same}
 use Rattle.vkg_cells.specs.declared.cell.Cell.TheVariants as cell
@@ -43,25 +45,15 @@ compatible-map f g [] = refl
 compatible-map f g (u ∷ us) = ap (λ b. agree (f u) (g u) && b) (compatible-map f g us)
 
 pub all_elim : (p : ℕ → Bool) (vs : List ℕ) → list_all p vs ≡ true → (v : ℕ) → has vs v ≡ true → p v ≡ true
-all_elim p [] h v k = absurd (true≢false (sym k))
-all_elim p (w ∷ vs) h v k = of (all_elim p vs (and_parts (p w) (list_all p vs) h).1 v) (nat_eq v w) refl k
-  where
-    of : (has vs v ≡ true → p v ≡ true) → (b : Bool) → nat_eq v w ≡ b → (b || has vs v) ≡ true → p v ≡ true
-    of rest true e k = ap p (eqb-true v w e) ∙ (and_parts (p w) (list_all p vs) h).0
-    of rest false e k = rest k
+all_elim p vs h v k = each_of_all p vs h v ((Decides-list_any nat_test vs v).0 k)
 
 pub all_intro : (p : ℕ → Bool) (vs : List ℕ) → ((v : ℕ) → has vs v ≡ true → p v ≡ true) → list_all p vs ≡ true
-all_intro p [] h = refl
-all_intro p (w ∷ vs) h = (λ i. h w (ap (λ b. b || has vs w) (eq_itself nat_test w)) i && all_intro p vs (λ v k. h v (ap (λ b. nat_eq v w || b) k ∙ or-true (nat_eq v w))) i)
+all_intro p vs h = all_of_each p vs (λ v c. h v ((Decides-list_any nat_test vs v).1 c))
 
 pub has-upto : (n k v w : ℕ) → v < n → w ≡ k + v → has (upto_from k n) w ≡ true
 has-upto zero k v w h e = absurd (omega arith)
 has-upto (suc n) k zero w h e = let f : w ≡ k = omega arith in ap (λ b. b || has (upto_from (suc k) n) w) (ap (nat_eq w) (sym f) ∙ eq_itself nat_test w)
 has-upto (suc n) k (suc v) w h e = ap (λ b. nat_eq w k || b) (has-upto n (suc k) v w (omega arith) (omega arith)) ∙ or-true (nat_eq w k)
-
-pub agree_none : (o : Option Term) → agree o None ≡ true
-agree_none None = refl
-agree_none (Some t) = refl
 
 abbrev pub agreements : Mode → List ℕ → List ℕ → List Expr
 agreements mode vs ws = map (λ v. or_null (left_column vs v) (right_column mode vs ws v)) (filter (has ws) vs)
@@ -91,7 +83,7 @@ agreements-compatible n mode vs ws l r below m k p q =
       where
         of : (v : ℕ) (a : Bool) → has vs v ≡ a → (b : Bool) → has ws v ≡ b → agreed v ≡ true
         of v true e true f = sym (one v e f) ∙ all_elim test (filter (has ws) vs) h v (shared v e f)
-        of v true e false f = ap (λ c. agree (term_in (visible_column vs) l v) (term_of c)) (read_none ws r v f) ∙ agree_none (term_in (visible_column vs) l v)
+        of v true e false f = ap (λ c. agree (term_in (visible_column vs) l v) (term_of c)) (read_none ws r v f) ∙ agree_none term_eq (term_in (visible_column vs) l v)
         of v false e b f = ap (λ c. agree (term_of c) (term_in (visible_column ws) r v)) (read_none vs l v e)
 
     back : list_all agreed (upto_from 0 n) ≡ true → list_all test (filter (has ws) vs) ≡ true

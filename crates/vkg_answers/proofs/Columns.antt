@@ -1,14 +1,16 @@
 -- Rows with a name for each column.
-use Rattle.std.proofs.Common.{◌≡◌, ℕ, zero, suc, ◌+◌, Bool, true, false, ⊎_elim, List, [], ◌∷◌, ◌++◌, map, length, refl, sym, ap, subst, ◌∙◌, arith, true≢false, length-append}
+use Rattle.std.proofs.Common.{◌≡◌, ℕ, zero, suc, ◌+◌, Bool, true, false, ⊎_elim, List, [], ◌∷◌, ◌++◌, map, length, refl, sym, ap, subst, ◌∙◌, arith, true≢false, length-append, drop, append-nil}
 use Rattle.std.specs.Prelude.{Option, Some, None, ◌&&◌, Contains, filter, flat_map, if◌then◌else◌}
 use Rattle.std.specs.Option.{option_map_or}
 use Rattle.std.specs.List.{list_all, AllByRecursion as Every, zip}
 use Rattle.std.specs.List.Sorted.{IsPermutation}
 use Rattle.std.proofs.lemmas.List.Elements.{Contains-append_cases}
 use Rattle.std.proofs.lemmas.List.Folds.{list_all-append}
+use Rattle.std.proofs.Math.Seq.{drop-append_seam}
 use Rattle.vkg_lists.proofs.Bags.{bag_same, bag_trans}
 use Rattle.vkg_lists.proofs.Counts.{eq_itself, eq_same}
-use Rattle.vkg_lists.proofs.Members.{Contains-none, Contains-here, Contains-there, Contains-cons_cases, Contains-from_map, Contains-from_filter, Contains-from_flat_map, each_of_all}
+use Rattle.vkg_lists.proofs.Members.{Contains-none, Contains-here, Contains-there, Contains-cons_cases, Contains-from_map, Contains-from_filter, Contains-from_flat_map, each_of_all, recursion_from_each}
+use Rattle.vkg_lists.proofs.Rows.{agree_none}
 use Rattle.vkg_terms.specs.declared.term.Term.{Term}
 use Rattle.vkg_terms.specs.Same.{term_eq}
 use Rattle.vkg_terms.proofs.SameLemmas.{terms_apart}
@@ -26,34 +28,25 @@ use Rattle.vkg_unfold.specs.declared.mode.Mode.TheVariants.{Each}
 use Rattle.vkg_unfold.specs.StandsFor.{upto_from, IsIn}
 use Rattle.vkg_unfold.specs.FineRows.{IsNarrow}
 use Rattle.vkg_answers.proofs.Joins.{agree, join_rows, bag_join}
-use Rattle.vkg_answers.proofs.Agreement.{agree_none}
 use Rattle.vkg_answers.proofs.Splits.{pairs_split}
-use Rattle.vkg_answers.proofs.Steps.{every_from}
 use Rattle.vkg_answers.proofs.Entries.{Entry, entry, first, alike, named_solution, AreTerms}
 use Rattle.vkg_answers.proofs.Links.{first_cases, solution-append, names_agree, links, NamesBelow, alike-append, terms-append}
 
 -- the row after these columns
 abbrev pub rest_of : List Name → Row → Row
-rest_of [] row = row
-rest_of (x ∷ xs) [] = []
-rest_of (x ∷ xs) (c ∷ row) = rest_of xs row
+rest_of ns row = drop (length ns) row
 
 pub rest_is : (ns : List Name) (l r : Row) → length l ≡ length ns → rest_of ns (l ++ r) ≡ r
-rest_is [] [] r e = refl
-rest_is [] (c ∷ l) r e = absurd (omega arith)
-rest_is (x ∷ ns) [] r e = absurd (omega arith)
-rest_is (x ∷ ns) (c ∷ l) r e = rest_is ns l r (omega arith)
-
-pub front_is : (ns : List Name) (l r : Row) → length l ≡ length ns → zip ns (l ++ r) ≡ zip ns l
-front_is [] l r e = refl
-front_is (x ∷ ns) [] r e = absurd (omega arith)
-front_is (x ∷ ns) (c ∷ l) r e = ap (λ zs. (x, c) ∷ zs) (front_is ns l r (omega arith))
+rest_is ns l r e = ap (λ n. drop n (l ++ r)) (sym e) ∙ drop-append_seam l r
 
 pub cells-append : (ns ms : List Name) (l r : Row) → length l ≡ length ns → zip (ns ++ ms) (l ++ r) ≡ zip ns l ++ zip ms r
 cells-append [] ms [] r e = refl
 cells-append [] ms (c ∷ l) r e = absurd (omega arith)
 cells-append (x ∷ ns) ms [] r e = absurd (omega arith)
 cells-append (x ∷ ns) ms (c ∷ l) r e = ap (λ zs. (x, c) ∷ zs) (cells-append ns ms l r (omega arith))
+
+pub front_is : (ns : List Name) (l r : Row) → length l ≡ length ns → zip ns (l ++ r) ≡ zip ns l
+front_is ns l r e = ap (λ ms. zip ms (l ++ r)) (sym (append-nil ns)) ∙ cells-append ns [] l r e ∙ append-nil (zip ns l)
 
 -- the column of a name's first place
 pub place_first : (x : Name) (ns : List Name) (row : Row) → length row ≡ length ns → cell_at row (place_of (name_eq x) ns) ≡ first x (zip ns row)
@@ -100,7 +93,7 @@ graphs_agree : (o : Option Term) (zs ws : List Entry) → graphs_fit o zs ≡ tr
 graphs_agree o zs ws h k = ⊎_elim
     (λ e. ap (λ c. agree (term_of c) (term_of (first None ws))) e)
     (λ r. ⊎_elim
-    (λ e. ap (λ c. agree (term_of (first None zs)) (term_of c)) e ∙ agree_none (term_of (first None zs)))
+    (λ e. ap (λ c. agree (term_of (first None zs)) (term_of c)) e ∙ agree_none term_eq (term_of (first None zs)))
     (λ s.
     let t = fits_term o r.0 (sym r.2) (each_of_all (graph_fits o) zs h r.0 r.1) in
     let u = fits_term o s.0 (sym s.2) (each_of_all (graph_fits o) ws k s.0 s.1) in
@@ -151,20 +144,21 @@ pub unbound_is : (n k : ℕ) → unbound n ≡ map (λ v. None) (upto_from k n)
 unbound_is zero k = refl
 unbound_is (suc n) k = ap (λ s. None ∷ s) (unbound_is n (suc k))
 
+-- the names of several patterns
+abbrev pub names : Mode → List TriplePattern → List Name
+names mode ps = flat_map (pattern_names mode) ps
+
 module _ (n : ℕ) (d : Dataset) (mode : Mode) (R : TriplePattern → List Row) where
-  abbrev pub all_names : List TriplePattern → List Name
-  all_names ps = flat_map (pattern_names mode) ps
-
   abbrev pub fits : Option Term → List TriplePattern → Row → Bool
-  fits g ps row = alike [] (zip (all_names ps) row) && graphs_fit (hidden_in mode g) (zip (all_names ps) row)
+  fits g ps row = alike [] (zip (names mode ps) row) && graphs_fit (hidden_in mode g) (zip (names mode ps) row)
 
-  pub product_row : (ps : List TriplePattern) → ((p : TriplePattern) → Contains ps p → PatternStands n d mode p (R p)) → (row : Row) → Contains (product (map R ps)) row → IsNamedRow n (all_names ps) row
+  pub product_row : (ps : List TriplePattern) → ((p : TriplePattern) → Contains ps p → PatternStands n d mode p (R p)) → (row : Row) → Contains (product (map R ps)) row → IsNamedRow n (names mode ps) row
   product_row [] h row c = ⊎_elim (λ e. subst (IsNamedRow n []) e (nothing_named n)) (λ k. absurd (Contains-none row k)) (Contains-cons_cases [] [] row c)
   product_row (p ∷ ps) h row c =
       let y = Contains-from_flat_map (λ l. map (λ r. l ++ r) (product (map R ps))) (R p) row c in
       let z = Contains-from_map (λ r. y.0 ++ r) (product (map R ps)) row y.2 in
-      subst (IsNamedRow n (all_names (p ∷ ps))) z.2
-      (named_row-append n (pattern_names mode p) (all_names ps) y.0 z.0 ((h p (Contains-here p ps)).are_rows y.0 y.1).named (product_row ps (λ q k. h q (Contains-there p ps q k)) z.0 z.1))
+      subst (IsNamedRow n (names mode (p ∷ ps))) z.2
+      (named_row-append n (pattern_names mode p) (names mode ps) y.0 z.0 ((h p (Contains-here p ps)).are_rows y.0 y.1).named (product_row ps (λ q k. h q (Contains-there p ps q k)) z.0 z.1))
 
   truths : (a c m hz hw : Bool) → (hz ≡ true → hw ≡ true → m ≡ true) → (((true && a) && (c && m)) && (hz && hw)) ≡ ((hz && (a && hw)) && c)
   truths true true m true true h = Prim.rw (h refl refl) refl
@@ -179,14 +173,14 @@ module _ (n : ℕ) (d : Dataset) (mode : Mode) (R : TriplePattern → List Row) 
   truths false c m false hw h = refl
 
   pub product_bag : (ps : List TriplePattern) → ((p : TriplePattern) → Contains ps p → PatternStands n d mode p (R p)) → (g : Option Term) → IsIn d mode g →
-      IsPermutation (map (λ row. named_solution n (zip (all_names ps) row)) (filter (fits g ps) (product (map R ps)))) (join_all n (map (λ p. pattern_solutions n p (graph_of d g)) ps))
+      IsPermutation (map (λ row. named_solution n (zip (names mode ps) row)) (filter (fits g ps) (product (map R ps)))) (join_all n (map (λ p. pattern_solutions n p (graph_of d g)) ps))
   product_bag [] h g k = bag_same (ap (λ s. s ∷ []) (sym (unbound_is n 0)))
   product_bag (p ∷ ps) h g k =
       bag_trans (bag_same
       (ap (map solution) (pairs_split P Q kl (fits g ps) pass (λ row. alike [] (cells row)) (λ row. graphs_fit (hidden_in mode g) (cells row)) split (R p) (product (map R ps)) every_left every_right)
-      ∙ join_rows P Q (λ l. named_solution n (zip ns l)) (λ r. named_solution n (zip (all_names ps) r)) solution pass agrees merged
-      (filter kl (R p)) (filter (fits g ps) (product (map R ps))) (every_from (filter kl (R p)) (λ row c. here.are_rows row (Contains-from_filter kl (R p) row c).0))
-      (every_from (filter (fits g ps) (product (map R ps))) (λ row c. product_row ps more row (Contains-from_filter (fits g ps) (product (map R ps)) row c).0))))
+      ∙ join_rows P Q (λ l. named_solution n (zip ns l)) (λ r. named_solution n (zip (names mode ps) r)) solution pass agrees merged
+      (filter kl (R p)) (filter (fits g ps) (product (map R ps))) (recursion_from_each _ (filter kl (R p)) (λ row c. here.are_rows row (Contains-from_filter kl (R p) row c).0))
+      (recursion_from_each _ (filter (fits g ps) (product (map R ps))) (λ row c. product_row ps more row (Contains-from_filter (fits g ps) (product (map R ps)) row c).0))))
       (bag_join (here.bag g k) (product_bag ps more g k))
     where
       ns : List Name
@@ -202,10 +196,10 @@ module _ (n : ℕ) (d : Dataset) (mode : Mode) (R : TriplePattern → List Row) 
       P l = IsPatternRow n d mode ns l
 
       Q : Row → Type 0
-      Q r = IsNamedRow n (all_names ps) r
+      Q r = IsNamedRow n (names mode ps) r
 
       cells : Row → List Entry
-      cells row = zip (all_names (p ∷ ps)) row
+      cells row = zip (names mode (p ∷ ps)) row
 
       solution : Row → Solution
       solution row = named_solution n (cells row)
@@ -214,26 +208,26 @@ module _ (n : ℕ) (d : Dataset) (mode : Mode) (R : TriplePattern → List Row) 
       kl l = graphs_fit (hidden_in mode g) (zip ns l)
 
       pass : Row → Bool
-      pass row = compatible (named_solution n (zip ns row)) (named_solution n (zip (all_names ps) (rest_of ns row)))
+      pass row = compatible (named_solution n (zip ns row)) (named_solution n (zip (names mode ps) (rest_of ns row)))
 
-      agrees : (l r : Row) → P l → Q r → pass (l ++ r) ≡ compatible (named_solution n (zip ns l)) (named_solution n (zip (all_names ps) r))
-      agrees l r a b = λ i. compatible (named_solution n (front_is ns l r a.named.size i)) (named_solution n (zip (all_names ps) (rest_is ns l r a.named.size i)))
+      agrees : (l r : Row) → P l → Q r → pass (l ++ r) ≡ compatible (named_solution n (zip ns l)) (named_solution n (zip (names mode ps) r))
+      agrees l r a b = λ i. compatible (named_solution n (front_is ns l r a.named.size i)) (named_solution n (zip (names mode ps) (rest_is ns l r a.named.size i)))
 
-      merged : (l r : Row) → P l → Q r → solution (l ++ r) ≡ merge (named_solution n (zip ns l)) (named_solution n (zip (all_names ps) r))
-      merged l r a b = ap (named_solution n) (cells-append ns (all_names ps) l r a.named.size) ∙ solution-append n (zip ns l) (zip (all_names ps) r) a.named.terms
+      merged : (l r : Row) → P l → Q r → solution (l ++ r) ≡ merge (named_solution n (zip ns l)) (named_solution n (zip (names mode ps) r))
+      merged l r a b = ap (named_solution n) (cells-append ns (names mode ps) l r a.named.size) ∙ solution-append n (zip ns l) (zip (names mode ps) r) a.named.terms
 
       split : (l r : Row) → P l → Q r → (alike [] (cells (l ++ r)) && graphs_fit (hidden_in mode g) (cells (l ++ r))) ≡ ((kl l && fits g ps r) && pass (l ++ r))
       split l r a b =
           let zs = zip ns l in
-          let ws = zip (all_names ps) r in
+          let ws = zip (names mode ps) r in
           let o = hidden_in mode g in
-          (λ i. alike [] (cells-append ns (all_names ps) l r a.named.size i) && graphs_fit o (cells-append ns (all_names ps) l r a.named.size i))
+          (λ i. alike [] (cells-append ns (names mode ps) l r a.named.size i) && graphs_fit o (cells-append ns (names mode ps) l r a.named.size i))
           ∙ (λ i. (alike-append n zs ws a.named.terms b.terms a.named.below ∙ ap (λ x. (x && alike [] ws) && links n zs ws) a.alone) i && list_all-append (graph_fits o) zs ws i)
           ∙ truths (alike [] ws) (compatible (named_solution n zs) (named_solution n ws)) (names_agree zs ws None) (graphs_fit o zs) (graphs_fit o ws) (graphs_agree o zs ws)
           ∙ ap (λ x. (graphs_fit o zs && (alike [] ws && graphs_fit o ws)) && x) (sym (agrees l r a b))
 
       every_left : Every P (R p)
-      every_left = every_from (R p) here.are_rows
+      every_left = recursion_from_each _ (R p) here.are_rows
 
       every_right : Every Q (product (map R ps))
-      every_right = every_from (product (map R ps)) (product_row ps more)
+      every_right = recursion_from_each _ (product (map R ps)) (product_row ps more)

@@ -83,8 +83,11 @@ repeats_alike row before (x ∷ xs) =
 abbrev pub AreTerms : List Entry → Type 0
 AreTerms zs = (x : Entry) → Contains zs x → (t : Term) × (x.1 ≡ cell.Term t)
 
+abbrev pub AreBetween : List Entry → List Entry → Type 0
+AreBetween zs ws = (x y : Entry) → Contains zs x → Contains ws y → x.0 ≡ y.0 → x.1 ≡ y.1
+
 abbrev pub AreAlike : List Entry → Type 0
-AreAlike zs = (x y : Entry) → Contains zs x → Contains zs y → x.0 ≡ y.0 → x.1 ≡ y.1
+AreAlike zs = AreBetween zs zs
 
 same_terms : (c d : Cell) → ((t : Term) × (c ≡ cell.Term t)) → ((t : Term) × (d ≡ cell.Term t)) → Decides (is_same c d) (c ≡ d)
 same_terms c d (t, e) (u, f) = (

@@ -1,15 +1,16 @@
 -- One graph's existence, the numbers in the names, and the empty pattern.
-use Rattle.std.proofs.Common.{◌≡◌, ℕ, Bool, true, false, ⊎_elim, List, [], ◌∷◌, ◌++◌, map, refl, sym, ap, subst, ◌∙◌, true≢false}
+use Rattle.std.proofs.Common.{◌≡◌, ℕ, Bool, true, false, ⊎_elim, List, [], ◌∷◌, ◌++◌, map, refl, sym, ap, subst, ◌∙◌}
 use Rattle.std.specs.Prelude.{Option, Some, None, not, ◌&&◌, Contains, filter, flat_map, filter_map, is_some, if◌then◌else◌, option_map}
 use Rattle.std.specs.Option.{option_map_or, option_to_list}
 use Rattle.std.specs.List.Sorted.{IsPermutation}
 use Rattle.std.specs.List.{list_any}
+use Rattle.vkg_lists.proofs.Nothing.{member_there, there_member, flat_map_nothing}
 use Rattle.vkg_lists.specs.Lists.{is_empty}
 use Rattle.vkg_lists.proofs.Bags.{bag_same, bag_trans, bag_map, bag_filter}
-use Rattle.vkg_lists.proofs.Counts.{eq_itself, eq_comm, Decides-list_any}
-use Rattle.vkg_lists.proofs.Walks.{filter_map_is_flat_map, map-flat_map, filter-flat_map}
+use Rattle.vkg_lists.proofs.Counts.{eq_itself, eq_comm, Decides-list_any, eq_same}
+use Rattle.vkg_lists.proofs.Walks.{filter_map_is_flat_map, map-flat_map, filter-flat_map, map_filter_is_flat_map}
 use Rattle.vkg_lists.proofs.Distinct.{Contains-from_distinct, Contains-distinct, IsDistinct-distinct}
-use Rattle.vkg_lists.proofs.Members.{Contains-none, Contains-here, Contains-cons_cases, Contains-from_map, Contains-filter, Contains-from_filter, Contains-from_flat_map, Contains-flat_map, flat_map_agree_on, filter_drops}
+use Rattle.vkg_lists.proofs.Members.{Contains-none, Contains-cons_cases, Contains-from_map, Contains-filter, Contains-from_filter, Contains-from_flat_map, flat_map_agree_on, filter_drops, Contains-option, Contains-filter_map, Contains-from_filter_map}
 use Rattle.vkg_lists.specs.Sets.{distinct}
 use Rattle.vkg_lists.proofs.Groups.{flat_map_only}
 use Rattle.vkg_lists.proofs.SameMembers.{members_bag}
@@ -22,7 +23,7 @@ use Rattle.vkg_terms.proofs.SameLemmas.{terms_apart}
 use Rattle.vkg_cells.specs.declared.cell.Cell.TheVariants as cell
 use Rattle.vkg_schema.specs.Rows.{Row, Database}
 use Rattle.vkg_maps.specs.Dataset.{graph_eq, graph_name, quad_from, quad_eq}
-use Rattle.vkg_maps.proofs.Quads.{quads_apart}
+use Rattle.vkg_maps.proofs.Quads.{quads_apart, graphs_apart}
 use Rattle.vkg_algebra.specs.Evaluation.{Dataset, graph_names, evaluate}
 use Rattle.vkg_algebra.specs.Solutions.{unbound}
 use Rattle.vkg_algebra.specs.Algebra.{Bgp}
@@ -31,7 +32,7 @@ use Rattle.vkg_expr.specs.declared.term_expr.TermExpr.{TermExpr}
 use Rattle.vkg_plan.specs.Kinds.{Tables}
 use Rattle.vkg_plan.specs.Rows.{rows_of, one_row}
 use Rattle.vkg_row_rules.specs.declared.row_rule.RowRule.{RowRule}
-use Rattle.vkg_row_rules.specs.RowDataset.{rule_rows, term_at, graph_at, quads_of, all_quads, dataset_of}
+use Rattle.vkg_row_rules.specs.RowDataset.{rule_rows, term_at, graph_at, quads_of, all_quads, dataset_of, quad_at}
 use Rattle.vkg_unfold.specs.Unfolded.{default_graph, graph_test, rule_member, not_null, names_plan, exists_plan, bgp_plan, graph_terms}
 use Rattle.vkg_unfold.specs.declared.mode.Mode.{Mode}
 use Rattle.vkg_unfold.specs.declared.mode.Mode.TheVariants.{Default, InGraph, Each}
@@ -39,13 +40,11 @@ use Rattle.vkg_unfold.specs.FineRows.{IsNarrow, IsFineRow, IsNarrowGraph}
 use Rattle.vkg_unfold.specs.StandsFor.{IsIn, belongs, hidden_is, solution_of, solutions_of}
 use Rattle.vkg_answers.proofs.Graphs.{name_row, Plain, stands_default, stands_named}
 use Rattle.vkg_answers.proofs.Sources.{all_hold, member_rows, rows_or_none, union_rows, not_nulls, in_graph, graph_passes_is}
-use Rattle.vkg_answers.proofs.Members.{map_filter_flat, flat_nothing}
-use Rattle.vkg_answers.proofs.Once.{graph_same}
 use Rattle.vkg_answers.proofs.Columns.{unbound_is}
 use Rattle.vkg_answers.proofs.Modes.{IsRowOf}
 use Rattle.vkg_answers.proofs.Reading.{cells-nil, cells-cons}
 use Rattle.vkg_answers.proofs.Steps.{Stands}
-use Rattle.vkg_answers.proofs.GraphNames.{conditions_alone, quad_at}
+use Rattle.vkg_answers.proofs.GraphNames.{conditions_alone}
 use Rattle.vkg_answers.proofs.Splits.{no_row}
 
 -- rows without columns
@@ -84,27 +83,7 @@ one_empty [] = refl
 one_empty (q ∷ qs) = ap (λ rs. [] ∷ rs) (filter_drops (λ r. not (one_row [] r)) (distinct one_row (map empty_row qs)) (λ r c.
     let x = Contains-from_map empty_row qs r (Contains-from_distinct one_row (map empty_row qs) r c) in ap (λ s. not (one_row [] s)) (sym x.2)))
 
-there_some : {X : Type 0} (xs : List X) → not (is_empty xs) ≡ true → (x : X) × Contains xs x
-there_some [] h = absurd (true≢false (sym h))
-there_some (x ∷ xs) h = (x, Contains-here x xs)
-
-some_from : {X : Type 0} (xs : List X) (x : X) → Contains xs x → not (is_empty xs) ≡ true
-some_from [] x c = absurd (Contains-none x c)
-some_from (y ∷ xs) x c = refl
-
-in_option : {X : Type 0} (o : Option X) (x : X) → Contains (option_to_list o) x → o ≡ Some x
-in_option None x c = absurd (Contains-none x c)
-in_option (Some y) x c = ⊎_elim (λ e. ap Some e) (λ k. absurd (Contains-none x k)) (Contains-cons_cases y [] x c)
-
 -- names and quads
-from_names : (qs : List Quad) (i : Term) → Contains (filter_map (λ q. q.graph) qs) i → (q : Quad) × Contains qs q × (q.graph ≡ Some i)
-from_names qs i c =
-    let x = Contains-from_flat_map (λ q. option_to_list q.graph) qs i (subst (λ l. Contains l i) (filter_map_is_flat_map (λ q. q.graph) qs) c) in
-    (x.0, x.1, in_option x.0.graph i x.2)
-
-to_names : (qs : List Quad) (i : Term) (q : Quad) → Contains qs q → q.graph ≡ Some i → Contains (filter_map (λ q. q.graph) qs) i
-to_names qs i q c e = subst (λ l. Contains l i) (sym (filter_map_is_flat_map (λ q. q.graph) qs)) (Contains-flat_map (λ q. option_to_list q.graph) qs q i c (subst (λ o. Contains (option_to_list o) i) (sym e) (Contains-here i [])))
-
 quad_graph : (o : Option (Option Term)) (s t u : Option Term) (q : Quad) → quad_from s t u o ≡ Some q → o ≡ Some q.graph
 quad_graph o None t u q e = cc
 quad_graph o (Some s) None u q e = cc
@@ -124,10 +103,10 @@ module _ (schema : Tables) (rules : List RowRule) (db : Database) (fine : (rule 
   -- THE NUMBERS IN THE NAMES
   pub names_narrow : (i : Term) → Contains (graph_names (dataset_of schema rules db)) i → IsNarrow (Some i)
   names_narrow i c =
-      let x = from_names (dataset_of schema rules db) i (Contains-from_distinct term_eq (filter_map (λ q. q.graph) (dataset_of schema rules db)) i c) in
+      let x = Contains-from_filter_map (λ (q : Quad). q.graph) (dataset_of schema rules db) i (Contains-from_distinct term_eq (filter_map (λ q. q.graph) (dataset_of schema rules db)) i c) in
       let y = Contains-from_flat_map (quads_of schema db) rules x.0 (Contains-from_distinct quad_eq (all_quads schema rules db) x.0 x.1) in
       let z = Contains-from_flat_map (λ row. option_to_list (quad_at y.0 row)) (rule_rows schema db y.0.table y.0.join) x.0 (subst (λ l. Contains l x.0) (filter_map_is_flat_map (quad_at y.0) (rule_rows schema db y.0.table y.0.join)) y.2) in
-      let e = quad_graph (graph_at y.0.graph z.0) (term_at y.0.subject z.0) (term_at y.0.predicate z.0) (term_at y.0.object z.0) x.0 (in_option (quad_at y.0 z.0) x.0 z.2) ∙ ap Some x.2 in
+      let e = quad_graph (graph_at y.0.graph z.0) (term_at y.0.subject z.0) (term_at y.0.predicate z.0) (term_at y.0.object z.0) x.0 (Contains-option (quad_at y.0 z.0) x.0 z.2) ∙ ap Some x.2 in
       of y.0.graph z.0 e (fine y.0 y.1 z.0 z.1).graph
     where
       of : (o : Option TermExpr) (row : Row) → graph_at o row ≡ Some (Some i) → IsNarrowGraph o row → IsNarrow (Some i)
@@ -163,13 +142,13 @@ module _ (schema : Tables) (rules : List RowRule) (db : Database) (fine : (rule 
             ∙ graph_passes_is [] (InGraph i) (Some (Iri i)) rule.graph row refl (fine rule c row k).never
 
         of : (t : Option (List Expr)) → graph_test (InGraph i) rule.graph ≡ t → rows_or_none schema db (rule_member schema rule [] [] t) ≡ flat_map pieces rows
-        of None e = flat_nothing pieces rows (λ row k.
+        of None e = sym (flat_map_nothing pieces rows (λ row k. sym (
             none_of (is_some (term_at rule.subject row)) (is_some (term_at rule.predicate row)) (is_some (term_at rule.object row))
             ∙ ap (λ b. if is_some (term_at rule.subject row) && (is_some (term_at rule.predicate row) && (is_some (term_at rule.object row) && b)) then [] ∷ [] else no_row) (passes row k None e)
-            ∙ sym (piece row))
+            ∙ sym (piece row))))
         of (Some test) e =
             member_rows schema db rule [] (not_null rule ++ test ++ [])
-            ∙ map_filter_flat (λ row. []) (all_hold (not_null rule ++ test ++ [])) rows
+            ∙ map_filter_is_flat_map (λ row. []) (all_hold (not_null rule ++ test ++ [])) rows
             ∙ flat_map_agree_on (λ row. if all_hold (not_null rule ++ test ++ []) row then [] ∷ [] else []) pieces rows (λ row k.
             ap (λ b. if b then [] ∷ [] else no_row) (conditions_alone rule test row
             ∙ truths (is_some (term_at rule.subject row)) (is_some (term_at rule.predicate row)) (is_some (term_at rule.object row)) (all_hold (not_nulls (graph_terms rule.graph)) row) (all_hold test row)
@@ -179,14 +158,14 @@ module _ (schema : Tables) (rules : List RowRule) (db : Database) (fine : (rule 
     exists_member : not (is_empty (filter in_it (all_quads schema rules db))) ≡ list_any (term_eq (Iri i)) (graph_names (dataset_of schema rules db))
     exists_member = same_truth (not (is_empty (filter in_it (all_quads schema rules db)))) (list_any (term_eq (Iri i)) (graph_names (dataset_of schema rules db)))
         (λ h.
-        let x = there_some (filter in_it (all_quads schema rules db)) h in
+        let x = member_there (filter in_it (all_quads schema rules db)) h in
         let y = Contains-from_filter in_it (all_quads schema rules db) x.0 x.1 in
         (Decides-list_any terms_apart (graph_names (dataset_of schema rules db)) (Iri i)).1
-        (Contains-distinct terms_apart (filter_map (λ q. q.graph) (dataset_of schema rules db)) (Iri i) (to_names (dataset_of schema rules db) (Iri i) x.0 (Contains-distinct quads_apart (all_quads schema rules db) x.0 y.0) (graph_same x.0.graph (Some (Iri i)) y.1))))
+        (Contains-distinct terms_apart (filter_map (λ q. q.graph) (dataset_of schema rules db)) (Iri i) (Contains-filter_map (λ (q : Quad). q.graph) (dataset_of schema rules db) x.0 (Iri i) (Contains-distinct quads_apart (all_quads schema rules db) x.0 y.0) (eq_same graphs_apart x.0.graph (Some (Iri i)) y.1))))
         (λ h.
         let c = (Decides-list_any terms_apart (graph_names (dataset_of schema rules db)) (Iri i)).0 h in
-        let x = from_names (dataset_of schema rules db) (Iri i) (Contains-from_distinct term_eq (filter_map (λ q. q.graph) (dataset_of schema rules db)) (Iri i) c) in
-        some_from (filter in_it (all_quads schema rules db)) x.0 (Contains-filter in_it (all_quads schema rules db) x.0 (Contains-from_distinct quad_eq (all_quads schema rules db) x.0 x.1) (ap (λ g. graph_eq g (Some (Iri i))) x.2 ∙ eq_itself terms_apart (Iri i))))
+        let x = Contains-from_filter_map (λ (q : Quad). q.graph) (dataset_of schema rules db) (Iri i) (Contains-from_distinct term_eq (filter_map (λ q. q.graph) (dataset_of schema rules db)) (Iri i) c) in
+        there_member (filter in_it (all_quads schema rules db)) x.0 (Contains-filter in_it (all_quads schema rules db) x.0 (Contains-from_distinct quad_eq (all_quads schema rules db) x.0 x.1) (ap (λ g. graph_eq g (Some (Iri i))) x.2 ∙ eq_itself terms_apart (Iri i))))
 
     pub exists_are : rows_of schema (exists_plan schema rules i) db ≡ (if list_any (term_eq (Iri i)) (graph_names (dataset_of schema rules db)) then [] ∷ [] else [])
     exists_are =

@@ -5,11 +5,12 @@ use Rattle.std.specs.Prelude.{Option, Some, None, not, ◌&&◌, Contains, flat_
 use Rattle.std.specs.Option.{option_map_or, option_to_list}
 use Rattle.std.specs.List.Sorted.{IsPermutation}
 use Rattle.std.proofs.lemmas.List.Folds.{list_all-append}
+use Rattle.vkg_lists.proofs.Nothing.{flat_map_nothing}
 use Rattle.vkg_lists.specs.Sets.{HasSameMembers, distinct}
 use Rattle.vkg_lists.proofs.Bags.{bag_same, bag_trans, bag_map}
 use Rattle.vkg_lists.proofs.Counts.{eq_same}
 use Rattle.vkg_lists.proofs.SameMembers.{members_refl, members_flat_map}
-use Rattle.vkg_lists.proofs.Walks.{filter_map_is_flat_map, flat_map-flat_map, map-flat_map}
+use Rattle.vkg_lists.proofs.Walks.{filter_map_is_flat_map, flat_map-flat_map, map-flat_map, map_filter_is_flat_map}
 use Rattle.vkg_lists.proofs.Distinct.{HasSameMembers-distinct, bag_distinct_members, distinct-map}
 use Rattle.vkg_lists.proofs.Members.{flat_map_agree_on}
 use Rattle.vkg_terms.specs.declared.term.Term.{Term}
@@ -29,13 +30,12 @@ use Rattle.vkg_plan.specs.Kinds.{Tables}
 use Rattle.vkg_plan.specs.Rows.{rows_of, one_row}
 use Rattle.vkg_match.specs.Verdict.{Verdict, Never, All, verdict_of}
 use Rattle.vkg_row_rules.specs.declared.row_rule.RowRule.{RowRule}
-use Rattle.vkg_row_rules.specs.RowDataset.{rule_rows, term_at, graph_at, quads_of, all_quads, dataset_of}
+use Rattle.vkg_row_rules.specs.RowDataset.{rule_rows, term_at, graph_at, quads_of, all_quads, dataset_of, quad_at}
 use Rattle.vkg_unfold.specs.Unfolded.{default_graph, graph_test, unless_never, rule_member, graph_exprs, not_null, names_plan, graph_terms}
 use Rattle.vkg_unfold.specs.declared.mode.Mode.TheVariants.{Each}
 use Rattle.vkg_unfold.specs.FineRows.{NeverDefault, IsFineRow}
 use Rattle.vkg_answers.proofs.Graphs.{name_row}
 use Rattle.vkg_answers.proofs.Sources.{all_hold, member_rows, rows_or_none, union_rows, not_nulls, term_expr_is, not_null_is, not_same_const_is, nulls_are}
-use Rattle.vkg_answers.proofs.Members.{map_filter_flat, flat_nothing}
 use Rattle.vkg_answers.proofs.Splits.{no_row}
 
 -- the conditions of a rule with its graph's test alone
@@ -45,9 +45,6 @@ conditions_alone rule test row =
     ap (λ cs. all_hold cs row) (append-nil (not_null rule ++ test))
     ∙ list_all-append (λ c. holds c row) (not_null rule) test
     ∙ ap (λ b. b && all_hold test row) (nulls_are rule row rule.graph)
-
-abbrev pub quad_at : RowRule → Row → Option Quad
-quad_at rule row = quad_from (term_at rule.subject row) (term_at rule.predicate row) (term_at rule.object row) (graph_at rule.graph row)
 
 -- ---- the names
 
@@ -126,14 +123,14 @@ module _ (schema : Tables) (rules : List RowRule) (db : Database) (fine : (rule 
       none_there false = refl
 
       of : (t : Option (List Expr)) → graph_test Each rule.graph ≡ t → (o : Option TermExpr) → rule.graph ≡ o → rows_or_none schema db (rule_member schema rule (graph_exprs rule) [] t) ≡ flat_map pieces rows
-      of None e None g = flat_nothing pieces rows (λ row k. none_there (is_some (term_at rule.subject row) && (is_some (term_at rule.predicate row) && is_some (term_at rule.object row))) ∙ sym (ap (map name_row) (at_row None g row)))
+      of None e None g = sym (flat_map_nothing pieces rows (λ row k. ap (map name_row) (at_row None g row) ∙ sym (none_there (is_some (term_at rule.subject row) && (is_some (term_at rule.predicate row) && is_some (term_at rule.object row))))))
       of None e (Some x) g = let f : None ≡ graph_test Each (Some x) = sym e ∙ ap (graph_test Each) g in cc
       of (Some test) e None g = let f : Some test ≡ graph_test Each None = sym e ∙ ap (graph_test Each) g in cc
       of (Some test) e (Some x) g =
           let f : Some test ≡ Some (unless_never x (verdict_of x (term_form.Fixed default_graph))) = sym e ∙ ap (graph_test Each) g in
           let is_test : test ≡ unless_never x (verdict_of x (term_form.Fixed default_graph)) = cc in
           member_rows schema db rule (graph_exprs rule) (not_null rule ++ test ++ [])
-          ∙ map_filter_flat (λ row. map (λ e. value_of e row) (graph_exprs rule)) (all_hold (not_null rule ++ test ++ [])) rows
+          ∙ map_filter_is_flat_map (λ row. map (λ e. value_of e row) (graph_exprs rule)) (all_hold (not_null rule ++ test ++ [])) rows
           ∙ flat_map_agree_on (λ row. if all_hold (not_null rule ++ test ++ []) row then map (λ e. value_of e row) (graph_exprs rule) ∷ [] else []) pieces rows (λ row k.
           (λ i. if conditions_alone rule test row i then map (λ e. value_of e row) (graph_exprs (record rule { graph = g i })) ∷ [] else [])
           ∙ (λ i. if ((is_some (term_at rule.subject row) && (is_some (term_at rule.predicate row) && (is_some (term_at rule.object row) && (ap (λ o. all_hold (not_nulls (graph_terms o)) row) g ∙ ap (λ b. b && true) (not_null_is x row)) i)))

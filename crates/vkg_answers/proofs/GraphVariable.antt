@@ -1,6 +1,6 @@
 -- GRAPH with a variable: the hidden graph of a plan in mode each becomes the variable's column.
-use Rattle.std.proofs.Common.{◌≡◌, ℕ, zero, suc, ◌+◌, ◌<◌, Bool, true, false, List, [], ◌∷◌, ◌++◌, map, length, refl, sym, ap, subst, ◌∙◌, arith, true≢false, append-nil}
-use Rattle.std.specs.Prelude.{Option, Some, None, ◌||◌, filter, flat_map, Contains, nat_eq, replicate, fold, slice_set, if◌then◌else◌, unwrap_or}
+use Rattle.std.proofs.Common.{◌≡◌, ℕ, ◌<◌, Bool, true, false, List, [], ◌∷◌, ◌++◌, map, length, refl, sym, ap, subst, ◌∙◌, arith, true≢false, append-nil}
+use Rattle.std.specs.Prelude.{Option, Some, None, ◌||◌, filter, flat_map, Contains, nat_eq, fold, slice_set, if◌then◌else◌, unwrap_or}
 use Rattle.std.specs.Option.{option_or}
 use Rattle.std.specs.List.{list_all}
 use Rattle.std.specs.List.Sorted.{IsPermutation}
@@ -13,6 +13,8 @@ use Rattle.vkg_lists.proofs.Bags.{bag_refl, bag_same, bag_sym, bag_trans, bag_ma
 use Rattle.vkg_lists.proofs.Walks.{map-map, filter-flat_map, map-flat_map}
 use Rattle.vkg_lists.proofs.Members.{Contains-here, Contains-there, Contains-from_map, Contains-from_filter, filter_agree_on, bag_flat_map_each_on}
 use Rattle.vkg_lists.proofs.Bools.{or_right, same_truth}
+use Rattle.vkg_lists.proofs.Onto.{or_none}
+use Rattle.vkg_lists.proofs.Rows.{agree_none}
 use Rattle.vkg_terms.specs.declared.term.Term.{Term}
 use Rattle.vkg_terms.specs.Same.{term_eq}
 use Rattle.vkg_terms.proofs.SameLemmas.{terms_apart}
@@ -31,42 +33,19 @@ use Rattle.vkg_unfold.specs.Unfolded.{place_of, default_graph, graph_column, lef
 use Rattle.vkg_unfold.specs.declared.mode.Mode.TheVariants.{Default, Each}
 use Rattle.vkg_unfold.specs.StandsFor.{belongs, term_in, solution_of, solutions_of, upto_from}
 use Rattle.vkg_answers.proofs.Joins.{agree, merge-map, bag_join}
-use Rattle.vkg_answers.proofs.Reading.{IsTermCell, read_there, read_typed, read_none, read_project, has-each_once, none_right}
-use Rattle.vkg_answers.proofs.Agreement.{all_elim, all_intro, has-upto, compatible-map, agree_none}
+use Rattle.vkg_answers.proofs.Reading.{IsTermCell, read_there, read_typed, read_none, read_project, has-each_once, set_at}
+use Rattle.vkg_answers.proofs.Agreement.{all_elim, all_intro, has-upto, compatible-map}
 use Rattle.vkg_answers.proofs.Modes.{IsRowOf, hidden_found}
 use Rattle.vkg_answers.proofs.Steps.{Stands, projected}
 use Rattle.vkg_answers.proofs.Graphs.{Plain}
+use Rattle.vkg_answers.proofs.Columns.{unbound_is}
 
 -- one variable bound, by variable
 abbrev pub bound_at : ℕ → Term → ℕ → Option Term
 bound_at v i w = if nat_eq v w then Some i else None
 
--- variables from k on, none of which is v
-others_none : (n k v : ℕ) (i : Term) → v < k → replicate n None ≡ map (bound_at v i) (upto_from k n)
-others_none zero k v i h = refl
-others_none (suc n) k v i h = λ t. here t ∷ others_none n (suc k) v i (omega arith) t
-  where
-    here : None ≡ bound_at v i k
-    here = of (nat_eq v k) refl
-      where
-        of : (b : Bool) → nat_eq v k ≡ b → None ≡ (if b then Some i else None)
-        of true e = absurd (omega (arith, h, eqb-true v k e))
-        of false e = refl
-
-only-from : (n k v w : ℕ) (i : Term) → w ≡ k + v → slice_set (replicate n None) v (Some i) ≡ map (bound_at w i) (upto_from k n)
-only-from zero k v w i e = refl
-only-from (suc n) k zero w i e = let f : w ≡ k = omega arith in λ t. here f t ∷ others_none n (suc k) w i (omega arith) t
-  where
-    here : w ≡ k → Some i ≡ bound_at w i k
-    here f = Prim.rw (ap (nat_eq w) (sym f) ∙ eq_itself nat_test w) refl
-only-from (suc n) k (suc v) w i e = λ t. here (nat_eq w k) refl t ∷ only-from n (suc k) v w i (omega arith) t
-  where
-    here : (b : Bool) → nat_eq w k ≡ b → None ≡ (if b then Some i else None)
-    here true f = absurd (omega (arith, e, eqb-true w k f))
-    here false f = refl
-
 pub only-map : (n v : ℕ) (i : Term) → only n v i ≡ map (bound_at v i) (upto_from 0 n)
-only-map n v i = only-from n 0 v v i (omega arith)
+only-map n v i = ap (λ s. slice_set s v (Some i)) (unbound_is n 0) ∙ set_at (Some i) (λ w. None) n 0 v v (omega arith)
 
 -- the condition over the graph's cell
 graph_cells : Cell → Cell → Bool
@@ -122,7 +101,7 @@ module _ (n : ℕ) (d : Dataset) (vs : List ℕ) (v : ℕ) (within : v < n) wher
           where
             of : (w : ℕ) (b : Bool) → nat_eq v w ≡ b → agree (term w) (if b then Some i else None) ≡ true
             of w true e = ap (λ u. agree (term u) (Some i)) (sym (eqb-true v w e)) ∙ h
-            of w false e = agree_none (term w)
+            of w false e = agree_none term_eq (term w)
 
     -- where they agree the row is the merge
     merged_is : agree (term v) (Some i) ≡ true → solution_of n (each_once (v ∷ vs)) (graph_row row) ≡ merge (solution_of n vs row) (only n v i)
@@ -142,7 +121,7 @@ module _ (n : ℕ) (d : Dataset) (vs : List ℕ) (v : ℕ) (within : v < n) wher
         columns w true e false f = of (has vs w) refl
           where
             of : (c : Bool) → has vs w ≡ c → term_of (value_of (left_column vs w) row) ≡ option_or (term w) None
-            of true g = ap term_of (sym (read_there vs row w g)) ∙ sym (none_right (term w))
+            of true g = ap term_of (sym (read_there vs row w g)) ∙ sym (or_none (term w))
             of false g = absurd (true≢false (sym e ∙ has-each_once (v ∷ vs) w ∙ (λ t. swapped (nat_eq w v) refl t || g t)))
               where
                 swapped : (x : Bool) → nat_eq w v ≡ x → x ≡ false
@@ -153,7 +132,7 @@ module _ (n : ℕ) (d : Dataset) (vs : List ℕ) (v : ℕ) (within : v < n) wher
           where
             of : (c : Bool) → has vs w ≡ c → None ≡ option_or (term w) None
             of true g = absurd (true≢false (sym (has-each_once (v ∷ vs) w ∙ or_right (nat_eq w v) (has vs w) g) ∙ e))
-            of false g = sym (none_right (term w) ∙ ap term_of (read_none vs row w g))
+            of false g = sym (or_none (term w) ∙ ap term_of (read_none vs row w g))
 
         each_one : (w : ℕ) → term_in (visible_column all) (graph_row row) w ≡ option_or (term w) (bound_at v i w)
         each_one w =

@@ -6,9 +6,11 @@ use Rattle.std.specs.List.{list_all, AllByRecursion}
 use Rattle.std.specs.List.Sorted.{IsPermutation}
 use Rattle.std.proofs.lemmas.List.Elements.{filter-append}
 use Rattle.std.proofs.lemmas.List.{map-append}
+use Rattle.std.proofs.Math.Bool.{and-true}
 use Rattle.vkg_lists.specs.Rows.{merged_if_compatible}
 use Rattle.vkg_lists.specs.Rows as rows
 use Rattle.vkg_lists.proofs.Joins as joins
+use Rattle.vkg_lists.proofs.Walks.{map_filter_is_flat_map, filter_all}
 use Rattle.vkg_terms.specs.declared.term.Term.{Term}
 use Rattle.vkg_terms.specs.Same.{term_eq}
 use Rattle.vkg_cells.specs.declared.cell.Cell.TheVariants as cell
@@ -25,13 +27,7 @@ abbrev pub merges : Solution → List Solution → List Solution
 merges l rs = map (merge l) (filter (compatible l) rs)
 
 merges_are : (l : Solution) (rs : List Solution) → flat_map (λ r. merged_if_compatible term_eq l r) rs ≡ merges l rs
-merges_are l [] = refl
-merges_are l (r ∷ rs) = of (merges_are l rs) (compatible l r)
-  where
-    of : flat_map (λ r. merged_if_compatible term_eq l r) rs ≡ merges l rs → (b : Bool) →
-        (if b then merge l r ∷ [] else []) ++ flat_map (λ r. merged_if_compatible term_eq l r) rs ≡ map (merge l) (if b then r ∷ filter (compatible l) rs else filter (compatible l) rs)
-    of rest true = ap (λ ss. merge l r ∷ ss) rest
-    of rest false = rest
+merges_are l rs = sym (map_filter_is_flat_map (merge l) (compatible l) rs)
 
 pub join_is : (ls rs : List Solution) → join ls rs ≡ flat_map (λ l. merges l rs) ls
 join_is ls rs = λ i. flat_map (λ l. merges_are l rs i) ls
@@ -50,26 +46,6 @@ map-filter f p x xs = of (p x)
     of : (b : Bool) → map f (if b then x ∷ filter p xs else filter p xs) ≡ (if b then f x ∷ map f (filter p xs) else map f (filter p xs))
     of true = refl
     of false = refl
-
-module _ (P Q : Row → Type 0) (a b c : Row → Solution) (holds : Row → Bool)
-    (agrees : (l r : Row) → P l → Q r → holds (l ++ r) ≡ compatible (a l) (b r))
-    (merged : (l r : Row) → P l → Q r → c (l ++ r) ≡ merge (a l) (b r)) where
-  one_left : (l : Row) (rs : List Row) → P l → AllByRecursion Q rs → map c (filter holds (map (λ r. l ++ r) rs)) ≡ merges (a l) (map b rs)
-  one_left l [] p q = refl
-  one_left l (r ∷ rs) p q =
-      map-filter c holds (l ++ r) (map (λ r. l ++ r) rs)
-      ∙ (Prim.rw (agrees l r p q.0, merged l r p q.0, one_left l rs p q.1) (sym (map-filter (merge (a l)) (compatible (a l)) (b r) (map b rs))))
-
-  all_left : (ls rs : List Row) → AllByRecursion P ls → AllByRecursion Q rs → map c (filter holds (pairs ls rs)) ≡ flat_map (λ s. merges s (map b rs)) (map a ls)
-  all_left [] rs p q = refl
-  all_left (l ∷ ls) rs p q =
-      ap (map c) (filter-append holds (map (λ r. l ++ r) rs) (pairs ls rs))
-      ∙ map-append c (filter holds (map (λ r. l ++ r) rs)) (filter holds (pairs ls rs))
-      ∙ Prim.rw (one_left l rs p.0 q, all_left ls rs p.1 q) refl
-
-  -- what Join's rows are
-  pub join_rows : (ls rs : List Row) → AllByRecursion P ls → AllByRecursion Q rs → map c (filter holds (pairs ls rs)) ≡ join (map a ls) (map b rs)
-  join_rows ls rs p q = all_left ls rs p q ∙ sym (join_is (map a ls) (map b rs))
 
 -- LeftJoin: the condition of the plan is compatibility and the filter
 module _ (P Q : Row → Type 0) (a b c : Row → Solution) (pass : Row → Bool) (hold : Solution → Bool)
@@ -119,3 +95,14 @@ module _ (P Q : Row → Type 0) (a b c : Row → Solution) (pass : Row → Bool)
     left_rows ls rs p q =
         map-append c (filter pass (pairs ls rs)) (map (λ l. l ++ replicate n cell.Null) (filter (is_alone pass rs) ls))
         ∙ (λ i. (all_passing ls rs p q ∙ ap (filter hold) (sym (join_is (map a ls) (map b rs)))) i ++ lonely_rows ls rs p q i)
+
+-- Join: the condition of the plan is compatibility
+module _ (P Q : Row → Type 0) (a b c : Row → Solution) (holds : Row → Bool)
+    (agrees : (l r : Row) → P l → Q r → holds (l ++ r) ≡ compatible (a l) (b r))
+    (merged : (l r : Row) → P l → Q r → c (l ++ r) ≡ merge (a l) (b r)) where
+  -- what Join's rows are
+  pub join_rows : (ls rs : List Row) → AllByRecursion P ls → AllByRecursion Q rs → map c (filter holds (pairs ls rs)) ≡ join (map a ls) (map b rs)
+  join_rows ls rs p q =
+      all_passing P Q a b c holds (λ s. true) (λ l r x y. agrees l r x y ∙ sym (and-true (compatible (a l) (b r)))) merged ls rs p q
+      ∙ filter_all (λ s. true) (flat_map (λ s. merges s (map b rs)) (map a ls)) (λ s. refl)
+      ∙ sym (join_is (map a ls) (map b rs))

@@ -13,21 +13,19 @@ use Rattle.vkg_sparql.specs.Query.{Condition}
 use Rattle.vkg_algebra.specs.Lawful.{condition_nodes_if_any}
 use Rattle.vkg_algebra.specs.Patterns.{labels_of, node_labels}
 use Rattle.vkg_algebra.specs.Visible.{has, node_variables, pattern_variables}
+use Rattle.vkg_algebra.proofs.LawfulLemmas.{lawful_part}
 use Rattle.vkg_answers.proofs.Values.{IsNarrowIfAny}
 use Rattle.vkg_answers.proofs.Reading.{AreBelow}
 use Rattle.vkg_answers.proofs.Quads.{NodeBelow}
 
-part : (n : ℕ) (xs ys : List Node) → ((x : Node) → Contains xs x → Contains ys x) → IsLawful n ys → IsLawful n xs
-part n xs ys f h = record { within = λ x c. h.within x (f x c); apart = λ v c e. h.apart v (f (Variable v) c) (f (Label v) e) }
-
 pub lawful_left : (n : ℕ) (xs ys : List Node) → IsLawful n (xs ++ ys) → IsLawful n xs
-lawful_left n xs ys h = part n xs (xs ++ ys) (λ x c. Contains-append_left xs ys x c) h
+lawful_left n xs ys h = lawful_part n xs (xs ++ ys) (λ x c. Contains-append_left xs ys x c) h
 
 pub lawful_right : (n : ℕ) (xs ys : List Node) → IsLawful n (xs ++ ys) → IsLawful n ys
-lawful_right n xs ys h = part n ys (xs ++ ys) (λ x c. Contains-append_right xs ys x c) h
+lawful_right n xs ys h = lawful_part n ys (xs ++ ys) (λ x c. Contains-append_right xs ys x c) h
 
 pub lawful_tail : (n : ℕ) (x : Node) (xs : List Node) → IsLawful n (x ∷ xs) → IsLawful n xs
-lawful_tail n x xs h = part n xs (x ∷ xs) (λ y c. Contains-there x xs y c) h
+lawful_tail n x xs h = lawful_part n xs (x ∷ xs) (λ y c. Contains-there x xs y c) h
 
 pub narrow_if_any : (n : ℕ) (c : Option Condition) → IsLawful n (condition_nodes_if_any c) → IsNarrowIfAny c
 narrow_if_any n c h t k = h.within (Fixed t) k

@@ -7,7 +7,9 @@ use Rattle.std.proofs.lemmas.List.Elements.{Contains-append_left, Contains-appen
 use Rattle.vkg_lists.proofs.Counts.{eq_itself, eq_same}
 use Rattle.vkg_lists.proofs.Members.{Contains-none, Contains-here, Contains-there, Contains-cons_cases}
 use Rattle.vkg_lists.proofs.Bools.{and_parts, and_true, same_truth}
+use Rattle.vkg_lists.proofs.Rows.{agree_none}
 use Rattle.vkg_terms.specs.declared.term.Term.{Term}
+use Rattle.vkg_terms.specs.Same.{term_eq}
 use Rattle.vkg_terms.proofs.SameLemmas.{terms_apart}
 use Rattle.vkg_cells.specs.declared.cell.Cell.TheVariants as cell
 use Rattle.vkg_algebra.specs.Solutions.{compatible, merge}
@@ -16,8 +18,8 @@ use Rattle.vkg_unfold.specs.Unfolded.{Name, name_eq}
 use Rattle.vkg_unfold.specs.StandsFor.{upto_from}
 use Rattle.vkg_unfold.proofs.AlgebraColumns.{name_test}
 use Rattle.vkg_answers.proofs.Joins.{agree, merge-map}
-use Rattle.vkg_answers.proofs.Agreement.{all_elim, all_intro, has-upto, compatible-map, agree_none}
-use Rattle.vkg_answers.proofs.Entries.{Entry, first, alike, named_term, named_solution, AreTerms, AreAlike, alike_onto, alike_back}
+use Rattle.vkg_answers.proofs.Agreement.{all_elim, all_intro, has-upto, compatible-map}
+use Rattle.vkg_answers.proofs.Entries.{Entry, first, alike, named_term, named_solution, AreTerms, AreAlike, alike_onto, alike_back, AreBetween}
 
 pub first_there : (x : Name) (zs : List Entry) (y : Entry) → Contains zs y → x ≡ y.0 → (z : Entry) × Contains zs z × (x ≡ z.0) × (first x zs ≡ z.1)
 first_there x [] y c e = absurd (Contains-none y c)
@@ -66,9 +68,6 @@ names_agree zs ws x = agree (term_of (first x zs)) (term_of (first x ws))
 abbrev pub links : ℕ → List Entry → List Entry → Bool
 links n zs ws = compatible (named_solution n zs) (named_solution n ws) && names_agree zs ws None
 
-abbrev pub AreBetween : List Entry → List Entry → Type 0
-AreBetween zs ws = (x y : Entry) → Contains zs x → Contains ws y → x.0 ≡ y.0 → x.1 ≡ y.1
-
 abbrev pub NamesBelow : ℕ → List Entry → Type 0
 NamesBelow n zs = (x : Entry) → Contains zs x → (v : ℕ) → x.0 ≡ Some v → v < n
 
@@ -79,7 +78,7 @@ between_agree : (zs ws : List Entry) → AreTerms zs → AreBetween zs ws → (x
 between_agree zs ws h b x = ⊎_elim
     (λ e. ap (λ c. agree (term_of c) (term_of (first x ws))) e)
     (λ r. ⊎_elim
-    (λ e. ap (λ c. agree (term_of (first x zs)) (term_of c)) e ∙ agree_none (term_of (first x zs)))
+    (λ e. ap (λ c. agree (term_of (first x zs)) (term_of c)) e ∙ agree_none term_eq (term_of (first x zs)))
     (λ s.
     let t = h r.0 r.1 in
     let left : first x zs ≡ cell.Term t.0 = r.3 ∙ t.1 in

@@ -7,8 +7,8 @@ use Rattle.std.proofs.lemmas.List.Elements.{Contains-append_cases}
 use Rattle.std.specs.List.{zip}
 use Rattle.vkg_lists.proofs.Results.{some_of}
 use Rattle.vkg_lists.proofs.Bags.{bag_same, bag_trans, bag_sym}
-use Rattle.vkg_lists.proofs.Counts.{eq_itself}
-use Rattle.vkg_lists.proofs.Distinct.{Contains-from_distinct, Contains-distinct}
+use Rattle.vkg_lists.proofs.Counts.{eq_itself, eq_same}
+use Rattle.vkg_lists.proofs.Distinct.{Contains-from_distinct, Contains-distinct, distinct_map_on, filter-distinct}
 use Rattle.vkg_lists.proofs.Members.{Contains-none, Contains-here, Contains-there, Contains-cons_cases, Contains-from_map, Contains-from_filter, Contains-from_flat_map, Contains-flat_map, Contains-filter_map}
 use Rattle.vkg_lists.specs.Sets.{distinct}
 use Rattle.vkg_lists.proofs.Bools.{and_parts}
@@ -20,7 +20,7 @@ use Rattle.vkg_cells.specs.declared.cell.Cell.{Cell}
 use Rattle.vkg_cells.specs.declared.cell.Cell.TheVariants as cell
 use Rattle.vkg_schema.specs.Rows.{Row, Database}
 use Rattle.vkg_maps.specs.Dataset.{graph_eq, quad_from}
-use Rattle.vkg_maps.proofs.Quads.{quads_apart}
+use Rattle.vkg_maps.proofs.Quads.{quads_apart, graphs_apart}
 use Rattle.vkg_sparql.specs.declared.pattern.Node.{Node}
 use Rattle.vkg_sparql.specs.declared.pattern.Node.TheVariants.{Variable, Label, Fixed}
 use Rattle.vkg_sparql.specs.declared.pattern.TriplePattern.{TriplePattern}
@@ -36,21 +36,22 @@ use Rattle.vkg_expr.specs.Value.{value_of, term_of, term_cell}
 use Rattle.vkg_expr.proofs.ReadBack.{term_back}
 use Rattle.vkg_plan.specs.Kinds.{Tables}
 use Rattle.vkg_plan.specs.Rows.{rows_of, one_row}
+use Rattle.vkg_plan.proofs.CellLemmas.{rows_apart}
 use Rattle.vkg_row_rules.specs.declared.row_rule.RowRule.{RowRule}
-use Rattle.vkg_row_rules.specs.RowDataset.{rule_rows, term_at, graph_at, quads_of, dataset_of}
+use Rattle.vkg_row_rules.specs.RowDataset.{rule_rows, term_at, graph_at, quads_of, dataset_of, quad_at}
 use Rattle.vkg_unfold.specs.declared.mode.Mode.{Mode}
 use Rattle.vkg_unfold.specs.declared.mode.Mode.TheVariants.{Default, InGraph, Each}
 use Rattle.vkg_unfold.specs.Unfolded.{Named, named, places, constants, repeats, graph_test, rule_member, pattern_member, pattern_places, pattern_names, pattern_plan, graph_terms}
 use Rattle.vkg_unfold.specs.StandsFor.{IsIn}
 use Rattle.vkg_unfold.specs.FineRows.{IsFineRow, IsNarrowGraph, IsNarrow, NeverDefault}
-use Rattle.vkg_answers.proofs.Entries.{Entry, entry, same_entry, first, alike, named_solution, AreTerms, AreAlike}
-use Rattle.vkg_answers.proofs.Links.{are_alike, alike_is, alike_parts, terms-append, NamesBelow, AreBetween}
+use Rattle.vkg_answers.proofs.Entries.{Entry, entry, same_entry, first, alike, named_solution, AreTerms, AreAlike, AreBetween}
+use Rattle.vkg_answers.proofs.Links.{are_alike, alike_is, alike_parts, terms-append, NamesBelow}
 use Rattle.vkg_answers.proofs.Columns.{hidden_in, graphs_fit, HasGraphEntry, IsPatternRow, PatternStands}
 use Rattle.vkg_answers.proofs.Sources.{all_hold, member_rows, rows_or_none, union_rows, not_nulls, graph_is, graph_passes, graph_passes_is, term_expr_is, not_null_is}
-use Rattle.vkg_answers.proofs.Quads.{NodeBelow, node_entries, node_below, pattern_entries, pattern_ok}
+use Rattle.vkg_answers.proofs.Quads.{NodeBelow, node_entries, node_below, pattern_entries, pattern_ok, node_all, entry_from}
 use Rattle.vkg_answers.proofs.Members.{hidden_of, names_are_places, member_exprs, row_cells, member_entries, member_conditions, conditions_are, rules_answer, row_fits, row_solution}
-use Rattle.vkg_answers.proofs.Once.{filter_distinct_on, distinct_map_on, quads_once, graph_same}
-use Rattle.vkg_answers.proofs.TriplePatterns.{quad_apart, one_row_says, solution_says, pattern_below}
+use Rattle.vkg_answers.proofs.Once.{quads_once}
+use Rattle.vkg_answers.proofs.TriplePatterns.{quad_apart, solution_says, pattern_below}
 
 value_term : (e : TermExpr) (row : Row) → is_some (term_at e row) ≡ true → (t : Term) × (value_of (term_expr e) row ≡ cell.Term t)
 value_term e row h = let s = some_of (term_at e row) h in (s.0, term_expr_is e row ∙ ap term_cell s.1)
@@ -58,23 +59,10 @@ value_term e row h = let s = some_of (term_at e row) h in (s.0, term_expr_is e r
 value_narrow : (e : TermExpr) (row : Row) → IsNarrow (term_at e row) → IsNarrow (term_of (value_of (term_expr e) row))
 value_narrow e row h = subst IsNarrow (sym (ap term_of (term_expr_is e row) ∙ term_back (term_at e row))) h
 
--- what holds of three cells holds of their entries
-node_all : (P : Cell → Type 0) (x : Node) (c : Cell) → P c → (e : Entry) → Contains (node_entries x c) e → P e.1
-node_all P (Variable v) c h e k = ⊎_elim (λ f. subst (λ (z : Entry). P z.1) f h) (λ f. absurd (Contains-none e f)) (Contains-cons_cases (Some v, c) [] e k)
-node_all P (Label v) c h e k = ⊎_elim (λ f. subst (λ (z : Entry). P z.1) f h) (λ f. absurd (Contains-none e f)) (Contains-cons_cases (Some v, c) [] e k)
-node_all P (Fixed t) c h e k = absurd (Contains-none e k)
-
 node_named : (x : Node) (c : Cell) (e : Entry) → Contains (node_entries x c) e → e.0 ≡ None → ⊥
 node_named (Variable v) c e k m = ⊎_elim (λ f. let g : Some v ≡ None = ap (λ (z : Entry). z.0) f ∙ m in cc) (λ f. Contains-none e f) (Contains-cons_cases (Some v, c) [] e k)
 node_named (Label v) c e k m = ⊎_elim (λ f. let g : Some v ≡ None = ap (λ (z : Entry). z.0) f ∙ m in cc) (λ f. Contains-none e f) (Contains-cons_cases (Some v, c) [] e k)
 node_named (Fixed t) c e k m = Contains-none e k
-
-module _ (p : TriplePattern) (c d e : Cell) (x : Entry) where
-  -- which node an entry comes from
-  entry_from : {Q : Type 0} → (Contains (node_entries p.subject c) x → Q) → (Contains (node_entries p.predicate d) x → Q) → (Contains (node_entries p.object e) x → Q) → Contains (pattern_entries p c d e) x → Q
-  entry_from f g h k = ⊎_elim f
-      (λ l. ⊎_elim g (λ m. ⊎_elim h (λ o. absurd (Contains-none x o)) (Contains-append_cases (node_entries p.object e) [] x m)) (Contains-append_cases (node_entries p.predicate d) (node_entries p.object e ++ []) x l))
-      (Contains-append_cases (node_entries p.subject c) (node_entries p.predicate d ++ (node_entries p.object e ++ [])) x k)
 
 no_first : (zs ws : List Entry) → ((x : Entry) → Contains zs x → x.0 ≡ None → ⊥) → first None (zs ++ ws) ≡ first None ws
 no_first [] ws h = refl
@@ -94,13 +82,10 @@ module _ (schema : Tables) (rules : List RowRule) (db : Database) (n : ℕ) (p :
       graph_at rule.graph row ≡ Some (Some i) → term_at rule.subject row ≡ Some s → term_at rule.predicate row ≡ Some t → term_at rule.object row ≡ Some u → Contains (graph_names d) i
   graph_named rule c row k i s t u e0 e1 e2 e3 =
       Contains-distinct terms_apart (filter_map (λ q. q.graph) d) i (Contains-filter_map (λ q. q.graph) d q i (Contains-distinct quads_apart (flat_map (quads_of schema db) rules) q
-      (Contains-flat_map (quads_of schema db) rules rule q c (Contains-filter_map quad (rule_rows schema db rule.table rule.join) row q k (λ j. quad_from (e1 j) (e2 j) (e3 j) (e0 j))))) refl)
+      (Contains-flat_map (quads_of schema db) rules rule q c (Contains-filter_map (quad_at rule) (rule_rows schema db rule.table rule.join) row q k (λ j. quad_from (e1 j) (e2 j) (e3 j) (e0 j))))) refl)
     where
       q : Quad
       q = record { subject = s; predicate = t; object = u; graph = Some i }
-
-      quad : Row → Option Quad
-      quad row = quad_from (term_at rule.subject row) (term_at rule.predicate row) (term_at rule.object row) (graph_at rule.graph row)
 
   module _ (mode : Mode) (rule : RowRule) (listed : Contains rules rule) (test : List Expr) (admits : graph_test mode rule.graph ≡ Some test) (row : Row) (of_rule : Contains (rule_rows schema db rule.table rule.join) row)
       (passes : all_hold (member_conditions p rule test) row ≡ true) (fine : IsFineRow rule row) where
@@ -216,7 +201,7 @@ module _ (schema : Tables) (rules : List RowRule) (db : Database) (n : ℕ) (p :
 
             is : (o : Option (Option Term)) → option_map_or (λ h. graph_eq h (Some i)) o false ≡ true → o ≡ Some (Some i)
             is None x = absurd (true≢false (sym x))
-            is (Some g) x = ap Some (graph_same g (Some i) x)
+            is (Some g) x = ap Some (eq_same graphs_apart g (Some i) x)
 
     pub member_row : IsPatternRow n d mode (pattern_names mode p) (row_cells row (member_exprs mode p rule))
     member_row =
@@ -267,7 +252,7 @@ module _ (schema : Tables) (rules : List RowRule) (db : Database) (n : ℕ) (p :
         whole : (g : Option Term) → IsIn d mode g →
             IsPermutation (map (λ row. named_solution n (zip (pattern_names mode p) row)) (filter (λ row. graphs_fit (hidden_in mode g) (zip (pattern_names mode p) row)) (distinct one_row all_rows))) (pattern_solutions n p (graph_of d g))
         whole g h = bag_trans (bag_same
-            (ap (map solution) (filter_distinct_on one_row fits all_rows (λ x y a b e. ap fits ((one_row_says n d mode (pattern_names mode p) x y (any_row x a) (any_row y b)).0 e)))
+            (ap (map solution) (filter-distinct rows_apart fits all_rows)
             ∙ distinct_map_on one_row solution_eq solution (filter fits all_rows)
             (λ x y a b. let s = Contains-from_filter fits all_rows x a in let t = Contains-from_filter fits all_rows y b in
             solution_says n d mode (pattern_names mode p) g h x y (any_row x s.0) (any_row y t.0) s.1 t.1)

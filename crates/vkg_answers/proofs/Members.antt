@@ -6,19 +6,18 @@ use Rattle.std.proofs.lemmas.List.{map-append}
 use Rattle.std.proofs.Math.Bool.{and-true}
 use Rattle.std.specs.List.{zip}
 use Rattle.std.proofs.lemmas.List.Folds.{list_all-append}
+use Rattle.vkg_lists.proofs.Nothing.{flat_map_nothing}
 use Rattle.vkg_unfold.proofs.PlanColumns.{names_of_places}
-use Rattle.vkg_lists.proofs.Distinct.{distinct-map}
-use Rattle.vkg_lists.proofs.Walks.{filter-map, filter-filter, map-map, filter_map_is_flat_map, filter-flat_map, flat_map-flat_map, map-flat_map}
-use Rattle.vkg_lists.proofs.Members.{flat_map_agree_on, Contains-here, Contains-there}
+use Rattle.vkg_lists.proofs.Distinct.{distinct-map, Contains-from_distinct}
+use Rattle.vkg_lists.proofs.Walks.{filter-map, filter-filter, map-map, filter_map_is_flat_map, filter-flat_map, flat_map-flat_map, map-flat_map, map_filter_is_flat_map}
+use Rattle.vkg_lists.proofs.Members.{flat_map_agree_on, all_of_each, each_of_all}
 use Rattle.vkg_lists.proofs.Counts.{eq_same}
 use Rattle.vkg_lists.specs.Sets.{distinct}
-use Rattle.vkg_lists.proofs.Bools.{and_parts}
 use Rattle.vkg_terms.specs.declared.term.Term.{Term}
-use Rattle.vkg_terms.specs.NQuads.{Quad}
 use Rattle.vkg_terms.specs.Same.{term_eq}
 use Rattle.vkg_cells.specs.declared.cell.Cell.{Cell}
 use Rattle.vkg_schema.specs.Rows.{Row, Database}
-use Rattle.vkg_maps.specs.Dataset.{graph_eq, quad_from}
+use Rattle.vkg_maps.specs.Dataset.{graph_eq}
 use Rattle.vkg_sparql.specs.declared.pattern.Node.{Node}
 use Rattle.vkg_sparql.specs.declared.pattern.Node.TheVariants.{Variable, Label, Fixed}
 use Rattle.vkg_sparql.specs.declared.pattern.TriplePattern.{TriplePattern}
@@ -32,7 +31,7 @@ use Rattle.vkg_expr.specs.Value.{value_of, term_of, term_cell, holds}
 use Rattle.vkg_expr.proofs.ReadBack.{term_back}
 use Rattle.vkg_plan.specs.Kinds.{Tables}
 use Rattle.vkg_row_rules.specs.declared.row_rule.RowRule.{RowRule}
-use Rattle.vkg_row_rules.specs.RowDataset.{rule_rows, term_at, graph_at, quads_of}
+use Rattle.vkg_row_rules.specs.RowDataset.{rule_rows, term_at, graph_at, quads_of, quad_at}
 use Rattle.vkg_unfold.specs.declared.mode.Mode.{Mode}
 use Rattle.vkg_unfold.specs.declared.mode.Mode.TheVariants.{Default, InGraph, Each}
 use Rattle.vkg_unfold.specs.Unfolded.{Name, name_eq, Named, same_name, named, constants, repeats, places, if_each, graph_exprs, not_null, graph_test, rule_member, pattern_member, pattern_places, pattern_names, graph_terms}
@@ -138,17 +137,8 @@ module _ (mode : Mode) (p : TriplePattern) (rule : RowRule) (test : List Expr) (
   named_fit o ((Variable v, e) ∷ zs) = named_fit o zs
   named_fit o ((Label v, e) ∷ zs) = named_fit o zs
 
-  fit-filter : (o : Option Term) (f : Entry → Bool) (zs : List Entry) → graphs_fit o zs ≡ true → graphs_fit o (filter f zs) ≡ true
-  fit-filter o f [] h = refl
-  fit-filter o f (z ∷ zs) h = let b = and_parts (graph_fits o z) (graphs_fit o zs) h in of (f z) b.0 (fit-filter o f zs b.1)
-    where
-      of : (a : Bool) → graph_fits o z ≡ true → graphs_fit o (filter f zs) ≡ true → graphs_fit o (if a then z ∷ filter f zs else filter f zs) ≡ true
-      of true x y = λ i. x i && y i
-      of false x y = y
-
   fit-distinct : (o : Option Term) (zs : List Entry) → graphs_fit o zs ≡ true → graphs_fit o (distinct same_entry zs) ≡ true
-  fit-distinct o [] h = refl
-  fit-distinct o (z ∷ zs) h = let b = and_parts (graph_fits o z) (graphs_fit o zs) h in λ i. b.0 i && fit-filter o (λ y. not (same_entry z y)) (distinct same_entry zs) (fit-distinct o zs b.1) i
+  fit-distinct o zs h = all_of_each (graph_fits o) (distinct same_entry zs) (λ x c. each_of_all (graph_fits o) zs h x (Contains-from_distinct same_entry zs x c))
 
   pub member_fits : (d : Dataset) (g : Option Term) → IsIn d mode g → graphs_fit (hidden_in mode g) (zip (pattern_names mode p) (row_cells row (member_exprs mode p rule))) ≡ graph_is mode g rule.graph row
   member_fits d g h =
@@ -171,7 +161,7 @@ member_conditions p rule test = not_null rule ++ test ++ (flat_map constants (pl
 
 module _ (n : ℕ) (d : Dataset) (mode : Mode) (g : Option Term) (h : IsIn d mode g) (p : TriplePattern) (below : NodeBelow n p.subject × NodeBelow n p.predicate × NodeBelow n p.object) (rule : RowRule) where
   abbrev pub answers_at : Row → List Solution
-  answers_at row = flat_map (triple_solutions n p) (filter (λ q. graph_eq q.graph g) (option_to_list (quad_from (term_at rule.subject row) (term_at rule.predicate row) (term_at rule.object row) (graph_at rule.graph row))))
+  answers_at row = flat_map (triple_solutions n p) (filter (λ q. graph_eq q.graph g) (option_to_list (quad_at rule row)))
 
   abbrev pub solution_at : Row → Solution
   solution_at row = named_solution n (pattern_entries p (value_of (term_expr rule.subject) row) (value_of (term_expr rule.predicate) row) (value_of (term_expr rule.object) row))
@@ -239,18 +229,6 @@ module _ (n : ℕ) (d : Dataset) (mode : Mode) (g : Option Term) (h : IsIn d mod
 
 -- ---- all rows of a rule, and of all rules
 
-pub map_filter_flat : {A B : Type 0} (f : A → B) (c : A → Bool) (xs : List A) → map f (filter c xs) ≡ flat_map (λ x. if c x then f x ∷ [] else []) xs
-map_filter_flat f c [] = refl
-map_filter_flat f c (x ∷ xs) = of (map_filter_flat f c xs) (c x)
-  where
-    of : map f (filter c xs) ≡ flat_map (λ x. if c x then f x ∷ [] else []) xs → (b : Bool) → map f (if b then x ∷ filter c xs else filter c xs) ≡ (if b then f x ∷ [] else []) ++ flat_map (λ x. if c x then f x ∷ [] else []) xs
-    of rest true = ap (λ ys. f x ∷ ys) rest
-    of rest false = rest
-
-pub flat_nothing : {A B : Type 0} (f : A → List B) (xs : List A) → ((x : A) → Contains xs x → [] ≡ f x) → [] ≡ flat_map f xs
-flat_nothing f [] h = refl
-flat_nothing f (x ∷ xs) h = λ i. h x (Contains-here x xs) i ++ flat_nothing f xs (λ y c. h y (Contains-there x xs y c)) i
-
 module _ (schema : Tables) (db : Database) (n : ℕ) (d : Dataset) (mode : Mode) (g : Option Term) (h : IsIn d mode g) (p : TriplePattern) (below : NodeBelow n p.subject × NodeBelow n p.predicate × NodeBelow n p.object) where
   abbrev pub row_solution : Row → Solution
   row_solution row = named_solution n (zip (pattern_names mode p) row)
@@ -260,12 +238,9 @@ module _ (schema : Tables) (db : Database) (n : ℕ) (d : Dataset) (mode : Mode)
 
   quads_are : (rule : RowRule) → flat_map (triple_solutions n p) (filter (λ q. graph_eq q.graph g) (quads_of schema db rule)) ≡ flat_map (answers_at n d mode g h p below rule) (rule_rows schema db rule.table rule.join)
   quads_are rule =
-      ap (λ qs. flat_map (triple_solutions n p) (filter (λ q. graph_eq q.graph g) qs)) (filter_map_is_flat_map quad (rule_rows schema db rule.table rule.join))
-      ∙ ap (flat_map (triple_solutions n p)) (filter-flat_map (λ q. graph_eq q.graph g) (λ row. option_to_list (quad row)) (rule_rows schema db rule.table rule.join))
-      ∙ flat_map-flat_map (triple_solutions n p) (λ row. filter (λ q. graph_eq q.graph g) (option_to_list (quad row))) (rule_rows schema db rule.table rule.join)
-    where
-      quad : Row → Option Quad
-      quad row = quad_from (term_at rule.subject row) (term_at rule.predicate row) (term_at rule.object row) (graph_at rule.graph row)
+      ap (λ qs. flat_map (triple_solutions n p) (filter (λ q. graph_eq q.graph g) qs)) (filter_map_is_flat_map (quad_at rule) (rule_rows schema db rule.table rule.join))
+      ∙ ap (flat_map (triple_solutions n p)) (filter-flat_map (λ q. graph_eq q.graph g) (λ row. option_to_list (quad_at rule row)) (rule_rows schema db rule.table rule.join))
+      ∙ flat_map-flat_map (triple_solutions n p) (λ row. filter (λ q. graph_eq q.graph g) (option_to_list (quad_at rule row))) (rule_rows schema db rule.table rule.join)
 
   pub rule_answers : (rule : RowRule) → ((row : Row) → Contains (rule_rows schema db rule.table rule.join) row → NeverDefault rule.graph row) →
       map row_solution (filter row_fits (rows_or_none schema db (pattern_member schema mode p rule))) ≡ flat_map (triple_solutions n p) (filter (λ q. graph_eq q.graph g) (quads_of schema db rule))
@@ -280,13 +255,13 @@ module _ (schema : Tables) (db : Database) (n : ℕ) (d : Dataset) (mode : Mode)
       of : (o : Option (List Expr)) → graph_test mode rule.graph ≡ o →
           map row_solution (filter row_fits (rows_or_none schema db (rule_member schema rule (member_exprs mode p rule) (flat_map constants (places p rule) ++ repeats [] (flat_map named (places p rule))) o)))
           ≡ flat_map (answers_at n d mode g h p below rule) (rule_rows schema db rule.table rule.join)
-      of None e = flat_nothing (answers_at n d mode g h p below rule) rows (λ row c. row_none n d mode g h p below rule e row (k row c))
+      of None e = sym (flat_map_nothing (answers_at n d mode g h p below rule) rows (λ row c. sym (row_none n d mode g h p below rule e row (k row c))))
       of (Some test) e =
           ap (λ rs. map row_solution (filter row_fits rs)) (member_rows schema db rule es (member_conditions p rule test))
           ∙ ap (map row_solution) (filter-map row_fits (λ row. row_cells row es) (filter (all_hold (member_conditions p rule test)) rows))
           ∙ map-map row_solution (λ row. row_cells row es) (filter (λ row. row_fits (row_cells row es)) (filter (all_hold (member_conditions p rule test)) rows))
           ∙ ap (map (λ row. row_solution (row_cells row es))) (filter-filter (λ row. row_fits (row_cells row es)) (all_hold (member_conditions p rule test)) rows)
-          ∙ map_filter_flat (λ row. row_solution (row_cells row es)) (λ row. all_hold (member_conditions p rule test) row && row_fits (row_cells row es)) rows
+          ∙ map_filter_is_flat_map (λ row. row_solution (row_cells row es)) (λ row. all_hold (member_conditions p rule test) row && row_fits (row_cells row es)) rows
           ∙ flat_map_agree_on (λ row. if all_hold (member_conditions p rule test) row && row_fits (row_cells row es) then row_solution (row_cells row es) ∷ [] else []) (answers_at n d mode g h p below rule) rows
           (λ row c.
           (λ i. if all_hold (member_conditions p rule test) row && member_fits mode p rule test e row d g h i then member_solution mode p rule test e row n i ∷ [] else [])

@@ -1,16 +1,17 @@
 -- A basic graph pattern: its rows stand for its solutions, if those of each triple pattern do.
-use Rattle.std.proofs.Common.{◌≡◌, ℕ, zero, suc, ◌+◌, ◌<◌, ◌⊎◌, inl, inr, Bool, true, false, ⊎_elim, List, [], ◌∷◌, ◌++◌, map, length, refl, sym, ap, subst, ◌∙◌, arith, true≢false, append-nil}
-use Rattle.std.specs.Prelude.{Option, Some, None, ◌&&◌, ◌||◌, Contains, filter, flat_map, slice_set, nat_eq, if◌then◌else◌}
+use Rattle.std.proofs.Common.{◌≡◌, ℕ, ◌⊎◌, inl, inr, Bool, true, false, ⊎_elim, List, [], ◌∷◌, ◌++◌, map, length, refl, sym, ap, subst, ◌∙◌, arith, true≢false, append-nil}
+use Rattle.std.specs.Prelude.{Option, Some, None, ◌&&◌, ◌||◌, Contains, filter, flat_map, nat_eq, if◌then◌else◌}
 use Rattle.std.specs.Option.{option_map_or}
 use Rattle.std.specs.List.Sorted.{IsPermutation}
 use Rattle.std.specs.List.{list_any, zip}
-use Rattle.std.proofs.lemmas.Bool.{eqb-true, or_cases}
+use Rattle.std.proofs.lemmas.Bool.{or_cases}
 use Rattle.std.proofs.lemmas.List.{map-append}
 use Rattle.std.proofs.lemmas.List.Elements.{Contains-append_cases}
+use Rattle.std.proofs.lemmas.List.Folds.{list_any-append}
 use Rattle.vkg_lists.proofs.Tests.{nat_test}
-use Rattle.vkg_lists.proofs.Distinct.{Contains-from_distinct}
+use Rattle.vkg_lists.proofs.Distinct.{any_of-distinct}
 use Rattle.vkg_lists.proofs.Bags.{bag_same, bag_trans, bag_map}
-use Rattle.vkg_lists.proofs.Counts.{eq_itself, eq_comm, Decides-list_any}
+use Rattle.vkg_lists.proofs.Counts.{eq_comm}
 use Rattle.vkg_lists.proofs.Walks.{filter-map, filter-filter, map-map}
 use Rattle.vkg_lists.proofs.Members.{Contains-none, Contains-here, Contains-there, Contains-from_map, Contains-from_filter, Contains-from_flat_map, map_agree_on, filter_agree_on, each_of_all, all_of_each}
 use Rattle.vkg_lists.proofs.Bools.{or_left, or_right, same_truth}
@@ -41,39 +42,19 @@ use Rattle.vkg_unfold.specs.declared.mode.Mode.TheVariants.{Default, InGraph, Ea
 use Rattle.vkg_unfold.specs.StandsFor.{upto_from, IsIn, belongs, hidden_is, solution_of, solutions_of, term_in}
 use Rattle.vkg_unfold.specs.FineRows.{IsNarrow}
 use Rattle.vkg_unfold.proofs.AlgebraColumns.{name_test}
-use Rattle.vkg_answers.proofs.Reading.{AreBelow, IsTermCell, is_term_cell, read_project, has-append, has-each_once}
+use Rattle.vkg_answers.proofs.Reading.{AreBelow, IsTermCell, is_term_cell, read_project, has-each_once, set_at}
 use Rattle.vkg_answers.proofs.Modes.{IsRowOf, cell_at-after, hidden_found}
 use Rattle.vkg_answers.proofs.Steps.{Stands, projected, project_rows, IsGraphCell}
 use Rattle.vkg_answers.proofs.Entries.{Entry, first, alike, named_term, named_solution, repeats_alike, AreAlike}
 use Rattle.vkg_answers.proofs.Links.{first_cases, first_alike, are_alike}
-use Rattle.vkg_answers.proofs.Columns.{cells-append, place_first, numbered_cells, graph_fits, graphs_fit, fits_term, HasGraphEntry, IsNamedRow, PatternStands, fits, product_row, product_bag}
+use Rattle.vkg_answers.proofs.Columns.{cells-append, place_first, numbered_cells, graph_fits, graphs_fit, fits_term, HasGraphEntry, IsNamedRow, PatternStands, fits, product_row, product_bag, names}
 
 -- ---- without labels
-
-set_none : (f : ℕ → Option Term) (n k v w : ℕ) → w ≡ k + v → slice_set (map f (upto_from k n)) v None ≡ map (λ u. if nat_eq w u then None else f u) (upto_from k n)
-set_none f zero k v w e = refl
-set_none f (suc n) k zero w e = let g : w ≡ k = omega arith in λ i. here g i ∷ past f n (suc k) w (omega arith) i
-  where
-    here : w ≡ k → None ≡ (if nat_eq w k then None else f k)
-    here g = Prim.rw (ap (nat_eq w) (sym g) ∙ eq_itself nat_test w) refl
-
-    past : (f : ℕ → Option Term) (n k w : ℕ) → w < k → map f (upto_from k n) ≡ map (λ u. if nat_eq w u then None else f u) (upto_from k n)
-    past f zero k w h = refl
-    past f (suc n) k w h = λ i. one (nat_eq w k) refl i ∷ past f n (suc k) w (omega arith) i
-      where
-        one : (b : Bool) → nat_eq w k ≡ b → f k ≡ (if b then None else f k)
-        one true e = absurd (omega (arith, h, eqb-true w k e))
-        one false e = refl
-set_none f (suc n) k (suc v) w e = λ i. one (nat_eq w k) refl i ∷ set_none f n (suc k) v w (omega arith) i
-  where
-    one : (b : Bool) → nat_eq w k ≡ b → f k ≡ (if b then None else f k)
-    one true g = absurd (omega (arith, e, eqb-true w k g))
-    one false g = refl
 
 pub without-map : (n : ℕ) (vs : List ℕ) (f : ℕ → Option Term) → without vs (map f (upto_from 0 n)) ≡ map (λ v. if has vs v then None else f v) (upto_from 0 n)
 without-map n [] f = refl
 without-map n (w ∷ vs) f =
-    ap (without vs) (set_none f n 0 w w (omega arith))
+    ap (without vs) (set_at None f n 0 w w (omega arith))
     ∙ without-map n vs (λ u. if nat_eq w u then None else f u)
     ∙ (λ i. map (λ v. (ap (λ b. if has vs v then None else (if b then None else f v)) (eq_comm nat_test w v) ∙ of v (nat_eq v w) (has vs v)) i) (upto_from 0 n))
   where
@@ -93,26 +74,14 @@ first_absent x (y ∷ ns) (c ∷ row) h = of (first_absent x ns row) (name_eq x 
     of rest true k = absurd (true≢false k)
     of rest false k = rest k
 
-member-append : (x : Name) (ns ms : List Name) → list_any (name_eq x) (ns ++ ms) ≡ (list_any (name_eq x) ns || list_any (name_eq x) ms)
-member-append x [] ms = refl
-member-append x (y ∷ ns) ms = of (member-append x ns ms) (name_eq x y)
-  where
-    of : list_any (name_eq x) (ns ++ ms) ≡ (list_any (name_eq x) ns || list_any (name_eq x) ms) → (b : Bool) → (b || list_any (name_eq x) (ns ++ ms)) ≡ ((b || list_any (name_eq x) ns) || list_any (name_eq x) ms)
-    of rest true = refl
-    of rest false = rest
-
--- a name in a list with each once is in the list
-member-once : (x : Name) (ns : List Name) → list_any (name_eq x) (distinct name_eq ns) ≡ true → list_any (name_eq x) ns ≡ true
-member-once x ns h = (Decides-list_any name_test ns x).1 (Contains-from_distinct name_eq ns x ((Decides-list_any name_test (distinct name_eq ns) x).0 h))
-
 -- what a node names is a variable or a label
 abbrev IsKnown : List ℕ → List ℕ → ℕ → Type 0
 IsKnown vs ls v = (has vs v ≡ true) ⊎ (has ls v ≡ true)
 
 known_append : (vs ls ws ms : List ℕ) (v : ℕ) → IsKnown vs ls v ⊎ IsKnown ws ms v → IsKnown (vs ++ ws) (ls ++ ms) v
 known_append vs ls ws ms v k = ⊎_elim
-    (λ a. ⊎_elim (λ e. inl (has-append vs ws v ∙ or_left (has vs v) (has ws v) e)) (λ e. inr (has-append ls ms v ∙ or_left (has ls v) (has ms v) e)) a)
-    (λ a. ⊎_elim (λ e. inl (has-append vs ws v ∙ or_right (has vs v) (has ws v) e)) (λ e. inr (has-append ls ms v ∙ or_right (has ls v) (has ms v) e)) a) k
+    (λ a. ⊎_elim (λ e. inl (list_any-append (nat_eq v) vs ws ∙ or_left (has vs v) (has ws v) e)) (λ e. inr (list_any-append (nat_eq v) ls ms ∙ or_left (has ls v) (has ms v) e)) a)
+    (λ a. ⊎_elim (λ e. inl (list_any-append (nat_eq v) vs ws ∙ or_right (has vs v) (has ws v) e)) (λ e. inr (list_any-append (nat_eq v) ls ms ∙ or_right (has ls v) (has ms v) e)) a) k
 
 node_known : (x : Node) (v : ℕ) → list_any (name_eq (Some v)) (node_names x) ≡ true → IsKnown (node_variables x) (node_labels x) v
 node_known (Variable w) v h = inl h
@@ -127,14 +96,14 @@ not_hidden Each v = refl
 pattern_known : (mode : Mode) (p : TriplePattern) (v : ℕ) → list_any (name_eq (Some v)) (pattern_names mode p) ≡ true → IsKnown (pattern_variables p) (node_labels p.subject ++ node_labels p.predicate ++ node_labels p.object) v
 pattern_known mode p v h =
     let a = or_cases (list_any (name_eq (Some v)) (distinct name_eq (flat_map node_names (p.subject ∷ p.predicate ∷ p.object ∷ [])))) (list_any (name_eq (Some v)) (if_each mode None))
-    (sym (member-append (Some v) (distinct name_eq (flat_map node_names (p.subject ∷ p.predicate ∷ p.object ∷ []))) (if_each mode None)) ∙ h) in
-    let b = member-once (Some v) (flat_map node_names (p.subject ∷ p.predicate ∷ p.object ∷ [])) (⊎_elim (λ e. e) (λ e. absurd (true≢false (sym e ∙ not_hidden mode v))) a) in
-    let c = or_cases (list_any (name_eq (Some v)) (node_names p.subject)) (list_any (name_eq (Some v)) (node_names p.predicate ++ (node_names p.object ++ []))) (sym (member-append (Some v) (node_names p.subject) (node_names p.predicate ++ (node_names p.object ++ []))) ∙ b) in
+    (sym (list_any-append (name_eq (Some v)) (distinct name_eq (flat_map node_names (p.subject ∷ p.predicate ∷ p.object ∷ []))) (if_each mode None)) ∙ h) in
+    let b = sym (any_of-distinct name_test (flat_map node_names (p.subject ∷ p.predicate ∷ p.object ∷ [])) (Some v)) ∙ (⊎_elim (λ e. e) (λ e. absurd (true≢false (sym e ∙ not_hidden mode v))) a) in
+    let c = or_cases (list_any (name_eq (Some v)) (node_names p.subject)) (list_any (name_eq (Some v)) (node_names p.predicate ++ (node_names p.object ++ []))) (sym (list_any-append (name_eq (Some v)) (node_names p.subject) (node_names p.predicate ++ (node_names p.object ++ []))) ∙ b) in
     known_append (node_variables p.subject ++ node_variables p.predicate) (node_labels p.subject ++ node_labels p.predicate) (node_variables p.object) (node_labels p.object) v
     (⊎_elim
     (λ s. inl (known_append (node_variables p.subject) (node_labels p.subject) (node_variables p.predicate) (node_labels p.predicate) v (inl (node_known p.subject v s))))
     (λ r.
-    let e = or_cases (list_any (name_eq (Some v)) (node_names p.predicate)) (list_any (name_eq (Some v)) (node_names p.object ++ [])) (sym (member-append (Some v) (node_names p.predicate) (node_names p.object ++ [])) ∙ r) in
+    let e = or_cases (list_any (name_eq (Some v)) (node_names p.predicate)) (list_any (name_eq (Some v)) (node_names p.object ++ [])) (sym (list_any-append (name_eq (Some v)) (node_names p.predicate) (node_names p.object ++ [])) ∙ r) in
     ⊎_elim
     (λ q. inl (known_append (node_variables p.subject) (node_labels p.subject) (node_variables p.predicate) (node_labels p.predicate) v (inr (node_known p.predicate v q))))
     (λ q. inr (node_known p.object v (sym (ap (list_any (name_eq (Some v))) (append-nil (node_names p.object))) ∙ q))) e)
@@ -145,7 +114,7 @@ names_known mode [] v h = absurd (true≢false (sym h))
 names_known mode (p ∷ ps) v h =
     known_append (pattern_variables p) (node_labels p.subject ++ node_labels p.predicate ++ node_labels p.object) (flat_map pattern_variables ps) (labels_of ps) v
     (⊎_elim (λ e. inl (pattern_known mode p v e)) (λ e. inr (names_known mode ps v e))
-    (or_cases (list_any (name_eq (Some v)) (pattern_names mode p)) (list_any (name_eq (Some v)) (flat_map (pattern_names mode) ps)) (sym (member-append (Some v) (pattern_names mode p) (flat_map (pattern_names mode) ps)) ∙ h)))
+    (or_cases (list_any (name_eq (Some v)) (pattern_names mode p)) (list_any (name_eq (Some v)) (flat_map (pattern_names mode) ps)) (sym (list_any-append (name_eq (Some v)) (pattern_names mode p) (flat_map (pattern_names mode) ps)) ∙ h)))
 
 -- ---- the graph of a whole row
 
@@ -156,9 +125,6 @@ first_stays x (z ∷ zs) ws t h = of (first_stays x zs ws t) (name_eq x z.0) h
     of : (first x zs ≡ cell.Term t → first x (zs ++ ws) ≡ cell.Term t) → (b : Bool) → (if b then z.1 else first x zs) ≡ cell.Term t → (if b then z.1 else first x (zs ++ ws)) ≡ cell.Term t
     of rest true k = k
     of rest false k = rest k
-
-abbrev names : Mode → List TriplePattern → List Name
-names mode ps = flat_map (pattern_names mode) ps
 
 abbrev pub AllStand : ℕ → Dataset → Mode → (TriplePattern → List Row) → List TriplePattern → Type 0
 AllStand n d mode R ps = (p : TriplePattern) → Contains ps p → PatternStands n d mode p (R p)

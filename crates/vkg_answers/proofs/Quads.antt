@@ -1,7 +1,8 @@
 -- One row of a rule: it gives a row of a triple pattern exactly where its quad gives a solution.
-use Rattle.std.proofs.Common.{◌≡◌, ℕ, ◌<◌, Bool, true, false, ⊎_elim, List, [], ◌∷◌, ◌++◌, map, refl, sym, ap, ◌∙◌, arith, append-nil}
+use Rattle.std.proofs.Common.{◌≡◌, ℕ, ◌<◌, Bool, true, false, ⊎_elim, List, [], ◌∷◌, ◌++◌, map, refl, sym, ap, ◌∙◌, arith, append-nil, subst}
 use Rattle.std.proofs.Math.Bool.{and-true}
-use Rattle.std.specs.Prelude.{Option, Some, None, ◌&&◌, filter, flat_map, nat_eq, is_some, if◌then◌else◌, ⊤}
+use Rattle.std.proofs.lemmas.List.Elements.{Contains-append_cases}
+use Rattle.std.specs.Prelude.{Option, Some, None, ◌&&◌, filter, flat_map, nat_eq, is_some, if◌then◌else◌, ⊤, Contains}
 use Rattle.std.specs.Option.{option_map_or, option_to_list}
 use Rattle.std.specs.List.{list_all}
 use Rattle.vkg_lists.proofs.Tests.{nat_test}
@@ -80,10 +81,14 @@ NodeBelow n (Variable v) = v < n
 NodeBelow n (Label v) = v < n
 NodeBelow n (Fixed t) = ⊤
 
+-- what holds of a node's cell holds of its entries
+pub node_all : (P : Cell → Type 0) (x : Node) (c : Cell) → P c → (e : Entry) → Contains (node_entries x c) e → P e.1
+node_all P (Variable v) c h e k = ⊎_elim (λ f. subst (λ (z : Entry). P z.1) f h) (λ f. absurd (Contains-none e f)) (Contains-cons_cases (Some v, c) [] e k)
+node_all P (Label v) c h e k = ⊎_elim (λ f. subst (λ (z : Entry). P z.1) f h) (λ f. absurd (Contains-none e f)) (Contains-cons_cases (Some v, c) [] e k)
+node_all P (Fixed t) c h e k = absurd (Contains-none e k)
+
 pub node_terms : (x : Node) (t : Term) → AreTerms (node_entries x (cell.Term t))
-node_terms (Variable v) t z c = ⊎_elim (λ e. (t, ap (λ (w : Entry). w.1) (sym e))) (λ k. absurd (Contains-none z k)) (Contains-cons_cases (Some v, cell.Term t) [] z c)
-node_terms (Label v) t z c = ⊎_elim (λ e. (t, ap (λ (w : Entry). w.1) (sym e))) (λ k. absurd (Contains-none z k)) (Contains-cons_cases (Some v, cell.Term t) [] z c)
-node_terms (Fixed u) t z c = absurd (Contains-none z c)
+node_terms x t = node_all (λ c. (u : Term) × (c ≡ cell.Term u)) x (cell.Term t) (t, refl)
 
 one_below : (n v : ℕ) (c : Cell) → v < n → NamesBelow n ((Some v, c) ∷ [])
 one_below n v c h z k w e = ⊎_elim
@@ -110,6 +115,13 @@ pattern_cells p c d e = (p.subject, c) ∷ (p.predicate, d) ∷ (p.object, e) �
 
 abbrev pub pattern_entries : TriplePattern → Cell → Cell → Cell → List Entry
 pattern_entries p c d e = flat_map (λ (x : Node × Cell). node_entries x.0 x.1) (pattern_cells p c d e)
+
+module _ (p : TriplePattern) (c d e : Cell) (x : Entry) where
+  -- which node an entry comes from
+  pub entry_from : {Q : Type 0} → (Contains (node_entries p.subject c) x → Q) → (Contains (node_entries p.predicate d) x → Q) → (Contains (node_entries p.object e) x → Q) → Contains (pattern_entries p c d e) x → Q
+  entry_from f g h k = ⊎_elim f
+      (λ l. ⊎_elim g (λ m. ⊎_elim h (λ o. absurd (Contains-none x o)) (Contains-append_cases (node_entries p.object e) [] x m)) (Contains-append_cases (node_entries p.predicate d) (node_entries p.object e ++ []) x l))
+      (Contains-append_cases (node_entries p.subject c) (node_entries p.predicate d ++ (node_entries p.object e ++ [])) x k)
 
 abbrev pub pattern_ok : TriplePattern → Cell → Cell → Cell → Bool
 pattern_ok p c d e = list_all (λ (x : Node × Cell). node_ok x.0 x.1) (pattern_cells p c d e)

@@ -1,11 +1,17 @@
 -- Reading rows: cells of terms, a variable's cell, the columns of a Project and of two rows joined.
 use Rattle.std.proofs.Common.{◌≡◌, ℕ, zero, suc, ◌+◌, ◌<◌, ◌≤◌, ⊎_elim, Bool, true, false, List, [], ◌∷◌, ◌++◌, map, length, refl, sym, ap, ◌∙◌, arith, true≢false}
-use Rattle.std.specs.Prelude.{Option, Some, None, not, ◌&&◌, ◌||◌, nat_eq, replicate, filter, if◌then◌else◌}
+use Rattle.std.specs.Prelude.{Option, Some, None, ◌&&◌, ◌||◌, nat_eq, replicate, filter, if◌then◌else◌, slice_set}
 use Rattle.std.specs.Option.{option_or}
 use Rattle.std.proofs.lemmas.Bool.{eqb-true, cases_lt}
-use Rattle.std.proofs.Math.Bool.{and-false, and-true}
+use Rattle.std.proofs.lemmas.List.Folds.{list_any-append}
+use Rattle.std.proofs.lemmas.Map.Made.{is_member-filter}
+use Rattle.std.proofs.lemmas.Option.{unwrap_or-slice_get}
 use Rattle.vkg_lists.proofs.Tests.{nat_test}
 use Rattle.vkg_lists.proofs.Counts.{eq_itself}
+use Rattle.vkg_lists.proofs.Texts.{IsEquivalence-test}
+use Rattle.vkg_lists.proofs.Distinct.{any_of-distinct}
+use Rattle.vkg_lists.proofs.Heads.{replicate_same}
+use Rattle.vkg_lists.proofs.Onto.{or_none}
 use Rattle.vkg_terms.specs.declared.term.Term.{Term}
 use Rattle.vkg_cells.specs.declared.cell.Cell.{Cell}
 use Rattle.vkg_cells.specs.declared.cell.Cell.TheVariants as cell
@@ -34,9 +40,7 @@ is_term_cell c (Some t) e h = Prim.rw e (refl, h)
 -- ---- cells of rows
 
 pub cell_at-nulls : (n k : ℕ) → cell_at (replicate n cell.Null) k ≡ cell.Null
-cell_at-nulls zero k = refl
-cell_at-nulls (suc n) zero = refl
-cell_at-nulls (suc n) (suc k) = cell_at-nulls n k
+cell_at-nulls n k = unwrap_or-slice_get (replicate n cell.Null) k cell.Null ∙ replicate_same n k cell.Null
 
 -- ---- places of variables
 
@@ -50,41 +54,14 @@ read_place g (w ∷ vs) rest v h = of (λ k. read_place g vs rest v k) (nat_eq v
 
 -- ---- has
 
-pub has-append : (vs ws : List ℕ) (v : ℕ) → has (vs ++ ws) v ≡ (has vs v || has ws v)
-has-append [] ws v = refl
-has-append (w ∷ vs) ws v = of (has-append vs ws v) (nat_eq v w)
-  where
-    of : has (vs ++ ws) v ≡ (has vs v || has ws v) → (b : Bool) → (b || has (vs ++ ws) v) ≡ ((b || has vs v) || has ws v)
-    of rest true = refl
-    of rest false = rest
-
 pub has-filter : (p : ℕ → Bool) (vs : List ℕ) (v : ℕ) → has (filter p vs) v ≡ (has vs v && p v)
-has-filter p [] v = refl
-has-filter p (w ∷ vs) v = of (has-filter p vs v) (p w) refl (nat_eq v w) refl
-  where
-    of : has (filter p vs) v ≡ (has vs v && p v) → (b : Bool) → p w ≡ b → (c : Bool) → nat_eq v w ≡ c → has (if b then w ∷ filter p vs else filter p vs) v ≡ ((c || has vs v) && p v)
-    of rest true e true f = let g : v ≡ w = eqb-true v w f in Prim.rw (f, ap p g, e) refl
-    of rest true e false f = Prim.rw f rest
-    of rest false e true f = let g : v ≡ w = eqb-true v w f in rest ∙ Prim.rw (ap p g, e) (and-false (has vs v))
-    of rest false e false f = rest
+has-filter p vs v = is_member-filter (IsEquivalence-test nat_test) p v (λ w e. ap p (eqb-true v w e)) vs
 
 pub has-each_once : (vs : List ℕ) (v : ℕ) → has (each_once vs) v ≡ has vs v
-has-each_once [] v = refl
-has-each_once (w ∷ vs) v = of (has-each_once vs v) (nat_eq v w) refl
-  where
-    other : (b : Bool) → nat_eq w v ≡ b → nat_eq v w ≡ false → not b ≡ true
-    other true f e = absurd (true≢false (sym (eq_itself nat_test v) ∙ ap (nat_eq v) (sym (eqb-true w v f)) ∙ e))
-    other false f e = refl
-
-    apart : nat_eq v w ≡ false → not (nat_eq w v) ≡ true
-    apart e = other (nat_eq w v) refl e
-
-    of : has (each_once vs) v ≡ has vs v → (b : Bool) → nat_eq v w ≡ b → (b || has (filter (λ y. not (nat_eq w y)) (each_once vs)) v) ≡ (b || has vs v)
-    of rest true e = refl
-    of rest false e = has-filter (λ y. not (nat_eq w y)) (each_once vs) v ∙ Prim.rw (rest, apart e) (and-true (has vs v))
+has-each_once vs v = any_of-distinct nat_test vs v
 
 pub has_union : (vs ws : List ℕ) (v : ℕ) → has (each_once (vs ++ ws)) v ≡ (has vs v || has ws v)
-has_union vs ws v = has-each_once (vs ++ ws) v ∙ has-append vs ws v
+has_union vs ws v = has-each_once (vs ++ ws) v ∙ list_any-append (nat_eq v) vs ws
 
 -- ---- a variable's cell
 
@@ -134,10 +111,6 @@ coalesced_terms c d None None e f = Prim.rw (e, f) refl
 coalesced_terms c d None (Some u) e f = Prim.rw (e, f) refl
 coalesced_terms c d (Some t) p e f = Prim.rw e refl
 
-pub none_right : (o : Option Term) → option_or o None ≡ o
-none_right None = refl
-none_right (Some t) = refl
-
 -- what two term cells have as one
 pub read_merged : (mode : Mode) (vs ws : List ℕ) (l r : Row) → length l ≡ columns_in mode vs → length vs ≤ length l → AreTermCells l → AreTermCells r → (v : ℕ) →
     value_of (merged mode vs ws v) (l ++ r) ≡ term_cell (option_or (term_in (visible_column vs) l v) (term_in (visible_column ws) r v))
@@ -156,7 +129,7 @@ read_merged mode vs ws l r m k p q v = of (has vs v) refl (has ws v) refl
         coalesced_terms (value_of (left_column vs v) (l ++ r)) (value_of (right_column mode vs ws v) (l ++ r)) (term_of here) (term_of there)
         (read_left vs l r v k e ∙ (read_typed vs l p v).0) (read_right mode vs ws l r v m f ∙ (read_typed ws r q v).0)
     of true e false f =
-        read_left vs l r v k e ∙ (read_typed vs l p v).0 ∙ ap term_cell (sym (none_right (term_of here)) ∙ ap (λ c. option_or (term_of here) (term_of c)) (sym (read_none ws r v f)))
+        read_left vs l r v k e ∙ (read_typed vs l p v).0 ∙ ap term_cell (sym (or_none (term_of here)) ∙ ap (λ c. option_or (term_of here) (term_of c)) (sym (read_none ws r v f)))
     of false e true f =
         read_right mode vs ws l r v m f ∙ (read_typed ws r q v).0 ∙ ap (λ c. term_cell (option_or (term_of c) (term_of there))) (sym (read_none vs l v e))
     of false e false f = (λ i. term_cell (option_or (term_of (sym (read_none vs l v e) i)) (term_of (sym (read_none ws r v f) i))))
@@ -172,6 +145,27 @@ pub lookup-past : (f : ℕ → Option Term) (n k v : ℕ) → n ≤ v → lookup
 lookup-past f zero k v h = refl
 lookup-past f (suc n) k zero h = absurd (omega arith)
 lookup-past f (suc n) k (suc v) h = lookup-past f n (suc k) v (omega arith)
+
+-- one place set
+pub set_at : (o : Option Term) (f : ℕ → Option Term) (n k v w : ℕ) → w ≡ k + v → slice_set (map f (upto_from k n)) v o ≡ map (λ u. if nat_eq w u then o else f u) (upto_from k n)
+set_at o f zero k v w e = refl
+set_at o f (suc n) k zero w e = let g : w ≡ k = omega arith in λ i. here g i ∷ past f n (suc k) w (omega arith) i
+  where
+    here : w ≡ k → o ≡ (if nat_eq w k then o else f k)
+    here g = Prim.rw (ap (nat_eq w) (sym g) ∙ eq_itself nat_test w) refl
+
+    past : (f : ℕ → Option Term) (n k w : ℕ) → w < k → map f (upto_from k n) ≡ map (λ u. if nat_eq w u then o else f u) (upto_from k n)
+    past f zero k w h = refl
+    past f (suc n) k w h = λ i. one (nat_eq w k) refl i ∷ past f n (suc k) w (omega arith) i
+      where
+        one : (b : Bool) → nat_eq w k ≡ b → f k ≡ (if b then o else f k)
+        one true e = absurd (omega (arith, h, eqb-true w k e))
+        one false e = refl
+set_at o f (suc n) k (suc v) w e = λ i. one (nat_eq w k) refl i ∷ set_at o f n (suc k) v w (omega arith) i
+  where
+    one : (b : Bool) → nat_eq w k ≡ b → f k ≡ (if b then o else f k)
+    one true g = absurd (omega (arith, e, eqb-true w k g))
+    one false g = refl
 
 -- every variable is below n
 abbrev pub AreBelow : ℕ → List ℕ → Type 0

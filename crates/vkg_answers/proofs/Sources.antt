@@ -14,7 +14,7 @@ use Rattle.vkg_terms.proofs.SameLemmas.{terms_apart}
 use Rattle.vkg_cells.specs.declared.cell.Cell.{Cell}
 use Rattle.vkg_cells.specs.Order.{same}
 use Rattle.vkg_cells.specs.declared.cell.Cell.TheVariants as cell
-use Rattle.vkg_schema.specs.Rows.{is_null, Row, Database, rows_of as table_rows}
+use Rattle.vkg_schema.specs.Rows.{Row, Database, rows_of as table_rows}
 use Rattle.vkg_maps.specs.Dataset.{graph_eq, graph_name}
 use Rattle.vkg_maps.specs.declared.quad_rule.Join.{Join}
 use Rattle.vkg_values.specs.Logic.{not3}
@@ -41,6 +41,7 @@ use Rattle.vkg_unfold.specs.FineRows.{NeverDefault}
 use Rattle.vkg_unfold.specs.StandsFor.{IsIn}
 use Rattle.vkg_answers.proofs.Steps.{product-two, project_rows}
 use Rattle.vkg_answers.proofs.Entries.{is_same}
+use Rattle.vkg_answers.proofs.Values.{bound_means}
 
 -- a term map's expression gives its term, or NULL
 pub term_expr_is : (e : TermExpr) (row : Row) → value_of (term_expr e) row ≡ term_cell (term_at e row)
@@ -100,16 +101,8 @@ union_rows schema db n f xs = union_all schema db n (filter_map f xs) ∙ ap (di
 abbrev pub not_nulls : List Expr → List Expr
 not_nulls es = map (λ e. Not (IsNull e)) es
 
-null_cells : Cell → Bool
-null_cells c = unwrap_or (truth_of (truth_cell (not3 (truth_of (cell.Bool (is_null c)))))) false
-
 pub not_null_is : (e : TermExpr) (row : Row) → holds (Not (IsNull (term_expr e))) row ≡ is_some (term_at e row)
-unfolding null_cells
-not_null_is e row = ap null_cells (term_expr_is e row) ∙ of (term_at e row)
-  where
-    of : (o : Option Term) → null_cells (term_cell o) ≡ is_some o
-    of None = refl
-    of (Some t) = refl
+not_null_is e row = ap (λ c. unwrap_or (truth_of c) false) (bound_means (value_of (term_expr e) row) (term_at e row) (term_expr_is e row))
 
 -- the terms of a rule's quad are there, with a graph's
 pub nulls_are : (rule : RowRule) (row : Row) (o : Option TermExpr) → all_hold (not_null (record rule { graph = o })) row

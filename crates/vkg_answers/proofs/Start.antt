@@ -5,11 +5,10 @@ use Rattle.std.specs.List.Sorted.{IsPermutation}
 use Rattle.std.specs.Option.{option_eq}
 use Rattle.vkg_lists.specs.Ascending.{ascending}
 use Rattle.vkg_lists.specs.Sets.{distinct}
-use Rattle.vkg_lists.proofs.Ascending.{ascending_is, ascending_by-bag, ascending_by-sorted}
-use Rattle.vkg_lists.proofs.Bags.{bag_same, bag_sym, bag_trans, bag_map}
-use Rattle.vkg_lists.proofs.Distinct.{bag_distinct}
+use Rattle.vkg_lists.proofs.Ascending.{same_ascending}
+use Rattle.vkg_lists.proofs.Bags.{bag_same, bag_trans, bag_map}
+use Rattle.vkg_lists.proofs.Distinct.{bag_distinct, distinct_map_on}
 use Rattle.vkg_lists.proofs.Members.{Contains-from_map}
-use Rattle.vkg_lists.proofs.Orders.{bytes_linear}
 use Rattle.vkg_lists.proofs.Walks.{map-map, filter_all}
 use Rattle.vkg_terms.specs.declared.term.Term.{Term}
 use Rattle.vkg_terms.specs.Same.{term_eq}
@@ -36,7 +35,6 @@ use Rattle.vkg_unfold.specs.Unfolded.{start_plan, unfolded, visible_column}
 use Rattle.vkg_unfold.specs.StandsFor.{belongs, solution_of}
 use Rattle.vkg_unfold.specs.FineRows.{Meets}
 use Rattle.vkg_answers.specs.Answering.{GivesAnswer, GivesSolutions, row_line, row_solution}
-use Rattle.vkg_answers.proofs.Once.{distinct_map_on}
 use Rattle.vkg_answers.proofs.Reading.{AreBelow, AreTermCells, cells-cons, cells-nil, lookup-solution, read_typed}
 use Rattle.vkg_answers.proofs.Steps.{project_rows}
 use Rattle.vkg_answers.proofs.Theorem.{visible_below}
@@ -120,8 +118,7 @@ module _ (schema : Tables) (rules : List RowRule) (query : Query) (db : Database
   pub start_answer : (rows : List Row) → IsPermutation rows (rows_of schema (start_plan schema rules query) db) →
       header query ∷ ascending (map row_line rows) ≡ header query ∷ ascending (map solution_line (solutions_of query (dataset_of schema rules db)))
   start_answer rows p = ap (λ ls. header query ∷ ls)
-      (ascending_is (map solution_line (solutions_of query (dataset_of schema rules db))) (ascending (map row_line rows))
-      (bag_trans (bag_sym (start_lines rows p)) (ascending_by-bag bytes_linear (map row_line rows))) (ascending_by-sorted bytes_linear (map row_line rows)))
+      (same_ascending (map row_line rows) (map solution_line (solutions_of query (dataset_of schema rules db))) (start_lines rows p))
 
 pub gives_solutions : (schema : Tables) (rules : List RowRule) (query : Query) → IsLawfulQuery query → GivesSolutions (Meets schema rules) schema rules (start_plan schema rules query) query
 gives_solutions schema rules query lawful db meets = start_solutions schema rules query db (lawful_algebra query lawful) meets

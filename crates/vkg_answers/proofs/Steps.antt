@@ -7,8 +7,9 @@ use Rattle.std.specs.List.Sorted.{IsPermutation}
 use Rattle.std.proofs.lemmas.List.Elements.{Contains-append_cases}
 use Rattle.std.proofs.Math.Bool.{and-true}
 use Rattle.vkg_lists.proofs.Bags.{bag_same, bag_trans, bag_append, bag_filter, bag_filter_agree, IsPermutation-induction}
+use Rattle.vkg_lists.proofs.Onto.{or_none}
 use Rattle.vkg_lists.proofs.Walks.{filter-map, filter-filter, map-map}
-use Rattle.vkg_lists.proofs.Members.{Contains-here, Contains-there, Contains-from_map, Contains-from_filter, Contains-from_flat_map}
+use Rattle.vkg_lists.proofs.Members.{Contains-from_map, Contains-from_filter, Contains-from_flat_map, recursion_from_each}
 use Rattle.vkg_terms.specs.declared.term.Term.{Term}
 use Rattle.vkg_cells.specs.declared.cell.Cell.{Cell}
 use Rattle.vkg_cells.specs.declared.cell.Cell.TheVariants as cell
@@ -27,6 +28,7 @@ use Rattle.vkg_expr.proofs.Conjuncts.{values_are}
 use Rattle.vkg_plan.specs.Kinds.{Tables}
 use Rattle.vkg_plan.specs.Plan.{Plan, Project}
 use Rattle.vkg_plan.specs.Rows.{is_alone, pairs, product, left_pairs, rows_of}
+use Rattle.vkg_plan.proofs.Pairs.{pairs-unit}
 use Rattle.vkg_unfold.specs.Conditions.{truth_expr, expr_of, gives_truth, condition_of}
 use Rattle.vkg_unfold.specs.declared.mode.Mode.{Mode}
 use Rattle.vkg_unfold.specs.declared.mode.Mode.TheVariants.{Default, InGraph, Each}
@@ -35,7 +37,7 @@ use Rattle.vkg_unfold.specs.StandsFor.{IsIn, belongs, term_in, solution_of, solu
 use Rattle.vkg_unfold.specs.FineRows.{IsNarrow}
 use Rattle.vkg_answers.proofs.Joins.{bag_join, join_rows, left_rows, merge-map}
 use Rattle.vkg_answers.proofs.Values.{IsNarrowCondition, IsNarrowIfAny, means, truth_meant}
-use Rattle.vkg_answers.proofs.Reading.{AreBelow, AreTermCells, IsTermCell, read_typed, has_union, term_merged, read_merged, solution-merged, merged_typed, nulls_typed, nulls_none, none_right, lookup-solution, cells-map, cells-cons, cells-nil, length-project, narrow_or}
+use Rattle.vkg_answers.proofs.Reading.{AreBelow, AreTermCells, IsTermCell, read_typed, has_union, term_merged, read_merged, solution-merged, merged_typed, nulls_typed, nulls_none, lookup-solution, cells-map, cells-cons, cells-nil, length-project, narrow_or}
 use Rattle.vkg_answers.proofs.Agreement.{agreements, agreements-compatible}
 use Rattle.vkg_answers.proofs.Splits.{pairs_split, left_split}
 use Rattle.vkg_answers.proofs.Modes.{IsRowOf, size_enough, project_merged, cell_at-after, joined, passing, in_graph, join_split, join_near, join_kept}
@@ -44,10 +46,6 @@ use Rattle.vkg_answers.proofs.Modes.{IsRowOf, size_enough, project_merged, cell_
 pub record Stands (n : ℕ) (d : Dataset) (mode : Mode) (vs : List ℕ) (rows : List Row) (answers : Option Term → List Solution) : Type 0 where
   pub are_rows : (row : Row) → Contains rows row → IsRowOf d mode vs row
   pub bag : (g : Option Term) → IsIn d mode g → IsPermutation (solutions_of n vs (filter (belongs mode (length vs) g) rows)) (answers g)
-
-pub every_from : {P : Row → Type 0} (rows : List Row) → ((row : Row) → Contains rows row → P row) → Every P rows
-every_from [] h = tt
-every_from (row ∷ rows) h = (h row (Contains-here row rows), every_from rows (λ x c. h x (Contains-there row rows x c)))
 
 -- ---- bags of joins
 
@@ -105,18 +103,14 @@ module _ (n : ℕ) (d : Dataset) (mode : Mode) (vs ws : List ℕ) where
   merged_padded m l p =
       merged_solution l (replicate m cell.Null) p (nulls_typed m)
       ∙ merge-map (term_in (visible_column vs) l) (term_in (visible_column ws) (replicate m cell.Null)) (upto_from 0 n)
-      ∙ (λ i. map (λ v. (ap (option_or (term_in (visible_column vs) l v)) (nulls_none m ws v) ∙ none_right (term_in (visible_column vs) l v)) i) (upto_from 0 n))
+      ∙ (λ i. map (λ v. (ap (option_or (term_in (visible_column vs) l v)) (nulls_none m ws v) ∙ or_none (term_in (visible_column vs) l v)) i) (upto_from 0 n))
 
   module _ (below : AreBelow n vs) where
     pub vars_compatible : (l r : Row) → IsRowOf d mode vs l → IsRowOf d mode ws r → list_all (λ c. holds c (l ++ r)) (agreements mode vs ws) ≡ compatible (solution_of n vs l) (solution_of n ws r)
     vars_compatible l r p q = agreements-compatible n mode vs ws l r below p.size (size_enough d mode vs l p) p.cells q.cells
 
 pub product-two : (ls rs : List Row) → product (ls ∷ rs ∷ []) ≡ pairs ls rs
-product-two ls rs = ap (pairs ls) (alone rs)
-  where
-    alone : (xs : List Row) → pairs xs ([] ∷ []) ≡ xs
-    alone [] = refl
-    alone (x ∷ xs) = λ i. append-nil x i ∷ alone xs i
+product-two ls rs = ap (pairs ls) (pairs-unit rs)
 
 pub project_rows : (schema : Tables) (db : Database) (es : List Expr) (p : Plan) → rows_of schema (Project es p) db ≡ map (λ row. map (λ e. value_of e row) es) (rows_of schema p db)
 project_rows schema db es p = λ i. map (λ row. values_are es row i) (rows_of schema p db)
@@ -145,17 +139,17 @@ module _ (n : ℕ) (d : Dataset) (mode : Mode) (vs ws : List ℕ) (below : AreBe
 
   every_here : (g : Option Term) → Every (IsRowOf d mode vs) (here g)
   unfolding here
-  every_here g = every_from (filter (belongs mode (length vs) g) ls) (λ row c. a.are_rows row (Contains-from_filter (belongs mode (length vs) g) ls row c).0)
+  every_here g = recursion_from_each _ (filter (belongs mode (length vs) g) ls) (λ row c. a.are_rows row (Contains-from_filter (belongs mode (length vs) g) ls row c).0)
 
   every_there : (g : Option Term) → Every (IsRowOf d mode ws) (there g)
   unfolding there
-  every_there g = every_from (filter (belongs mode (length ws) g) rs) (λ row c. b.are_rows row (Contains-from_filter (belongs mode (length ws) g) rs row c).0)
+  every_there g = recursion_from_each _ (filter (belongs mode (length ws) g) rs) (λ row c. b.are_rows row (Contains-from_filter (belongs mode (length ws) g) rs row c).0)
 
   every_left : Every (IsRowOf d mode vs) ls
-  every_left = every_from ls a.are_rows
+  every_left = recursion_from_each _ ls a.are_rows
 
   every_right : Every (IsRowOf d mode ws) rs
-  every_right = every_from rs b.are_rows
+  every_right = recursion_from_each _ rs b.are_rows
 
   -- a filter of the projected rows is one of the joined rows
   solutions_projected : (g : Option Term) (X : List Row) →

@@ -1,12 +1,11 @@
 -- A triple pattern's plan stands for its solutions.
-use Rattle.std.proofs.Common.{◌≡◌, ℕ, ◌+◌, ◌<◌, Bool, true, false, ⊎_elim, List, [], ◌∷◌, ◌++◌, map, length, refl, sym, ap, subst, ◌∙◌, arith}
+use Rattle.std.proofs.Common.{◌≡◌, ℕ, ◌+◌, ◌<◌, Bool, true, ⊎_elim, List, [], ◌∷◌, ◌++◌, map, length, refl, sym, ap, subst, ◌∙◌, arith}
 use Rattle.std.specs.Prelude.{Option, Some, None, ◌&&◌, Contains, if◌then◌else◌}
-use Rattle.std.specs.Bool.{Decides}
 use Rattle.std.proofs.lemmas.List.Elements.{Contains-append_cases, Contains-append_left, Contains-append_right}
 use Rattle.std.specs.List.{zip}
 use Rattle.vkg_lists.proofs.Counts.{eq_same}
-use Rattle.vkg_lists.proofs.Members.{Contains-none, Contains-here, Contains-there, Contains-cons_cases, map_agree_on, each_of_all}
-use Rattle.vkg_lists.proofs.Bools.{and_parts, and_true, same_truth}
+use Rattle.vkg_lists.proofs.Members.{Contains-none, Contains-here, Contains-there, Contains-cons_cases, map_agree_on, each_of_all, Contains-cond}
+use Rattle.vkg_lists.proofs.Bools.{and_parts, same_truth}
 use Rattle.vkg_terms.specs.declared.term.Term.{Term}
 use Rattle.vkg_terms.specs.NQuads.{Quad}
 use Rattle.vkg_terms.proofs.SameLemmas.{terms_apart}
@@ -23,21 +22,18 @@ use Rattle.vkg_algebra.proofs.MapLemmas.{solution_test}
 use Rattle.vkg_algebra.specs.Answer.{solution_eq}
 use Rattle.vkg_algebra.specs.Laws.{node_numbers, pattern_numbers}
 use Rattle.vkg_expr.specs.Value.{term_of, term_cell}
-use Rattle.vkg_plan.specs.Rows.{one_cell, one_row}
+use Rattle.vkg_plan.specs.Rows.{one_row}
+use Rattle.vkg_plan.proofs.CellLemmas.{rows_apart}
 use Rattle.vkg_unfold.specs.declared.mode.Mode.{Mode}
 use Rattle.vkg_unfold.specs.Unfolded.{Name}
 use Rattle.vkg_unfold.specs.StandsFor.{IsIn}
 use Rattle.vkg_answers.proofs.Reading.{lookup-upto}
 use Rattle.vkg_answers.proofs.Entries.{Entry, first, alike, named_term, named_solution, AreTerms, AreAlike}
-use Rattle.vkg_answers.proofs.Links.{first_there, first_alike, are_alike, terms-append}
+use Rattle.vkg_answers.proofs.Links.{first_there, first_alike, are_alike}
 use Rattle.vkg_answers.proofs.Columns.{hidden_in, graph_fits, graphs_fit, fits_term, IsPatternRow}
-use Rattle.vkg_answers.proofs.Quads.{NodeBelow, node_entries, node_ok, node_terms, pattern_entries, pattern_ok, quad_solutions_are}
+use Rattle.vkg_answers.proofs.Quads.{NodeBelow, node_entries, node_ok, node_terms, pattern_entries, pattern_ok, quad_solutions_are, entry_from}
 
 -- ---- the solutions of a quad
-
-in_if : {X : Type 0} (b : Bool) (x s : X) → Contains (if b then x ∷ [] else []) s → (b ≡ true) × (x ≡ s)
-in_if true x s c = (refl, ⊎_elim (λ e. e) (λ k. absurd (Contains-none s k)) (Contains-cons_cases x [] s c))
-in_if false x s c = absurd (Contains-none s c)
 
 named_lookup : (n : ℕ) (zs : List Entry) (v : ℕ) → v < n → lookup (named_solution n zs) v ≡ term_of (first (Some v) zs)
 named_lookup n zs v h = lookup-upto (named_term zs) n 0 v h ∙ ap (named_term zs) (let e : 0 + v ≡ v = omega arith in e)
@@ -56,10 +52,8 @@ node_same n (Label v) h t u zs ws a b c d e k l = variable_same n v t u zs ws h 
 node_same n (Fixed w) h t u zs ws a b c d e k l = sym (eq_same terms_apart w t k) ∙ eq_same terms_apart w u l
 
 pub entries_terms : (p : TriplePattern) (s t u : Term) → AreTerms (pattern_entries p (cell.Term s) (cell.Term t) (cell.Term u))
-entries_terms p s t u =
-    terms-append (node_entries p.subject (cell.Term s)) (node_entries p.predicate (cell.Term t) ++ (node_entries p.object (cell.Term u) ++ [])) (node_terms p.subject s)
-    (terms-append (node_entries p.predicate (cell.Term t)) (node_entries p.object (cell.Term u) ++ []) (node_terms p.predicate t)
-    (terms-append (node_entries p.object (cell.Term u)) [] (node_terms p.object u) (λ x c. absurd (Contains-none x c))))
+entries_terms p s t u x k =
+    entry_from p (cell.Term s) (cell.Term t) (cell.Term u) x (node_terms p.subject s x) (node_terms p.predicate t x) (node_terms p.object u x) k
 
 numbers_below : (n : ℕ) (x : Node) → NodeBelow n x → (v : ℕ) → Contains (node_numbers x) v → v < n
 numbers_below n (Variable w) h v c = ⊎_elim (λ e. subst (λ u. u < n) e h) (λ k. absurd (Contains-none v k)) (Contains-cons_cases w [] v c)
@@ -83,8 +77,8 @@ module _ (n : ℕ) (p : TriplePattern) (below : NodeBelow n p.subject × NodeBel
 
   pub quad_apart : (q r : Quad) (s : Solution) → q.graph ≡ r.graph → Contains (triple_solutions n p q) s → Contains (triple_solutions n p r) s → q ≡ r
   quad_apart q r s g c d =
-      let a = in_if (solved q) (named_solution n (entries q)) s (subst (λ l. Contains l s) (solutions_are q) c) in
-      let b = in_if (solved r) (named_solution n (entries r)) s (subst (λ l. Contains l s) (solutions_are r) d) in
+      let a = Contains-cond (solved q) (named_solution n (entries q)) s (subst (λ l. Contains l s) (solutions_are q) c) in
+      let b = Contains-cond (solved r) (named_solution n (entries r)) s (subst (λ l. Contains l s) (solutions_are r) d) in
       let same = a.1 ∙ sym b.1 in
       let a2 = and_parts (pattern_ok p (cell.Term q.subject) (cell.Term q.predicate) (cell.Term q.object)) (alike [] (entries q)) a.0 in
       let b2 = and_parts (pattern_ok p (cell.Term r.subject) (cell.Term r.predicate) (cell.Term r.object)) (alike [] (entries r)) b.0 in
@@ -112,25 +106,7 @@ module _ (n : ℕ) (p : TriplePattern) (below : NodeBelow n p.subject × NodeBel
       in_object q e c = Contains-append_right (node_entries p.subject (cell.Term q.subject)) (node_entries p.predicate (cell.Term q.predicate) ++ (node_entries p.object (cell.Term q.object) ++ [])) e
           (Contains-append_right (node_entries p.predicate (cell.Term q.predicate)) (node_entries p.object (cell.Term q.object) ++ []) e (Contains-append_left (node_entries p.object (cell.Term q.object)) [] e c))
 
--- ---- rows of terms are one row to Distinct where they are equal
-
-cells_same : (ns : List Name) (x y : Row) → length x ≡ length ns → length y ≡ length ns → AreTerms (zip ns x) → AreTerms (zip ns y) → Decides (one_row x y) (x ≡ y)
-cells_same [] [] [] e f a b = (λ h. refl, λ h. refl)
-cells_same [] (c ∷ x) y e f a b = absurd (omega arith)
-cells_same [] [] (c ∷ y) e f a b = absurd (omega arith)
-cells_same (m ∷ ns) [] y e f a b = absurd (omega arith)
-cells_same (m ∷ ns) (c ∷ x) [] e f a b = absurd (omega arith)
-cells_same (m ∷ ns) (c ∷ x) (k ∷ y) e f a b =
-    let rest = cells_same ns x y (omega arith) (omega arith) (λ z q. a z (Contains-there (m, c) (zip ns x) z q)) (λ z q. b z (Contains-there (m, k) (zip ns y) z q)) in
-    let t = a (m, c) (Contains-here (m, c) (zip ns x)) in
-    let u = b (m, k) (Contains-here (m, k) (zip ns y)) in (
-      λ h. let g = and_parts (one_cell c k) (one_row x y) h in
-          let i : t.0 ≡ u.0 = eq_same terms_apart t.0 u.0 (sym (λ i. one_cell (t.1 i) (u.1 i)) ∙ g.0) in
-          λ j. (t.1 ∙ ap cell.Term i ∙ sym u.1) j ∷ rest.0 g.1 j,
-      λ h. and_true (one_cell c k) (one_row x y)
-          ((λ i. one_cell (t.1 i) (u.1 i)) ∙ (terms_apart.decides t.0 u.0).1 (let i : c ≡ k = cc in let j : cell.Term t.0 ≡ cell.Term u.0 = sym t.1 ∙ i ∙ u.1 in cc))
-          (rest.1 cc),
-    )
+-- ---- rows with the same solution are one row
 
 -- a row is its first cells by name
 row_back : (zs : List Entry) (ns : List Name) (row : Row) → length row ≡ length ns → ((e : Entry) → Contains (zip ns row) e → first e.0 zs ≡ e.1) → map (λ m. first m zs) ns ≡ row
@@ -162,15 +138,12 @@ module _ (n : ℕ) (d : Dataset) (mode : Mode) (ns : List Name) where
   row_alike : (row : Row) → IsPatternRow n d mode ns row → AreAlike (zip ns row)
   row_alike row a = are_alike (zip ns row) a.named.terms a.alone
 
-  pub one_row_says : (x y : Row) → IsPatternRow n d mode ns x → IsPatternRow n d mode ns y → Decides (one_row x y) (x ≡ y)
-  one_row_says x y a b = cells_same ns x y a.named.size b.named.size a.named.terms b.named.terms
-
   pub solution_says : (g : Option Term) → IsIn d mode g → (x y : Row) → IsPatternRow n d mode ns x → IsPatternRow n d mode ns y →
       graphs_fit (hidden_in mode g) (zip ns x) ≡ true → graphs_fit (hidden_in mode g) (zip ns y) ≡ true →
       solution_eq (named_solution n (zip ns x)) (named_solution n (zip ns y)) ≡ one_row x y
   solution_says g h x y a b k l = same_truth (solution_eq (named_solution n (zip ns x)) (named_solution n (zip ns y))) (one_row x y)
-      (λ e. (one_row_says x y a b).1 (equal (eq_same solution_test (named_solution n (zip ns x)) (named_solution n (zip ns y)) e)))
-      (λ e. (solution_test.decides (named_solution n (zip ns x)) (named_solution n (zip ns y))).1 (ap (λ r. named_solution n (zip ns r)) ((one_row_says x y a b).0 e)))
+      (λ e. (rows_apart.decides x y).1 (equal (eq_same solution_test (named_solution n (zip ns x)) (named_solution n (zip ns y)) e)))
+      (λ e. (solution_test.decides (named_solution n (zip ns x)) (named_solution n (zip ns y))).1 (ap (λ r. named_solution n (zip ns r)) ((rows_apart.decides x y).0 e)))
     where
       zs : List Entry
       zs = zip ns x

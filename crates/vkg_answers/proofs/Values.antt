@@ -19,7 +19,7 @@ use Rattle.vkg_values.specs.Known.{widest}
 use Rattle.vkg_values.specs.Logic.{not3, and3, or3}
 use Rattle.vkg_values.specs.Operators.{ebv, test_value, take_value, compare_value, on_two}
 use Rattle.vkg_values.specs.declared.operator.Take.TheVariants as take
-use Rattle.vkg_values.proofs.Narrow.{compare_narrow, narrow_known, test_narrow}
+use Rattle.vkg_values.proofs.Narrow.{compare_narrow, ebv_narrow as ebv_known, test_narrow}
 use Rattle.vkg_sparql.specs.declared.pattern.Node.TheVariants.{Fixed}
 use Rattle.vkg_sparql.specs.Lawful.{condition_nodes}
 use Rattle.vkg_sparql.specs.Query.{Condition, Variable, Constant, Bound, Test, Take, Compare, SameTerm, Not, And, Or}
@@ -42,7 +42,7 @@ Means true c o = (b : Option Bool) × (c ≡ truth_cell b) × (o ≡ option_map 
 
 ebv_narrow : (o : Option Term) → IsNarrow o → option_and_then (ebv widest) (term_of (term_cell o)) ≡ truth o
 ebv_narrow None h = refl
-ebv_narrow (Some t) h = Prim.rw (narrow_known t (not_wide t h)) refl
+ebv_narrow (Some t) h = ebv_known t (not_wide t h)
 
 term_meant : (t : Bool) (e : Expr) (row : Row) (o : Option Term) → Means t (value_of e row) o → Means false (value_of (to_term t e) row) o
 term_meant false e row o m = m
@@ -106,11 +106,11 @@ same_means c d None (Some b) m n = (None, Prim.rw m.0 refl, refl)
 same_means c d (Some a) None m n = (None, Prim.rw (m.0, n.0) refl, refl)
 same_means c d (Some a) (Some b) m n = (Some (term_eq a b), Prim.rw (m.0, n.0) refl, refl)
 
-module _ (at : ℕ → Expr) (row : Row) (s : Solution) (binds : (v : ℕ) → value_of (at v) row ≡ term_cell (lookup s v)) (narrow : (v : ℕ) → IsNarrow (lookup s v)) where
-  bound_means : (c : Cell) (o : Option Term) → c ≡ term_cell o → truth_cell (not3 (truth_of (cell.Bool (is_null c)))) ≡ truth_cell (Some (is_some o))
-  bound_means c None e = Prim.rw e refl
-  bound_means c (Some t) e = Prim.rw e refl
+pub bound_means : (c : Cell) (o : Option Term) → c ≡ term_cell o → truth_cell (not3 (truth_of (cell.Bool (is_null c)))) ≡ truth_cell (Some (is_some o))
+bound_means c None e = Prim.rw e refl
+bound_means c (Some t) e = Prim.rw e refl
 
+module _ (at : ℕ → Expr) (row : Row) (s : Solution) (binds : (v : ℕ) → value_of (at v) row ≡ term_cell (lookup s v)) (narrow : (v : ℕ) → IsNarrow (lookup s v)) where
   pub means : (c : Condition) → IsNarrowCondition c → Means (gives_truth c) (value_of (expr_of at c) row) (expression_value c s)
   means (Variable v) h = (binds v, narrow v)
   means (Constant t) h = (refl, h t (Contains-here (Fixed t) []))

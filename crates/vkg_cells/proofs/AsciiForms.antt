@@ -1,5 +1,5 @@
 -- Texts of small bytes are ASCII, and so are the forms of numbers, truth values and octets.
-use Rattle.std.proofs.Common.{◌≡◌, ℕ, List, [], ◌∷◌, codes, Bool, true, false, if◌then◌else◌, arith, nat_lt, refl, lit<}
+use Rattle.std.proofs.Common.{◌≡◌, ℕ, List, [], ◌∷◌, codes, Bool, true, false, if◌then◌else◌, nat_lt, refl, lit<}
 use Rattle.std.specs.List.{list_all}
 use Rattle.std.specs.Str.{IsAscii}
 use Rattle.std.specs.Str.Parse.{AllDigits}
@@ -8,7 +8,7 @@ use Rattle.std.proofs.lemmas.Str.{IsAscii-append}
 use Rattle.std.proofs.lemmas.Str.Ascii.{IsAscii-nil, IsAscii-cons}
 use Rattle.hex.specs.Hex.{encode_upper, upper_digits}
 use Rattle.hex.proofs.HexLemmas.{IsAscii-encode_with}
-use Rattle.vkg_lists.proofs.Bools.{and_parts}
+pub use Rattle.vkg_terms.proofs.Octets.{ascii_small}
 use Rattle.vkg_cells.specs.Form.{bool_form}
 use Rattle.vkg_cells.specs.Number.{is_decimal, canonical, whole, fraction, is_below_zero, or_zero, after_point, without_leading_zeros, without_trailing_zeros}
 use Rattle.vkg_cells.proofs.SignLemmas.{decimal-parts}
@@ -17,12 +17,6 @@ use Rattle.vkg_cells.proofs.Digits.{digits-without-leading, digits-without-trail
 -- each byte is below 128, as a test
 abbrev pub small : List ℕ → Bool
 small text = list_all (λ b. nat_lt b 128) text
-
-pub ascii_small : (text : List ℕ) → small text ≡ true → IsAscii text
-ascii_small [] e = IsAscii-nil
-ascii_small (b ∷ bs) e =
-    let h = and_parts (nat_lt b 128) (small bs) e in
-    IsAscii-cons b bs (let g = h.0 in grind arith) (ascii_small bs h.1)
 
 sign_ascii : (minus : Bool) → IsAscii (if minus then codes "-" else [])
 sign_ascii true = IsAscii-cons 45 [] (lit< tt) IsAscii-nil

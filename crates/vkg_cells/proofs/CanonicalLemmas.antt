@@ -13,7 +13,7 @@ use Rattle.vkg_cells.proofs.SignLemmas.{decimal-parts}
 abbrev pub spelled : Bool → List ℕ → List ℕ → List ℕ
 spelled minus w f = (if minus then codes "-" else []) ++ or_zero w ++ after_point f
 
-unsigned-digits : (d : ℕ) (ds : List ℕ) → 48 ≤ d → unsigned (d ∷ ds) ≡ d ∷ ds
+pub unsigned-digits : (d : ℕ) (ds : List ℕ) → 48 ≤ d → unsigned (d ∷ ds) ≡ d ∷ ds
 unsigned-digits d ds h = rw (ne_eqb d 43 (λ e. omega (arith, e, h)), ne_eqb d 45 (λ e. omega (arith, e, h))) refl
 
 unsigned-spelled : (minus : Bool) (w f : List ℕ) → AllDigits 10 w → unsigned (spelled minus w f) ≡ or_zero w ++ after_point f
@@ -21,7 +21,7 @@ unsigned-spelled true w f a = refl
 unsigned-spelled false [] f a = refl
 unsigned-spelled false (d ∷ ds) f a = unsigned-digits d (ds ++ after_point f) (first-digit d ds a).0
 
-negative-spelled : (minus : Bool) (w f : List ℕ) → AllDigits 10 w → is_negative (spelled minus w f) ≡ minus
+pub negative-spelled : (minus : Bool) (w f : List ℕ) → AllDigits 10 w → is_negative (spelled minus w f) ≡ minus
 negative-spelled true w f a = refl
 negative-spelled false [] f a = refl
 negative-spelled false (d ∷ ds) f a = rw (ne_eqb 45 d (λ e. omega (arith, e, (first-digit d ds a).0))) refl
@@ -38,13 +38,13 @@ after-spelled : (ds f : List ℕ) → AllDigits 10 ds → after_first (λ b. b =
 after-spelled ds [] a = rw (append-nil ds) (after-all 46 ds (lacks-digits 46 ds (lit< tt) a))
 after-spelled ds (d ∷ f) a = after-cut 46 ds (d ∷ f) (lacks-digits 46 ds (lit< tt) a)
 
-whole-spelled : (minus : Bool) (w f : List ℕ) → AllDigits 10 w → whole (spelled minus w f) ≡ or_zero w
+pub whole-spelled : (minus : Bool) (w f : List ℕ) → AllDigits 10 w → whole (spelled minus w f) ≡ or_zero w
 whole-spelled minus w f a = rw (unsigned-spelled minus w f a) (before-spelled (or_zero w) f (digits-or-zero w a))
 
-fraction-spelled : (minus : Bool) (w f : List ℕ) → AllDigits 10 w → fraction (spelled minus w f) ≡ f
+pub fraction-spelled : (minus : Bool) (w f : List ℕ) → AllDigits 10 w → fraction (spelled minus w f) ≡ f
 fraction-spelled minus w f a = rw (unsigned-spelled minus w f a) (after-spelled (or_zero w) f (digits-or-zero w a))
 
-leading-kept : (w : List ℕ) → HasNoZeroFirst w → without_leading_zeros (or_zero w) ≡ w
+pub leading-kept : (w : List ℕ) → HasNoZeroFirst w → without_leading_zeros (or_zero w) ≡ w
 leading-kept [] h = refl
 leading-kept (d ∷ ds) h = rw (ne_eqb d 48 (λ e. h (sym e))) refl
 

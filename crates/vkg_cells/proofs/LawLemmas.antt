@@ -1,9 +1,9 @@
 -- The laws of cells.
-use Rattle.std.proofs.Common.{◌≡◌, ◌∙◌, ◌↔◌, ℕ, Bool, true, false, List, Option, Some, None, Result, Ok, Err, refl, sym, ap, subst, arith, nat_lt}
-use Rattle.std.specs.Prelude.{IsSome, IfOk}
+use Rattle.std.proofs.Common.{◌≡◌, ◌∙◌, ◌↔◌, ℕ, Bool, true, false, true≢false, List, Option, Some, None, Result, Ok, Err, refl, sym, ap, subst, arith, nat_lt}
+use Rattle.std.specs.Prelude.{IfOk}
 use Rattle.std.specs.Str.{bytes_eq}
 use Rattle.std.proofs.lemmas.Slice.Eq.{bytes_eq-Decides}
-use Rattle.vkg_lists.proofs.Results.{ok_same, ok_err}
+use Rattle.vkg_lists.proofs.Results.{ok_same, ok_err, some_of}
 use Rattle.hex.specs.Hex.{decode_of, encode_upper}
 use Rattle.hex.proofs.HexLemmas.{decode_of-encode_upper, decode_of-ok}
 use Rattle.hex.specs.declared.error.FromHexError.{FromHexError}
@@ -47,12 +47,9 @@ by-bytes a b =
     let d = bytes_eq-Decides a b in
     (λ e. ap Some (d.0 (cc e)), λ e. ap Some (d.1 (cc e)))
 
-no-form : ¬ IsSome {T = List ℕ} None
-no-form h = cc
-
 pub by-form : (c d : Cell) → IsByForm c d (same c d)
-by-form cell.Null d e h = absurd (no-form h)
-by-form (cell.Term s) d e h = absurd (no-form h)
+by-form cell.Null d e h = absurd (true≢false (sym h))
+by-form (cell.Term s) d e h = absurd (true≢false (sym h))
 by-form (cell.Text a) (cell.Text b) e h = by-bytes a b
 by-form (cell.Int a) (cell.Int b) e h = by-bytes a b
 by-form (cell.Int a) (cell.Dec b) e h = by-bytes a b
@@ -103,11 +100,6 @@ read-back kind.Stamp text c e = read-stamp text (stamp_form text) c refl e
 read-back kind.Bin text c e = read-octets text (decode_of text) c refl e
 read-back kind.Term text c e = absurd (ok_err c BadValue (sym e))
 
--- the form, where there is one
-some-form : (o : Option (List ℕ)) → IsSome o → (form : List ℕ) × (o ≡ Some form)
-some-form None h = absurd (no-form h)
-some-form (Some form) h = (form, refl)
-
 -- a cell of a kind, whose form there is, is read from that form
 from-form : (k : SqlType) (c : Cell) (form : List ℕ) → IsOfKind k c → lexical_form c ≡ Some form → cell_of_field k form ≡ Ok c
 from-form kind.Term c form of e = absurd (none-some form (sym (ap lexical_form of.1) ∙ e))
@@ -115,7 +107,7 @@ from-form k c form of e = rw e at (read-back k of.0 c of.2)
 
 pub own-form : (c : Cell) → HasOwnForm c
 own-form c k d of of' h e =
-    let f = some-form (lexical_form c) h in
+    let f = some_of (lexical_form c) h in
     ok_same c d (sym (from-form k c f.0 of f.1) ∙ from-form k d f.0 of' (sym e ∙ f.1))
 
 -- what is known of a cell of a kind: it is not NULL, and a number is its own canonical form

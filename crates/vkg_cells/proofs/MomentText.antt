@@ -1,25 +1,19 @@
 -- The forms of dates and times are ASCII.
-use Rattle.std.proofs.Common.{◌≡◌, ℕ, zero, suc, ◌+◌, ◌-◌, ◌*◌, ◌<◌, ◌≤◌, refl, sym, ap, subst, List, [], ◌∷◌, ◌++◌, length, codes, Bool, true, false, cond, ◌&&◌, arith, ◌==◌, nat_le, Option, Some, None, lit<}
-use Rattle.std.specs.Prelude.{is_some, option_and_then, slice_index}
+use Rattle.std.proofs.Common.{◌≡◌, ℕ, zero, suc, ◌+◌, ◌-◌, ◌*◌, ◌<◌, ◌≤◌, refl, sym, ap, subst, List, [], ◌++◌, length, codes, Bool, true, false, ◌&&◌, arith, ◌==◌, nat_le, Option, Some, None, lit<}
+use Rattle.std.specs.Prelude.{is_some, slice_index}
 use Rattle.std.specs.Char.{is_ascii_digit}
 use Rattle.std.specs.Str.{IsAscii}
 use Rattle.std.specs.Str.Parse.{AllDigits}
+use Rattle.std.proofs.lemmas.List.{get_or_past}
 use Rattle.std.proofs.lemmas.Str.{IsAscii-append}
 use Rattle.std.proofs.lemmas.Str.Ascii.{IsAscii-nil, IsAscii-cons}
 use Rattle.std.proofs.lemmas.Option.{same_Some}
 use Rattle.std.specs.Option.{option_or}
 use Rattle.vkg_lists.proofs.Bools.{and_parts}
+use Rattle.vkg_lists.proofs.Results.{some_if, some_then}
 use Rattle.vkg_cells.specs.Number.{is_digits, after_point, without_trailing_zeros}
 use Rattle.vkg_cells.specs.Moment.{two_digits_at, day_of_text, clock_of_text, is_date, is_clock, cut, form_if, form_at, form_of_parts, stamp_form}
 use Rattle.vkg_cells.proofs.Digits.{after_ascii, digits-some, digits-without-trailing}
-
-some_then : {A B : Type 0} (f : A → Option B) (o : Option A) → is_some (option_and_then f o) ≡ true → (a : A) × (o ≡ Some a) × (is_some (f a) ≡ true)
-some_then f None e = cc
-some_then f (Some a) e = (a, refl, e)
-
-some_if : {A : Type 0} (b : Bool) (o : Option A) → is_some (cond b o None) ≡ true → (b ≡ true) × (is_some o ≡ true)
-some_if true o e = (refl, e)
-some_if false o e = cc
 
 small_digit : (b : ℕ) → is_ascii_digit b ≡ true → b < 128
 small_digit b e = grind arith
@@ -42,9 +36,7 @@ each_below P (suc n) k a h = elim (k == n) as (λ b. k == n ≡ b → P k) [
 ] refl
 
 past_end : (bs : List ℕ) (k : ℕ) → length bs ≤ k → slice_index bs k < 128
-past_end [] k h = lit< tt
-past_end (b ∷ bs) zero h = absurd (let n : ⊥ = omega (arith, h) in n)
-past_end (b ∷ bs) (suc k) h = past_end bs k (omega (arith, h))
+past_end bs k h = let e = get_or_past bs k 0 h in omega (arith, e)
 
 ascii_below : (bs : List ℕ) (n : ℕ) → length bs ≡ n → EachBelow (λ k. slice_index bs k < 128) n → IsAscii bs
 ascii_below bs n long each k = elim (nat_le n k) as (λ b. nat_le n k ≡ b → slice_index bs k < 128) [

@@ -6,13 +6,13 @@ use Rattle.std.specs.List.{after_first, before_first, position_or_len}
 use Rattle.std.proofs.Math.Seq.{drop-append-add, take-append_seam, take-length}
 use Rattle.std.proofs.Math.Nat.{zero-add}
 use Rattle.vkg_cells.specs.Moment.{cut}
+use Rattle.std.specs.Str.{NonePass}
 use Rattle.std.specs.Str.Parse.{AllDigits}
 use Rattle.vkg_cells.proofs.Digits.{first-digit}
 
 -- no byte of the list is this one
 abbrev pub Lacks : ℕ → List ℕ → Type 0
-Lacks c [] = Unit {0}
-Lacks c (x ∷ xs) = ((x == c) ≡ false) × Lacks c xs
+Lacks c xs = NonePass (λ b. b == c) xs
 
 abbrev place : ℕ → List ℕ → ℕ
 place c text = position_or_len (λ b. b == c) text

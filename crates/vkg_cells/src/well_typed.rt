@@ -100,7 +100,7 @@ fn is_time(clock: &[u8], fraction: &[u8]) -> bool
 }
 
 /// Where a zone begins.
-#[tactic(auto, using(vkg_terms::proofs::Places::places))]
+#[tactic(auto, using(vkg_lists::proofs::Positions::places))]
 fn zone_place(text: &[u8]) -> usize
     ensures { result ≡ zone_place_of text.now }
 {

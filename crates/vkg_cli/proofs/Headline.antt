@@ -4,10 +4,12 @@ use Rattle.std.proofs.lemmas.List.{length-map, length-take, take_all}
 use Rattle.std.proofs.lemmas.Bool.{ltb-false}
 use Rattle.std.proofs.Math.Seq.{set-append_seam}
 use Rattle.std.specs.List.{AllZip, slice_get, slice_set}
-use Rattle.std.specs.Prelude.{Option, None, Result}
+use Rattle.std.specs.Prelude.{Option, None, Result, option_map}
+use Rattle.std.specs.Result.{result_map_both}
 use Rattle.vkg_lists.specs.Results.{unless}
 use Rattle.vkg_lists.proofs.Heads.{at_seam}
-use Rattle.vkg_lists.proofs.Results.{ok_same, ok_err}
+use Rattle.vkg_lists.proofs.Results.{ok_same, ok_err, unless_given}
+use Rattle.vkg_lists.proofs.Onto.{map_lacking}
 use Rattle.vkg_base.specs.Outside.{Files, held}
 use Rattle.vkg_schema.specs.declared.table.Table.{Table}
 use Rattle.vkg_schema.specs.declared.table.Column.{Column}
@@ -16,13 +18,11 @@ use Rattle.vkg_schema.specs.Meets.{MeetsSchema}
 use Rattle.vkg_maps.specs.declared.mapping.Mapping.{Mapping}
 use Rattle.vkg_maps.specs.declared.data_fault.DataFault.{DataFault}
 use Rattle.vkg_maps.specs.DataFaults.{data_faults, least_data_fault}
-use Rattle.vkg_direct.specs.declared.direct_error.DirectError.{DirectError}
 use Rattle.vkg_direct.specs.DirectMapping.{direct_result}
 use Rattle.vkg_sparql.specs.declared.query.Query.{Query}
 use Rattle.vkg_sparql.specs.Reading.{IsQuery}
 use Rattle.vkg_turtle.specs.declared.triple.Triple.{Triple}
 use Rattle.vkg_turtle.specs.Reading.{IsDocumentOf}
-use Rattle.vkg_r2rml.specs.declared.map_error.MapFault.{MapFault}
 use Rattle.vkg_r2rml.specs.Mapping.{mapping_of}
 use Rattle.vkg_cli.specs.declared.load.TheConstants.{LIMIT}
 use Rattle.vkg_tables.specs.declared.fault.TableFault.{TableFault}
@@ -33,7 +33,7 @@ use Rattle.vkg_tables.specs.Seen.{Seen, columns_at, columns_of, with_read, with_
 use Rattle.vkg_tables.specs.TableFile.{table_of_bytes}
 use Rattle.vkg_cli.specs.Stages.{Loads, Settles, Then, found, goes_on, stops}
 use Rattle.vkg_cli.specs.Words.{Command, DumpWords, QueryWords, SqlWords, dump, query, sql}
-use Rattle.vkg_cli.specs.Work.{Checks, Dumps, GivesAnswer, GivesText, LoadsDatabase, LoadsFaultless, LoadsMapping, LoadsQuery, LoadsSchema, LoadsTable, LoadsTables, LoadsText, MapsDirectly, MapsTriples, ReadsQuery, ReadsSchema, ReadsTriples, SaysQueryUnlessLong, SaysUnlessLong, UnlessLong, Works, checks, direct_or, loaded_or, mapping_or, table_file, unless_data}
+use Rattle.vkg_cli.specs.Work.{Checks, Dumps, GivesAnswer, GivesText, LoadsDatabase, LoadsFaultless, LoadsMapping, LoadsQuery, LoadsSchema, LoadsTable, LoadsTables, LoadsText, MapsDirectly, MapsTriples, ReadsQuery, ReadsSchema, ReadsTriples, SaysQueryUnlessLong, SaysUnlessLong, UnlessLong, Works, checks, loaded_or, table_file, unless_data, data_stop, direct_stop, mapping_stop, table_stop}
 use Rattle.vkg_cli.specs.Work.{unless_fault as unless_table}
 use Rattle.vkg_cli.specs.Answer.{HasText}
 use Rattle.vkg_cli.specs.Headline.{HoldDatabase, HoldDataset, HoldsMapping, HoldsQuery, HoldsSchema, HoldsTable, HoldsText, IsAnswered, IsDump, IsSql, IsTextOf}
@@ -57,7 +57,7 @@ schema_of false bytes tables is = (refl, is)
 -- the table's file of a loaded table
 rows_read : (db next : Seen) (k : ℕ) (read : Result (List Row) _) → (let one : Result Seen Stop = Ok next in one ≡ loaded_or (with_read db k read))
     → (rows : List Row) × (read ≡ Ok rows) × (next ≡ with_rows db k rows)
-rows_read db next k (Ok rows) e = (rows, refl, cc e)
+rows_read db next k (Ok rows) e = (rows, refl, ok_same next (with_rows db k rows) e)
 rows_read db next k (Err f) e = cc e
 
 not_long : {F : Type 0} (long : Bool) (f : F) (faults : List F) (rows others : List Row) → (let one : Result (List Row) F = Ok others in one ≡ unless (slice_get (if long then f ∷ [] else faults) 0) (Ok rows)) → long ≡ false
@@ -112,32 +112,25 @@ module _ (files : Files) (folder : List ℕ) where
       )
   all_tables (t ∷ ts) db final k names before done rest (stops stop first is) schema place tables behind same = absurd (ok_err final stop is)
 
-given_direct : (made : Result Mapping DirectError) (mapping : Mapping) → (let one : Result Mapping Stop = Ok mapping in one ≡ direct_or made) → made ≡ Ok mapping
-given_direct (Ok other) mapping e = cc
-given_direct (Err e) mapping is = cc is
-
-given_mapping : (made : Result Mapping MapFault) (mapping : Mapping) → (let one : Result Mapping Stop = Ok mapping in one ≡ mapping_or made) → made ≡ Ok mapping
-given_mapping (Ok other) mapping e = cc
-given_mapping (Err e) mapping is = cc is
+given_made : {F : Type 0} (stop_of : F → Stop) (made : Result Mapping F) (mapping : Mapping) → (let one : Result Mapping Stop = Ok mapping in one ≡ result_map_both (λ (m : Mapping). m) stop_of made) → made ≡ Ok mapping
+given_made stop_of (Ok other) mapping e = ap Ok (ok_same other mapping (sym e))
+given_made stop_of (Err fault) mapping e = absurd (ok_err mapping (stop_of fault) e)
 
 triples_of : (long : Bool) (bytes base : List ℕ) (triples : List Triple) → SaysUnlessLong long bytes base (Ok triples) → (long ≡ false) × IsDocumentOf bytes base triples
 triples_of true bytes base triples is = absurd (ok_err triples _ is)
 triples_of false bytes base triples is = (refl, is)
 
 no_data : (found : Option DataFault) (mapping other : Mapping) → (let one : Result Mapping Stop = Ok mapping in one ≡ unless_data found (Ok other)) → (found ≡ None) × (mapping ≡ other)
-no_data None mapping other e = (refl, cc e)
-no_data (Some f) mapping other e = cc e
+no_data found mapping other e =
+    let r = unless_given (option_map data_stop found) (Ok other) mapping (sym e) in
+    (map_lacking data_stop found r.0, sym (ok_same other mapping r.1))
 
 unless_key : {A : Type 0} (found : Option TableFault) (v : A) (later : Result A Stop) → (let one : Result A Stop = Ok v in one ≡ unless_table found later) → Ok v ≡ later
-unless_key None v later e = e
-unless_key (Some f) v later e = cc e
+unless_key found v later e = sym (unless_given (option_map table_stop found) later v (sym e)).1
 
 query_of : (long : Bool) (bytes base : List ℕ) (asked : Query) → SaysQueryUnlessLong long bytes base (Ok asked) → (long ≡ false) × IsQuery bytes base asked
 query_of true bytes base asked is = absurd (ok_err asked _ is)
 query_of false bytes base asked is = (refl, is)
-
-one_line : (lines others : List (List ℕ)) → (let one : Result (List (List ℕ)) Stop = Ok lines in one ≡ Ok others) → lines ≡ others
-one_line lines others e = cc e
 
 module _ (files : Files) (schema : List Table) (base : List ℕ) (mapping : Mapping) where
   -- what a document's triples say
@@ -146,7 +139,7 @@ module _ (files : Files) (schema : List Table) (base : List ℕ) (mapping : Mapp
   unfolding ReadsTriples Settles
   read_text bytes names (goes_on triples head tail settled maps is) =
       let says = triples_of (nat_lt 2147483647 (length bytes)) bytes base triples (settled.1) in
-      (says.0, (triples, says.1, given_mapping (mapping_of triples schema base) mapping (maps.1)))
+      (says.0, (triples, says.1, given_made mapping_stop (mapping_of triples schema base) mapping (maps.1)))
   read_text bytes names (stops stop settled is) = absurd (ok_err mapping stop is)
 
   text_holds : (name : List ℕ) (names : List (List ℕ)) → LoadsText files name schema base names (Ok mapping) → HoldsText files name schema base mapping
@@ -160,7 +153,7 @@ module _ (files : Files) (schema : List Table) (base : List ℕ) (mapping : Mapp
 
   mapping_holds : (file : Option (List ℕ)) (names : List (List ℕ)) → LoadsMapping files file schema base names (Ok mapping) → HoldsMapping files file schema base mapping
   unfolding MapsDirectly Settles
-  mapping_holds None names is = (given_direct (direct_result schema base) mapping (is.1.0), is.1.1.0)
+  mapping_holds None names is = (given_made direct_stop (direct_result schema base) mapping (is.1.0), is.1.1.0)
   mapping_holds (Some name) names is = text_holds name names is
 
 module _ (files : Files) where
@@ -236,7 +229,7 @@ module _ (files : Files) where
       hold = hold;
       asked = asked;
       says = query_holds words.query words.base asked head load;
-      lines_are = one_line lines _ (answers.1.0);
+      lines_are = ok_same lines _ (answers.1.0);
       rows_are = answers.1.1;
     }
     answer_is words db mapping names hold (stops stop load is) = absurd (ok_err lines stop is)
@@ -265,7 +258,7 @@ module _ (files : Files) where
           mapped = mapped;
           asked = asked;
           says = query_holds words.query words.base asked first asks;
-          lines_are = one_line lines _ (text.1);
+          lines_are = ok_same lines _ (text.1);
         }
         last_is mapping says mapped (stops stop asks same) = absurd (ok_err lines stop same)
 

@@ -1,6 +1,7 @@
 -- Checks of a loaded database, and of a mapping over it.
-use Rattle.std.proofs.Common.{◌≡◌, List, [], ◌∷◌, ap, sym, Ok, Err, refl}
-use Rattle.std.specs.Prelude.{OnOk, Result, Option, Some, None}
+use Rattle.std.proofs.Common.{◌≡◌, [], ap, sym, Ok, Err, refl}
+use Rattle.std.specs.Prelude.{OnOk, Result, Option, Some, None, option_map}
+use Rattle.vkg_lists.proofs.Nothing.{first_nothing}
 use Rattle.vkg_schema.specs.Meets.{MeetsSchema}
 use Rattle.vkg_schema.specs.Rows.{Database}
 use Rattle.vkg_maps.specs.declared.mapping.Mapping.{Mapping}
@@ -11,8 +12,8 @@ use Rattle.vkg_cli.specs.declared.stops.Stop.TheVariants.{Refused, Read, Memory}
 use Rattle.vkg_tables.specs.declared.fault.TableFault.{TableFault}
 use Rattle.vkg_cli.specs.Stages.{Answers, carried, done_or}
 use Rattle.vkg_tables.specs.Seen.{Seen}
-use Rattle.vkg_lists.specs.Firsts.{first_of}
-use Rattle.vkg_lists.proofs.Results.{ok_err}
+use Rattle.vkg_lists.proofs.Results.{ok_err, unless_given}
+use Rattle.vkg_lists.proofs.Onto.{map_lacking}
 use Rattle.vkg_tables.specs.Checks.{key_fault, reference_fault}
 use Rattle.vkg_cli.specs.Work.{Checks, Scans, checked, data_stop, table_stop, unless_data, unless_fault}
 
@@ -24,8 +25,7 @@ refused_by None stop later e = absurd (ok_err tt stop (sym e))
 refused_by {A} (Some f) stop later e = same_error {A = Unit {0}} {B = A} stop (table_stop f) e
 
 pub none_found : (found : Option TableFault) → (let one : Result (Unit {0}) Stop = Ok tt in one ≡ checked found) → found ≡ None
-none_found None e = refl
-none_found (Some f) e = cc e
+none_found found e = map_lacking table_stop found (unless_given {A = Unit {0}} (option_map table_stop found) (Ok tt) tt (sym e)).0
 
 module _ (db : Seen) where
   -- a repeated key, or want of memory
@@ -55,10 +55,6 @@ module _ (db : Database) (mapping : Mapping) where
   pub none_of : data_faults mapping db ≡ [] → least_data_fault mapping db ≡ None
   none_of is = rw is refl
 
-none_first : {A : Type 0} (xs : List A) → first_of xs ≡ None → xs ≡ []
-none_first [] e = refl
-none_first (x ∷ xs) e = cc e
-
 -- where there is no least data error there is none
 pub faultless_of : (db : Database) (mapping : Mapping) → least_data_fault mapping db ≡ None → data_faults mapping db ≡ []
-faultless_of db mapping is = none_first (data_faults mapping db) is
+faultless_of db mapping is = first_nothing (data_faults mapping db) is

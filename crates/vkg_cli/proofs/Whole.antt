@@ -19,9 +19,9 @@ use Rattle.vkg_sparql.specs.declared.query.Query.{Query}
 use Rattle.vkg_sparql.proofs.One.{determined as determined_query}
 use Rattle.vkg_cli.specs.Stages.{IsDetermined, IsOneOutcome}
 use Rattle.vkg_cli.specs.Words.{Command, dump, query, sql}
-use Rattle.vkg_cli.specs.Work.{Checks, Dumps, GivesAnswer, GivesText, LoadsDatabase, LoadsFaultless, LoadsMapping, LoadsQuery, LoadsSchema, LoadsText, MapsDirectly, MapsTriples, Reads, ReadsQuery, ReadsSchema, ReadsTriples, SaysQuery, SaysQueryUnlessLong, SaysTriples, SaysUnlessLong, Scans, UnlessLong, Works}
+use Rattle.vkg_cli.specs.Work.{Checks, Dumps, GivesAnswer, LoadsDatabase, LoadsFaultless, LoadsMapping, LoadsQuery, LoadsSchema, LoadsText, MapsDirectly, Reads, ReadsQuery, ReadsSchema, ReadsTriples, SaysQuery, SaysQueryUnlessLong, SaysTriples, SaysUnlessLong, UnlessLong, Works}
 use Rattle.vkg_cli.proofs.Ran.{determined_loads, determined_settles, determined_then}
-use Rattle.vkg_cli.proofs.Tables.{determined_tables}
+use Rattle.vkg_cli.proofs.Tables.{determined_tables, one_equal}
 
 one_reading : (bytes : List ℕ) → IsOneOutcome (Reads bytes)
 one_reading bytes (Ok v) (Ok w) first second = ap (λ (t : List Table). Ok t) (determined.one_value bytes v w first second)
@@ -97,9 +97,6 @@ pub one_document : (bytes base : List ℕ) → IsOneOutcome (ReadsTriples bytes 
 unfolding ReadsTriples
 one_document bytes base = says_unless (nat_lt 2147483647 (length bytes)) bytes base
 
-pub one_mapping : (triples : List Triple) (schema : List Table) (base : List ℕ) → IsOneOutcome (MapsTriples triples schema base)
-one_mapping triples schema base o p first second = first ∙ sym second
-
 one_direct : (schema : List Table) (base : List ℕ) → IsOneOutcome (MapsDirectly schema base)
 unfolding MapsDirectly
 one_direct schema base o p first second = first.0 ∙ sym second.0
@@ -145,9 +142,6 @@ pub one_check : (db : Seen) → IsOneOutcome (Checks db)
 unfolding Checks
 one_check db o p first second = first.0 ∙ sym second.0
 
-pub one_scan : (db : Database) (mapping : Maps) → IsOneOutcome (Scans db mapping)
-one_scan db mapping o p first second = first ∙ sym second
-
 pub one_dump : (db : Database) (mapping : Maps) → IsOneOutcome (Dumps db mapping)
 unfolding Dumps
 one_dump db mapping o p first second = first.0 ∙ sym second.0
@@ -156,13 +150,10 @@ pub one_answer : (db : Seen) (mapping : Maps) (asked : Query) → IsOneOutcome (
 unfolding GivesAnswer
 one_answer db mapping asked o p first second = first.0 ∙ sym second.0
 
-pub one_text : (schema : List Table) (mapping : Maps) (asked : Query) → IsOneOutcome (GivesText schema mapping asked)
-one_text schema mapping asked o p first second = first ∙ sym second
-
 pub determined_text : (files : Files) (name : List ℕ) (schema : List Table) (base : List ℕ) → IsDetermined (LoadsText files name schema base)
 determined_text files name schema base =
     determined_then _ _ (determined_loads LIMIT files name) (λ bytes.
-    determined_then _ _ (determined_settles _ (one_document bytes base)) (λ triples. determined_settles _ (one_mapping triples schema base)))
+    determined_then _ _ (determined_settles _ (one_document bytes base)) (λ triples. determined_settles _ (one_equal _)))
 
 pub determined_mapping : (files : Files) (file : Option (List ℕ)) (schema : List Table) (base : List ℕ) → IsDetermined (LoadsMapping files file schema base)
 determined_mapping files None schema base = determined_settles _ (one_direct schema base)
@@ -177,7 +168,7 @@ determined_database files name folder =
     determined_then _ _ (determined_tables files folder (without_rows schema) 0 schema) (λ db. determined_settles _ (one_check db)))
 
 pub determined_faultless : (files : Files) (file : Option (List ℕ)) (db : Seen) (base : List ℕ) → IsDetermined (LoadsFaultless files file db base)
-determined_faultless files file db base = determined_then _ _ (determined_mapping files file db.schema base) (λ mapping. determined_settles _ (one_scan db.tables mapping))
+determined_faultless files file db base = determined_then _ _ (determined_mapping files file db.schema base) (λ mapping. determined_settles _ (one_equal _))
 
 pub determined_asked : (files : Files) (name base : List ℕ) → IsDetermined (LoadsQuery files name base)
 determined_asked files name base = determined_then _ _ (determined_loads LIMIT files name) (λ bytes. determined_settles _ (one_query bytes base))
@@ -193,4 +184,4 @@ determined_work (query words) files =
 determined_work (sql words) files =
     determined_then _ _ (determined_schema files words.schema) (λ schema.
     determined_then _ _ (determined_mapping files words.mapping schema words.base) (λ mapping.
-    determined_then _ _ (determined_asked files words.query words.base) (λ asked. determined_settles _ (one_text schema mapping asked))))
+    determined_then _ _ (determined_asked files words.query words.base) (λ asked. determined_settles _ (one_equal _))))

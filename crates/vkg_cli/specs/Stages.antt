@@ -1,5 +1,6 @@
 -- Work over a store, in stages: which files it asks for, and what it comes to.
 use Rattle.std.specs.Prelude.{◌≡◌, ℕ, ◌≤◌, List, [], ◌∷◌, ◌++◌, take, Option, Some, None, Result, Ok, Err}
+use Rattle.vkg_lists.specs.Results.{mapped}
 use Rattle.vkg_base.specs.Outside.{Files, held, StoreState, Rose}
 use Rattle.vkg_cli.specs.declared.stops.Stop.{Stop}
 use Rattle.vkg_cli.specs.declared.stops.Stop.TheVariants.{Refused, Read, Memory}
@@ -72,10 +73,8 @@ IsOneOutcome {A} comes = (o p : Result A Stop) → comes o → comes p → o ≡
 
 -- a result at whose success a place holds the value
 abbrev pub carried : {A B : Type 0} → A → Result B Stop → Result A Stop
-carried value (Ok v) = Ok value
-carried value (Err stop) = Err stop
+carried value r = mapped (λ v. value) r
 
 -- a result without a value
 abbrev pub done_or : {B : Type 0} → Result B Stop → Result (Unit {0}) Stop
-done_or (Ok v) = Ok tt
-done_or (Err stop) = Err stop
+done_or r = mapped {B = Unit {0}} (λ v. tt) r

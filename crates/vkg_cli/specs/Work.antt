@@ -1,5 +1,6 @@
 -- What the program does for a command, over known files.
 use Rattle.std.specs.Prelude.{◌≡◌, ℕ, ◌+◌, Bool, true, false, List, ◌∷◌, [], ◌++◌, codes, length, nat_lt, Option, Some, None, Result, Ok, Err, IfOk, option_map}
+use Rattle.std.specs.Result.{result_map_both}
 use Rattle.vkg_lists.specs.Results.{unless}
 use Rattle.vkg_base.specs.Outside.{Files}
 use Rattle.vkg_terms.specs.Safe.{safe}
@@ -66,8 +67,7 @@ abbrev pub table_stop : TableFault → Stop
 table_stop f = stop.Refused (fault.Table f.check f.table f.row f.column)
 
 abbrev pub loaded_or : Result Seen TableFault → Result Seen Stop
-loaded_or (Ok db) = Ok db
-loaded_or (Err f) = Err (table_stop f)
+loaded_or r = result_map_both (λ (db : Seen). db) table_stop r
 
 -- one table: the rows of its file in place of those that it has
 abbrev pub LoadsTable : Files → List ℕ → Seen → ℕ → Table → Stage Seen
@@ -83,8 +83,7 @@ unless_fault found later = unless (option_map table_stop found) later
 
 -- a check that gives no value
 abbrev pub checked : Option TableFault → Result (Unit {0}) Stop
-checked None = Ok tt
-checked (Some f) = Err (table_stop f)
+checked found = unless_fault {A = Unit {0}} found (Ok tt)
 
 -- of a loaded database: the first repeated key, else the first reference without a target
 abbrev pub checks : Seen → Result Seen Stop
@@ -100,8 +99,7 @@ direct_stop direct_error.TooManyRules = stop.Refused (fault.Mapping 22 0)
 direct_stop direct_error.Memory = stop.Memory
 
 abbrev pub direct_or : Result Mapping DirectError → Result Mapping Stop
-direct_or (Ok mapping) = Ok mapping
-direct_or (Err e) = Err (direct_stop e)
+direct_or r = result_map_both (λ (mapping : Mapping). mapping) direct_stop r
 
 -- the direct mapping of the schema, which makes each of its terms and whose dataset is the direct graph, or why there is none
 unfoldable pub MapsDirectly : List Table → List ℕ → Result Mapping Stop → Type 0
@@ -128,9 +126,11 @@ SaysUnlessLong false bytes base outcome = SaysTriples bytes base outcome
 unfoldable pub ReadsTriples : List ℕ → List ℕ → Result (List Triple) Stop → Type 0
 ReadsTriples bytes base outcome = SaysUnlessLong (nat_lt 2147483647 (length bytes)) bytes base outcome
 
+abbrev pub mapping_stop : MapFault → Stop
+mapping_stop f = stop.Refused (fault.Mapping f.check f.map)
+
 abbrev pub mapping_or : Result Mapping MapFault → Result Mapping Stop
-mapping_or (Ok mapping) = Ok mapping
-mapping_or (Err f) = Err (stop.Refused (fault.Mapping f.check f.map))
+mapping_or r = result_map_both (λ (mapping : Mapping). mapping) mapping_stop r
 
 -- the triples are a mapping of the schema, or their least fault stands
 abbrev pub MapsTriples : List Triple → List Table → List ℕ → Result Mapping Stop → Type 0

@@ -30,7 +30,7 @@ decided word n h = by (is_count word n) refl
     by true e = counted word n e
     by false e = λ m k. true≢false (sym (sym e ∙ ap (is_count word) (same_Some n m (h m k.limit k.written)) ∙ tested word m k))
 
-small : (n : ℕ) → n ≤ 100000 → n < 2 ^ 64
+pub small : (n : ℕ) → n ≤ 100000 → n < 2 ^ 64
 small n h = lt_trans (let j : n < 100001 = omega (arith, h) in j) (lit< tt)
 
 pub parsed : {E : Type 0} (word : List ℕ) (n : ℕ) (r : Result ℕ E) → n ≤ 100000 → word ≡ decimal n → ParsesUnsigned 64 10 word r → r ≡ Ok n

@@ -1,6 +1,7 @@
 -- A derivation of a list of tokens, found by trying the ways of each symbol in their order.
 use Rattle.std.proofs.Common.{◌≡◌, ℕ, zero, suc, Bool, true, false, List, [], ◌∷◌, ◌++◌, Option, Some, None, refl, subst, nat_eq, eqb-true}
-use Rattle.std.specs.Prelude.{Ok, Err, Result}
+use Rattle.std.specs.Prelude.{Result, option_map, unwrap_or}
+use Rattle.std.specs.Result.{result_unwrap_or}
 use Rattle.vkg_tokens.specs.declared.cutting.Token.{Token}
 use Rattle.vkg_grammar.specs.declared.note.Note.{Note}
 use Rattle.vkg_grammar.specs.declared.note.Act.TheVariants.{Leaf}
@@ -9,8 +10,7 @@ use Rattle.vkg_grammar.specs.Grammar.{Derives, done, read, parts, first, second,
 
 -- the notes of these, with one more before them
 abbrev pub before : Note → Option (List Note) → Option (List Note)
-before w None = None
-before w (Some ws) = Some (w ∷ ws)
+before w o = option_map (λ ws. w ∷ ws) o
 
 -- the first notes, and the second where there are none
 abbrev pub or_else : Option (List Note) → (Unit {0} → Option (List Note)) → Option (List Note)
@@ -84,9 +84,7 @@ derives steps g s ts ws e = subst (IsFound g s ts) e (is_found steps g s ts)
 
 -- what a text is cut into and what is found of it, for texts of which it is known that there is some
 abbrev pub tokens_or : Result (List Token) ℕ → List Token
-tokens_or (Ok ts) = ts
-tokens_or (Err at) = []
+tokens_or r = result_unwrap_or r []
 
 abbrev pub notes_or : Option (List Note) → List Note
-notes_or (Some ws) = ws
-notes_or None = []
+notes_or o = unwrap_or o []

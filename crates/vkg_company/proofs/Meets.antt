@@ -1,16 +1,18 @@
 -- The rows of the company meet its schema.
-use Rattle.std.proofs.Common.{◌≡◌, ◌≢◌, ◌∙◌, ◌+◌, ◌%◌, ◌/◌, ◌≤◌, ◌<◌, ◌^◌, ◌++◌, ◌&&◌, ℕ, zero, suc, Bool, true, false, List, [], ◌∷◌, map, if◌then◌else◌, refl, sym, ap, arith, codes, inl, inr, subst, decimal, lit<, Some, length}
+use Rattle.std.proofs.Common.{◌≡◌, ◌≢◌, ◌∙◌, ◌+◌, ◌%◌, ◌/◌, ◌≤◌, ◌<◌, ◌^◌, ◌++◌, ◌&&◌, ℕ, zero, suc, Bool, true, false, List, [], ◌∷◌, map, if◌then◌else◌, refl, sym, ap, arith, codes, inr, subst, decimal, lit<, Some, length}
 use Rattle.std.specs.Prelude.{IsTrue, IsFalse}
 use Rattle.std.specs.List.{AllByRecursion, AllZip, list_any, range_with_len}
 use Rattle.std.specs.Str.{bytes_eq, IsAscii}
 use Rattle.std.proofs.Math.Nat.{mod-lt, div-lt_self, lt_trans}
 use Rattle.std.proofs.lemmas.Fmt.{IsAscii-decimal, decimal_injective}
-use Rattle.std.proofs.lemmas.Slice.Eq.{bytes_eq-Decides}
 use Rattle.std.proofs.lemmas.Str.{IsAscii-append, IsUtf8-from_ascii}
 use Rattle.std.proofs.lemmas.Str.Ascii.{IsAscii-nil, IsAscii-push}
-use Rattle.std.proofs.lemmas.Bool.{cases_order}
 use Rattle.vkg_schema.proofs.Fitting.{null_fits}
-use Rattle.vkg_lists.proofs.Bools.{or_left, or_right}
+use Rattle.vkg_lists.proofs.Counts.{eq_itself, eq_other}
+use Rattle.vkg_lists.proofs.Each.{map_each, member_range, range_member}
+use Rattle.vkg_lists.proofs.Members.{Contains-map}
+use Rattle.vkg_lists.proofs.Positions.{any_from_member}
+use Rattle.vkg_lists.proofs.Texts.{bytes_test}
 use Rattle.vkg_cells.specs.Order.{same}
 use Rattle.vkg_cells.specs.declared.cell.SqlType.TheVariants as kind
 use Rattle.vkg_cells.specs.declared.cell.Cell.{Cell}
@@ -23,6 +25,7 @@ use Rattle.vkg_company.specs.Company.{company_rows, department, department_rows,
 use Rattle.vkg_tables.specs.Seen.{Seen, columns_of, with_row}
 use Rattle.std.proofs.lemmas.List.FromFn.{map-range_with_len_more}
 use Rattle.vkg_company.proofs.Numbers.{number_kind}
+use Rattle.vkg_company.proofs.Counts.{small}
 
 -- ---- each cell is of its column's kind
 
@@ -54,25 +57,15 @@ employee_fits d i seven within h = (
 -- ---- rows that are made one for each number
 
 each : (P : Row → Type 0) (f : ℕ → Row) (a m : ℕ) → ((k : ℕ) → a ≤ k → k < a + m → P (f k)) → AllByRecursion P (map f (range_with_len a m))
-each P f a zero h = tt
-each P f a (suc m) h = (h a (omega arith) (omega arith), each P f (a + 1) m (λ k low high. h k (omega (arith, low)) (omega (arith, high))))
+each P f a m h = map_each P f (range_with_len a m) (λ k c. let r = range_member a m k c in h k r.0 r.1)
 
 some_row : (p : Row → Bool) (f : ℕ → Row) (a m k : ℕ) → a ≤ k → k < a + m → p (f k) ≡ true → list_any p (map f (range_with_len a m)) ≡ true
-some_row p f a zero k low high e = absurd (omega (arith, low, high))
-some_row p f a (suc m) k low high e = elim (cases_order a k) [
-  | inl q ↦ or_left (p (f a)) (list_any p (map f (range_with_len (a + 1) m))) (subst (λ j. p (f j) ≡ true) (sym q) e)
-  | inr (inl h) ↦ or_right (p (f a)) (list_any p (map f (range_with_len (a + 1) m))) (some_row p f (a + 1) m k (omega (arith, h)) (omega (arith, high)) e)
-  | inr (inr h) ↦ absurd (omega (arith, low, h))
-]
+some_row p f a m k low high e = any_from_member p (map f (range_with_len a m)) (f k) (Contains-map f (range_with_len a m) k (member_range a m k low high)) e
 
 -- ---- keys
 
 numbers_differ : (j k : ℕ) → j < 2 ^ 64 → k < 2 ^ 64 → j ≢ k → bytes_eq (decimal j) (decimal k) ≡ false
-numbers_differ j k h i apart = by (bytes_eq (decimal j) (decimal k)) refl
-  where
-    by : (b : Bool) → bytes_eq (decimal j) (decimal k) ≡ b → b ≡ false
-    by true e = absurd (apart (decimal_injective j k h i ((bytes_eq-Decides (decimal j) (decimal k)).0 e)))
-    by false e = refl
+numbers_differ j k h i apart = eq_other bytes_test (decimal j) (decimal k) (λ e. apart (decimal_injective j k h i e))
 
 rows_apart : (s r : Row) (j k : ℕ) → cell_at s 0 ≡ number j → cell_at r 0 ≡ number k → j < 2 ^ 64 → k < 2 ^ 64 → j ≢ k → agree ((0, 0) ∷ []) s r ≡ false
 unfolding equal_at
@@ -95,7 +88,7 @@ works : ℕ → ℕ → Bool → Row
 works d i b = number i ∷ name i ∷ (if b then cell.Null else number (i % d + 1)) ∷ []
 
 same_number : (k : ℕ) → same (number k) (number k) ≡ Some true
-same_number k = ap Some ((bytes_eq-Decides (decimal k) (decimal k)).1 refl)
+same_number k = ap Some (eq_itself bytes_test (decimal k))
 
 refers_by : (d i : ℕ) (b : Bool) → 0 < d → IsTrue (has_no_null (2 ∷ []) (works d i b)) → IsTrue (list_any (agree ((2, 0) ∷ []) (works d i b)) (department_rows d))
 unfolding is_known equal_at works
@@ -137,18 +130,13 @@ module _ (d n : ℕ) (some : 0 < d) (in_d : (k : ℕ) → k < 1 + d → k < 2 ^ 
   pub rows_meet : MeetsSchema company (department_rows d ∷ employee_rows d n ∷ [])
   rows_meet = (depts_meet (department_rows d ∷ employee_rows d n ∷ []), (emps_meet, tt))
 
-below : (m k : ℕ) → m ≤ 100000 → k < 1 + m → k < 2 ^ 64
-below m k h i = lt_trans (let j : k < 100001 = omega (arith, h, i) in j) (lit< tt)
-
 pub company_meets : (n : ℕ) → 0 < n → n ≤ 100000 → MeetsSchema company (company_rows n)
 company_meets n some h =
     let less : n / 10 < n = div-lt_self some (lit< tt) in
-    rows_meet (departments n) n (omega arith) (λ k i. below (departments n) k (omega (arith, less, h)) i) (λ k i. below n k h i)
+    let few : departments n ≤ 100000 = omega (arith, less, h) in
+    rows_meet (departments n) n (omega arith) (λ k i. small k (omega (arith, few, i))) (λ k i. small k (omega (arith, h, i)))
 
 -- ---- the rows as they are pushed
-
-one_more : (k count : ℕ) → k < count → count ≤ 100000 → k + 1 < 2 ^ 64
-one_more k count h i = lt_trans (let j : k + 1 < 100001 = omega (arith, h, i) in j) (lit< tt)
 
 pub table_there : (db : Seen) (ds es : List Row) (t : ℕ) → db ≡ holding ds es → t < 2 → t < length db.schema
 table_there db ds es t q h = subst (λ s. t < length s.schema) (sym q) h
@@ -156,15 +144,15 @@ table_there db ds es t q h = subst (λ s. t < length s.schema) (sym q) h
 pub pushed_department : (db : Seen) (ds : List Row) (row : Row) (k count : ℕ) → db ≡ holding ds [] → row ≡ department (k + 1) → k < count → count ≤ 100000
     → AllZip FitsColumn (columns_of db.schema 0) row
 pushed_department db ds row k count q e h i =
-    let fits : AllZip FitsColumn dept.columns (department (k + 1)) = department_fits (k + 1) (one_more k count h i) in
+    let fits : AllZip FitsColumn dept.columns (department (k + 1)) = department_fits (k + 1) (small (k + 1) (omega (arith, h, i))) in
     subst (λ s. AllZip FitsColumn (columns_of s.schema 0) row) (sym q) (subst (AllZip FitsColumn dept.columns) (sym e) fits)
 
 pub pushed_employee : (db : Seen) (ds es : List Row) (row : Row) (d i count : ℕ) → db ≡ holding ds es → row ≡ employee d (i + 1) → 0 < d → d ≤ 100000 → i < count → count ≤ 100000
     → AllZip FitsColumn (columns_of db.schema 1) row
-pushed_employee db ds es row d i count q e some small h limit =
+pushed_employee db ds es row d i count q e some few h limit =
     let within : (i + 1) % d < d = mod-lt (i + 1) some in
     let seven : (i + 1) % 7 < 7 = mod-lt (i + 1) (lit< tt) in
-    let fits : AllZip FitsColumn emp.columns (employee d (i + 1)) = employee_fits d (i + 1) (lt_trans seven (lit< tt)) (one_more ((i + 1) % d) d within small) (one_more i count h limit) in
+    let fits : AllZip FitsColumn emp.columns (employee d (i + 1)) = employee_fits d (i + 1) (lt_trans seven (lit< tt)) (small ((i + 1) % d + 1) (omega (arith, within, few))) (small (i + 1) (omega (arith, h, limit))) in
     subst (λ s. AllZip FitsColumn (columns_of s.schema 1) row) (sym q) (subst (AllZip FitsColumn emp.columns) (sym e) fits)
 
 pub one_department_more : (db new : Seen) (row : Row) (k : ℕ) → db ≡ holding (department_rows k) [] → row ≡ department (k + 1) → new ≡ with_row db 0 row → new ≡ holding (department_rows (k + 1)) []

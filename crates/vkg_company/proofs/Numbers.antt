@@ -1,11 +1,10 @@
 -- The decimal digits of a number are a field of the kind Int, and of the cell that has these very digits.
-use Rattle.std.proofs.Common.{◌≡◌, ◌∙◌, ◌+◌, ◌≤◌, ◌<◌, ◌^◌, ◌++◌, ◌==◌, ◌&&◌, ℕ, true, false, List, [], ◌∷◌, if◌then◌else◌, refl, ap, arith, length, get_or, nat_lt, codes, append-nil, lit<, Ok, decimal, zero, suc}
+use Rattle.std.proofs.Common.{◌≡◌, ◌∙◌, ◌+◌, ◌≤◌, ◌<◌, ◌^◌, ◌++◌, ◌&&◌, ℕ, true, false, List, [], ◌∷◌, if◌then◌else◌, refl, ap, arith, length, get_or, nat_lt, codes, append-nil, lit<, Ok, decimal, zero, suc, sym}
 use Rattle.std.specs.Prelude.{IsUtf8}
 use Rattle.std.specs.Fmt.{digits}
-use Rattle.std.specs.List.{after_first, before_first}
 use Rattle.std.specs.Str.Parse.{AllDigits}
 use Rattle.std.proofs.Math.Nat.{lt_trans}
-use Rattle.std.proofs.lemmas.Bool.{le-ltb, ne_eqb}
+use Rattle.std.proofs.lemmas.Bool.{le-ltb}
 use Rattle.std.proofs.lemmas.Fmt.{IsAscii-decimal, decimal_is_IsNumeral, decimal_nonempty, first_decimal, length-decimal-le}
 use Rattle.std.proofs.lemmas.Str.{IsUtf8-from_ascii}
 use Rattle.vkg_cells.specs.declared.cell.SqlType.TheVariants as kind
@@ -14,23 +13,23 @@ use Rattle.vkg_cells.specs.Field.{cell_of_field, where_number}
 use Rattle.vkg_cells.specs.Form.{IsOfKind}
 use Rattle.vkg_cells.specs.Number.{after_point, canonical, fraction, is_digits, is_integer, is_negative, or_zero, unsigned, whole, width, without_leading_zeros, without_trailing_zeros}
 use Rattle.vkg_cells.proofs.Digits.{are-digits}
-use Rattle.vkg_cells.proofs.PlaceLemmas.{after-all, before-all, lacks-digits}
+use Rattle.vkg_cells.proofs.CanonicalLemmas.{fraction-spelled, leading-kept, negative-spelled, unsigned-digits, whole-spelled}
 
 module _ (d : ℕ) (ds : List ℕ) (a : AllDigits 10 (d ∷ ds)) (some : 48 < d) where
   plain : unsigned (d ∷ ds) ≡ d ∷ ds
-  plain = rw (ne_eqb d 43 (λ e. omega (arith, e, some)), ne_eqb d 45 (λ e. omega (arith, e, some))) refl
+  plain = unsigned-digits d ds (omega (arith, some))
 
   no_sign : is_negative (d ∷ ds) ≡ false
-  no_sign = rw (ne_eqb 45 d (λ e. omega (arith, e, some))) refl
+  no_sign = ap is_negative (sym (append-nil (d ∷ ds))) ∙ negative-spelled false (d ∷ ds) [] a
 
   all_whole : whole (d ∷ ds) ≡ d ∷ ds
-  all_whole = ap (before_first (λ b. b == 46)) plain ∙ before-all 46 (d ∷ ds) (lacks-digits 46 (d ∷ ds) (lit< tt) a)
+  all_whole = ap whole (sym (append-nil (d ∷ ds))) ∙ whole-spelled false (d ∷ ds) [] a
 
   no_fraction : fraction (d ∷ ds) ≡ []
-  no_fraction = ap (after_first (λ b. b == 46)) plain ∙ after-all 46 (d ∷ ds) (lacks-digits 46 (d ∷ ds) (lit< tt) a)
+  no_fraction = ap fraction (sym (append-nil (d ∷ ds))) ∙ fraction-spelled false (d ∷ ds) [] a
 
   leads : without_leading_zeros (whole (d ∷ ds)) ≡ d ∷ ds
-  leads = ap without_leading_zeros all_whole ∙ rw (ne_eqb d 48 (λ e. omega (arith, e, some))) refl
+  leads = ap without_leading_zeros all_whole ∙ leading-kept (d ∷ ds) (λ e. omega (arith, e, some))
 
   trails : without_trailing_zeros (fraction (d ∷ ds)) ≡ []
   trails = ap without_trailing_zeros no_fraction

@@ -1,13 +1,12 @@
 -- A text with a derivation and without a failing check has no fault, and is one schema.
-use Rattle.std.proofs.Common.{◌≡◌, ◌∙◌, ◌+◌, ℕ, List, [], ◌∷◌, None, Ok, inl, inr, sym, ap, subst, take, drop}
+use Rattle.std.proofs.Common.{◌≡◌, ◌∙◌, ℕ, List, [], ◌∷◌, None, Ok, sym, ap, subst}
 use Rattle.std.specs.Prelude.{IsUtf8}
-use Rattle.std.proofs.lemmas.List.{take-append-drop}
 use Rattle.std.proofs.lemmas.Option.{none-some}
-use Rattle.vkg_lists.proofs.Results.{ok_err, ok_same}
+use Rattle.vkg_lists.proofs.Results.{ok_err}
 use Rattle.vkg_grammar.specs.declared.note.Note.{Note}
-use Rattle.vkg_grammar.specs.declared.rule.Rule.{Rule}
-use Rattle.vkg_grammar.specs.Grammar.{Derives, IsAlive}
+use Rattle.vkg_grammar.specs.Grammar.{Derives}
 use Rattle.vkg_grammar.specs.Kinds.{kinds_of}
+use Rattle.vkg_grammar.proofs.Outcomes.{derived_no_text, same_tokens}
 use Rattle.vkg_tokens.specs.declared.cutting.Token.{Token}
 use Rattle.vkg_tokens.specs.declared.lang.Lang.TheVariants.{Ddl}
 use Rattle.vkg_tokens.specs.Cut.{tokens_of}
@@ -21,28 +20,16 @@ use Rattle.vkg_schema.specs.declared.table.Table.{Table}
 use Rattle.vkg_schema.specs.Reading.{IsFaultOf, IsSchemaText, no_utf8, no_token, no_text, no_schema}
 use Rattle.vkg_schema.specs.Resolve.{schema_of}
 
--- each front of a text that is derived is alive
-pub front_alive : (g : List Rule) (ts : List ℕ) (ws : List Note) → Derives g (0 ∷ []) ts ws → (n : ℕ) → IsAlive g (take n ts)
-front_alive g ts ws d n = (drop n ts, ws, subst (λ us. Derives g (0 ∷ []) us ws) (sym (take-append-drop n ts)) d)
-
 module _ (text : List ℕ) (utf8 : IsUtf8 text) (tokens : List Token) (cut : tokens_of Ddl text ≡ Ok tokens) (ws : List Note) (derived : Derives DDL (0 ∷ []) (kinds_of tokens) ws) where
-  same_tokens : (ts : List Token) → tokens_of Ddl text ≡ Ok ts → ts ≡ tokens
-  same_tokens ts e = ok_same ts tokens (sym e ∙ cut)
-
   derived_by : (ts : List Token) → ts ≡ tokens → Derives DDL (0 ∷ []) (kinds_of ts) ws
   derived_by ts e = subst (λ us. Derives DDL (0 ∷ []) (kinds_of us) ws) (sym e) derived
 
   no_place : (at : ℕ) → IsNoText text at → ⊥
-  no_place at n =
-      let d = derived_by n.tokens (same_tokens n.tokens n.cut) in
-      elim (n.place) [
-        | inl p ↦ p.1.dead (front_alive DDL (kinds_of n.tokens) ws d (p.0 + 1))
-        | inr q ↦ q.0.no_text ws d
-      ]
+  no_place at n = derived_no_text DDL text cut n.cut derived n.place
 
   pub said : (w : List WrittenTable) → Says text w → w ≡ written_of ws (names_of text tokens) []
   said w s =
-      let same = same_tokens s.tokens s.cut in
+      let same = same_tokens s.cut cut in
       s.said ∙ (λ i. written_of (sym (s.derived.only ws (derived_by s.tokens same)) i) (names_of text (same i)) [])
 
   pub no_fault : first_fault (written_of ws (names_of text tokens) []) ≡ None → (f : SchemaFault) → IsFaultOf text f → ⊥

@@ -1,15 +1,16 @@
 -- Each token of a schema begins and ends with an ASCII byte.
-use Rattle.std.proofs.Common.{◌≡◌, ℕ, zero, suc, ◌+◌, ◌-◌, ◌<◌, ◌≤◌, lit<, Bool, true, false, cond, ◌||◌, ◌==◌, ◌⊎◌, inl, inr, Option, Some, None, Result, Ok, Err, List, [], ◌∷◌, ◌++◌, length, get_or, take, refl, sym, ap, ◌∙◌, subst, arith, append_assoc}
+use Rattle.std.proofs.Common.{◌≡◌, ℕ, zero, suc, ◌+◌, ◌-◌, ◌<◌, ◌≤◌, lit<, Bool, true, false, cond, ◌||◌, ◌==◌, ◌⊎◌, inl, inr, Option, Some, None, Ok, List, [], ◌∷◌, ◌++◌, length, get_or, take, refl, sym, ap, ◌∙◌, subst, arith, append_assoc}
 use Rattle.std.specs.Prelude.{fold, option_map}
 use Rattle.std.specs.List.{AllByRecursion}
 use Rattle.std.specs.Char.{is_ascii_digit, is_ascii_alphanumeric}
-use Rattle.std.proofs.lemmas.Bool.{cases_lt}
 use Rattle.std.proofs.lemmas.Bool.Decides.{nat_tests}
-use Rattle.std.proofs.lemmas.List.{length_push}
+use Rattle.std.proofs.lemmas.List.{get_or-append-add, length_push}
+use Rattle.std.proofs.lemmas.List.Folds.{fold_stays}
 use Rattle.std.proofs.lemmas.List.Sums.{fold_more}
 use Rattle.std.proofs.lemmas.Option.{none-some, same_Some}
+use Rattle.std.proofs.Math.Nat.{lt_of_not-le}
 use Rattle.std.specs.Bool.{then_some}
-use Rattle.vkg_lists.specs.Results.{in_front}
+use Rattle.vkg_lists.proofs.Results.{front_given}
 use Rattle.vkg_tokens.specs.declared.cutting.Piece.{Piece}
 use Rattle.vkg_tokens.specs.declared.cutting.Piece.TheVariants.{Gap, Word as Found, Nothing}
 use Rattle.vkg_tokens.specs.declared.cutting.Token.{Token}
@@ -92,12 +93,8 @@ class_of : (text : List ℕ) → token_class lang.Ddl text ≡ ddl_classed (fold
 unfolding token_class
 class_of text = ap (classed lang.Ddl) (lifted (Some Start) text) ∙ class_lifted (fold ddl_stepped (Some Start) text)
 
-nothing_more : (text : List ℕ) → fold ddl_stepped None text ≡ None
-nothing_more [] = refl
-nothing_more (b ∷ bs) = nothing_more bs
-
 no_first : (b : ℕ) (bs : List ℕ) → 128 ≤ b → token_class lang.Ddl (b ∷ bs) ≡ None
-no_first b bs h = class_of (b ∷ bs) ∙ ap (λ o. ddl_classed (fold ddl_stepped o bs)) (begins_low b h) ∙ ap ddl_classed (nothing_more bs)
+no_first b bs h = class_of (b ∷ bs) ∙ ap (λ o. ddl_classed (fold ddl_stepped o bs)) (begins_low b h) ∙ ap ddl_classed (fold_stays ddl_stepped None (λ c. refl) bs)
 
 no_class : (o : Option Ddl) → IsNoEnd o → ddl_classed o ≡ None
 no_class o (inl e) = ap ddl_classed e
@@ -112,9 +109,6 @@ no_last text i l h =
     class_of (take (i + 1) text) ∙ ap ddl_classed (fold_more ddl_stepped (Some Start) text i 0 l)
     ∙ no_class (ddl_stepped (fold ddl_stepped (Some Start) (take i text)) (get_or text i 0)) (no_step (fold ddl_stepped (Some Start) (take i text)) (get_or text i 0) h)
 
-below : (n : ℕ) → (128 ≤ n → ⊥) → n < 128
-below n h = elim (cases_lt n 128) [ inl l ↦ l | inr g ↦ absurd (h g) ]
-
 -- the ends of the first n bytes
 record AreAsciiEnds (rest : List ℕ) (n : ℕ) : Type 0 where
   some : 0 < n
@@ -128,11 +122,11 @@ ends_of (b ∷ bs) zero class s l e = absurd (omega (arith, s))
 ends_of (b ∷ bs) (suc n) class s l e = record {
   some = s;
   inside = l;
-  first = below b (λ h. none-some _ (sym (no_first b (take n bs) h) ∙ e));
+  first = lt_of_not-le (λ h. none-some _ (sym (no_first b (take n bs) h) ∙ e));
   last =
       let here : suc n ≡ n + 1 = omega arith in
       let at : suc n - 1 ≡ n = omega arith in
-      below (get_or (b ∷ bs) (suc n - 1) 0) (λ h. none-some _ (sym (no_last (b ∷ bs) n (omega (arith, l)) (subst (λ k. 128 ≤ get_or (b ∷ bs) k 0) at h)) ∙ ap (λ k. token_class lang.Ddl (take k (b ∷ bs))) (sym here) ∙ e));
+      lt_of_not-le (λ h. none-some _ (sym (no_last (b ∷ bs) n (omega (arith, l)) (subst (λ k. 128 ≤ get_or (b ∷ bs) k 0) at h)) ∙ ap (λ k. token_class lang.Ddl (take k (b ∷ bs))) (sym here) ∙ e));
 }
 
 found_by : (rest : List ℕ) (m n class : ℕ) (o : Option ℕ) → suc m ≤ length rest → (longest_to lang.Ddl rest m ≡ Some (class, n) → AreAsciiEnds rest n) → token_class lang.Ddl (take (suc m) rest) ≡ o → or_shorter o (suc m) (longest_to lang.Ddl rest m) ≡ Some (class, n) → AreAsciiEnds rest n
@@ -159,21 +153,13 @@ piece_ends b bs n class e = by_tests (is_blank b) (begins_comment lang.Ddl (b �
     by_tests false true f = absurd (cc)
     by_tests false false f = word_found (b ∷ bs) n class (longest lang.Ddl (b ∷ bs)) refl f
 
-get_behind : (front rest : List ℕ) (k : ℕ) → get_or (front ++ rest) (length front + k) 0 ≡ get_or rest k 0
-get_behind [] rest k = let z : 0 + k ≡ k = omega arith in ap (λ j. get_or rest j 0) z
-get_behind (x ∷ front) rest k = let z : suc (length front) + k ≡ suc (length front + k) = omega arith in ap (λ j. get_or (x ∷ front ++ rest) j 0) z ∙ get_behind front rest k
-
 placed : (front rest : List ℕ) (at n kind : ℕ) → at ≡ length front → AreAsciiEnds rest n → HasAsciiEnds (front ++ rest) (record { kind = kind; start = at; end = at + n })
 placed front rest at n kind e a =
     let first : at ≡ length front + 0 = omega (arith, e) in
     let last : at + n - 1 ≡ length front + (n - 1) = let s = a.some in omega (arith, e, s) in (
-      subst (λ k. get_or (front ++ rest) k 0 < 128) (sym first) (subst (λ v. v < 128) (sym (get_behind front rest 0)) a.first),
-      subst (λ k. get_or (front ++ rest) k 0 < 128) (sym last) (subst (λ v. v < 128) (sym (get_behind front rest (n - 1))) a.last),
+      subst (λ k. get_or (front ++ rest) k 0 < 128) (sym first) (subst (λ v. v < 128) (sym (get_or-append-add front rest 0 0)) a.first),
+      subst (λ k. get_or (front ++ rest) k 0 < 128) (sym last) (subst (λ v. v < 128) (sym (get_or-append-add front rest (n - 1) 0)) a.last),
     )
-
-taken : (t : Token) (r : Result (List Token) ℕ) (ts : List Token) → in_front t r ≡ Ok ts → (us : List Token) × (r ≡ Ok us) × (t ∷ us ≡ ts)
-taken t (Ok us) ts e = (us, refl, cc)
-taken t (Err at) ts e = absurd (cc)
 
 -- of what is behind one byte the tokens have such ends
 abbrev Further : List ℕ → List ℕ → ℕ → ℕ → Type 0
@@ -185,7 +171,7 @@ moved front bs b us h = subst (λ text. AllByRecursion (HasAsciiEnds text) us) (
 by_piece : (front bs : List ℕ) (b at : ℕ) (ts : List Token) (p : Piece) → at ≡ length front → Further front bs b at → piece lang.Ddl (b ∷ bs) ≡ p → cut_piece lang.Ddl at (b ∷ bs) p (λ n. cut lang.Ddl (at + 1) (n - 1) bs) ≡ Ok ts → AllByRecursion (HasAsciiEnds (front ++ b ∷ bs)) ts
 by_piece front bs b at ts (Gap n) e further f d = moved front bs b ts (further (n - 1) ts d)
 by_piece front bs b at ts (Found class n) e further f d =
-    let r = taken _ _ ts d in
+    let r = front_given _ _ ts d in
     subst (AllByRecursion (HasAsciiEnds (front ++ b ∷ bs))) r.2 (placed front (b ∷ bs) at n (kind_of lang.Ddl class (take n (b ∷ bs))) e (piece_ends b bs n class f), moved front bs b r.0 (further (n - 1) r.0 r.1))
 by_piece front bs b at ts Nothing e further f d = absurd (cc)
 

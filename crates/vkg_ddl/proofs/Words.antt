@@ -1,11 +1,11 @@
 -- What a token says is UTF-8.
-use Rattle.std.proofs.Common.{◌≡◌, ℕ, ◌+◌, ◌-◌, ◌<◌, ◌≤◌, Bool, true, false, cond, not, ◌&&◌, ◌==◌, List, [], ◌∷◌, ◌++◌, length, get_or, drop, refl, sym, ap, ◌∙◌, subst, arith, append-nil, length-drop, add-zero}
+use Rattle.std.proofs.Common.{◌≡◌, ℕ, ◌+◌, ◌-◌, ◌<◌, ◌≤◌, Bool, true, false, cond, not, ◌&&◌, ◌==◌, List, [], ◌∷◌, ◌++◌, length, get_or, drop, refl, sym, ap, ◌∙◌, subst, arith, length-drop, add-zero}
 use Rattle.std.specs.Prelude.{IsUtf8, chars, nat_le, if◌then◌else◌, slice_range}
 use Rattle.std.specs.List.{list_all}
 use Rattle.std.specs.Str.{IsCharBoundary}
 use Rattle.std.proofs.lemmas.Bool.Decides.{nat_tests}
 use Rattle.std.proofs.lemmas.List.{get_or-take, get_or-drop, length-take-le}
-use Rattle.std.proofs.lemmas.Str.{IsUtf8-nil, IsUtf8-append, IsUtf8-between, IsCharBoundary-before_ascii, IsCharBoundary-after_ascii, encodes-chars, scalars-chars}
+use Rattle.std.proofs.lemmas.Str.{IsUtf8-nil, IsUtf8-append, IsUtf8-encode, IsUtf8-between, IsCharBoundary-before_ascii, IsCharBoundary-after_ascii, encodes-chars, scalars-chars}
 use Rattle.std.proofs.Math.Utf8.{encode, encodes, scalar, scalars}
 use Rattle.std.proofs.Math.Bool.{and-false, and-true}
 use Rattle.vkg_lists.proofs.Bools.{and_parts, not_true}
@@ -23,14 +23,11 @@ plain (x ∷ xs) ys after e =
     let more = plain xs ys (x == 34) h.1 in
     (more.0, first_byte after x (xs ++ ys) false (ap (λ b. after && b) other ∙ and-false after) ∙ ap (λ zs. x ∷ zs) more.1)
 
-one_char : (c : ℕ) → scalar c ≡ true → IsUtf8 (encode c)
-one_char c e = (c ∷ [], (ap (λ b. b && true) e, append-nil (encode c)))
-
 module _ (c : ℕ) (cs : List ℕ) (after : Bool) (char : scalar c ≡ true) (more : (later : Bool) → IsUtf8 (undoubled_from later (encodes cs))) where
   at_quote : (b : Bool) → IsUtf8 (cond b (undoubled_from false (encodes cs)) (34 ∷ undoubled_from true (encodes cs)))
   unfolding encode
   at_quote true = more false
-  at_quote false = IsUtf8-append (34 ∷ []) (undoubled_from true (encodes cs)) (one_char 34 refl) (more true)
+  at_quote false = IsUtf8-append (34 ∷ []) (undoubled_from true (encodes cs)) (IsUtf8-encode 34 refl) (more true)
 
   by_quote : (b : Bool) → (c == 34) ≡ b → IsUtf8 (undoubled_from after (encode c ++ encodes cs))
   unfolding encode
@@ -39,7 +36,7 @@ module _ (c : ℕ) (cs : List ℕ) (after : Bool) (char : scalar c ≡ true) (mo
       subst (λ d. IsUtf8 (undoubled_from after (encode d ++ encodes cs))) is (subst IsUtf8 (sym (first_byte after 34 (encodes cs) after (and-true after))) (at_quote after))
   by_quote false f =
       let p = plain (encode c) (encodes cs) after (encode_all (λ b. not (b == 34)) c (scalar_below c char) (λ b l k. grind (arith, nat_tests)) (λ l. ap not f)) in
-      subst IsUtf8 (sym p.1) (IsUtf8-append (encode c) (undoubled_from p.0 (encodes cs)) (one_char c char) (more p.0))
+      subst IsUtf8 (sym p.1) (IsUtf8-append (encode c) (undoubled_from p.0 (encodes cs)) (IsUtf8-encode c char) (more p.0))
 
 undoubled_chars : (cs : List ℕ) (after : Bool) → scalars cs ≡ true → IsUtf8 (undoubled_from after (encodes cs))
 unfolding undoubled_from

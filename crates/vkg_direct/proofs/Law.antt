@@ -1,11 +1,13 @@
 -- What the direct mapping of a schema with keys stands for.
-use Rattle.std.proofs.Common.{◌≡◌, refl, ℕ, List, [], ◌∷◌, ◌++◌, sym, ap, ◌∙◌, subst, map, flat_map, Option, Some, None, true, false, not, arith, inl, inr}
+use Rattle.std.proofs.Common.{◌≡◌, refl, ℕ, List, [], ◌∷◌, sym, ap, ◌∙◌, subst, map, flat_map, Option, Some, None, true, false, not, arith, inl, inr}
 use Rattle.std.specs.Prelude.{Contains, position}
 use Rattle.std.specs.List.{enumerate_from}
 use Rattle.std.proofs.lemmas.List.Sums.{fails_before_first}
 use Rattle.std.proofs.lemmas.List.Elements.{Contains-append_cases}
+use Rattle.vkg_lists.proofs.Positions.{place_none}
+use Rattle.vkg_lists.proofs.Nothing.{flat_map_nothing}
+use Rattle.vkg_lists.proofs.Numbered.{numbered_member}
 use Rattle.vkg_lists.proofs.Bools.{not_false}
-use Rattle.vkg_terms.proofs.Places.{place_none}
 use Rattle.vkg_terms.specs.Iri.{is_absolute}
 use Rattle.vkg_schema.specs.declared.table.Table.{Table}
 use Rattle.vkg_schema.specs.Rows.{Row, Database, rows_of}
@@ -21,8 +23,8 @@ use Rattle.vkg_maps.specs.declared.term_map.TermMap.TheVariants as from
 use Rattle.vkg_maps.specs.declared.term_map.TermType.TheVariants as sort
 use Rattle.vkg_direct.specs.DirectGraph.{direct_graph, column_iri, reference_iri}
 use Rattle.vkg_direct.specs.DirectMapping.{direct, direct_map, has_primary_key, column_property, reference_property, maps_of}
-use Rattle.vkg_lists.proofs.Members.{Contains-here, Contains-there, Contains-none, Contains-cons_cases, Contains-from_map, Contains-from_flat_map}
-use Rattle.vkg_direct.proofs.Whole.{AllMade, enumerated, same_quads}
+use Rattle.vkg_lists.proofs.Members.{Contains-none, Contains-cons_cases, Contains-from_map, Contains-from_flat_map}
+use Rattle.vkg_direct.proofs.Whole.{AllMade, same_quads}
 use Rattle.vkg_direct.proofs.AllMade.{all_made}
 
 keyed : (tables : List Table) → position (λ t. not (has_primary_key t)) tables ≡ None → (t : Table) → Contains tables t → has_primary_key t ≡ true
@@ -30,10 +32,6 @@ keyed tables e t (k, l, i) =
     let n = place_none (λ t. not (has_primary_key t)) tables e in
     let f : not (has_primary_key t) ≡ false = ap (λ x. not (has_primary_key x)) (sym i) ∙ fails_before_first (λ t. not (has_primary_key t)) tables k t (omega (arith, l, n)) in
     not_false (has_primary_key t) f
-
-flat_map_nothing : {X A : Type 0} (f : X → List A) (xs : List X) → ((x : X) → Contains xs x → f x ≡ []) → flat_map f xs ≡ []
-flat_map_nothing f [] h = refl
-flat_map_nothing f (x ∷ xs) h = ap (λ r. r ++ flat_map f xs) (h x (Contains-here x xs)) ∙ flat_map_nothing f xs (λ y c. h y (Contains-there x xs y c))
 
 pair_sound : (base : List ℕ) (row : Row) (a b t : Option TermMap) → Contains (a ∷ b ∷ []) t → term_faults base row a ≡ [] → term_faults base row b ≡ [] → term_faults base row t ≡ []
 pair_sound base row a b t c x y = elim (Contains-cons_cases a (b ∷ []) t c) [
@@ -61,14 +59,14 @@ module _ (base : List ℕ) (tables : List Table) (db : Database) (made : AllMade
     ]
 
     row_sound : (k n : ℕ) → row_faults base (term_maps (direct_map base kt)) k (n, row) ≡ []
-    row_sound k n = flat_map_nothing (faults_at base k (n, row)) (enumerate_from 0 (term_maps (direct_map base kt))) (λ t c. ap (map (fault_at k n t.0)) (term_sound t.1 (enumerated 0 (term_maps (direct_map base kt)) t c)))
+    row_sound k n = flat_map_nothing (faults_at base k (n, row)) (enumerate_from 0 (term_maps (direct_map base kt))) (λ t c. ap (map (fault_at k n t.0)) (term_sound t.1 (numbered_member 0 (term_maps (direct_map base kt)) t c)))
 
   map_sound : (kt : ℕ × Table) → Contains (enumerate_from 0 tables) kt → (k : ℕ) → map_faults base db (k, direct_map base kt) ≡ []
-  map_sound kt h k = flat_map_nothing (row_faults base (term_maps (direct_map base kt)) k) (enumerate_from 1 (rows_of db kt.0)) (λ r c. row_sound kt h r.1 (enumerated 1 (rows_of db kt.0) r c) k r.0)
+  map_sound kt h k = flat_map_nothing (row_faults base (term_maps (direct_map base kt)) k) (enumerate_from 1 (rows_of db kt.0)) (λ r c. row_sound kt h r.1 (numbered_member 1 (rows_of db kt.0) r c) k r.0)
 
   pub faultless : data_faults (direct tables base) db ≡ []
   faultless = flat_map_nothing (map_faults base db) (enumerate_from 1 (maps_of base tables)) (λ m c.
-      let b = Contains-from_map (direct_map base) (enumerate_from 0 tables) m.1 (enumerated 1 (maps_of base tables) m c) in
+      let b = Contains-from_map (direct_map base) (enumerate_from 0 tables) m.1 (numbered_member 1 (maps_of base tables) m c) in
       ap (λ x. map_faults base db (m.0, x)) (sym b.2) ∙ map_sound b.0 b.1 m.0)
 
 module _ (base : List ℕ) (tables : List Table) (absolute : is_absolute base ≡ true) (well : IsWellFormed tables) (keys : position (λ t. not (has_primary_key t)) tables ≡ None) (db : Database) (meets : MeetsSchema tables db) where

@@ -1,7 +1,6 @@
 pub mod Tables
 pub mod Whole
 pub mod Joined
-pub mod Steps
 pub mod Nodes
 pub mod Cells
 pub mod AllMade

@@ -1,7 +1,9 @@
 -- The dataset of the direct mapping is the direct graph, where each term map makes its term.
-use Rattle.std.proofs.Common.{◌≡◌, refl, ℕ, zero, suc, ◌+◌, ◌<◌, ◌≢◌, List, [], ◌∷◌, sym, ap, ◌∙◌, subst, map, flat_map, length, Option, Some, arith, inl, inr}
+use Rattle.std.proofs.Common.{◌≡◌, refl, ℕ, zero, suc, ◌+◌, ◌≢◌, List, [], ◌∷◌, sym, ap, ◌∙◌, subst, map, flat_map, Option, Some, arith}
 use Rattle.std.specs.Prelude.{Contains, option_map, slice_get, unwrap_or, IfSome}
 use Rattle.std.specs.List.{enumerate_from, AllByRecursion}
+use Rattle.vkg_lists.proofs.Numbered.{numbered_member}
+use Rattle.vkg_lists.proofs.Positions.{get_below}
 use Rattle.vkg_terms.specs.NQuads.{Quad}
 use Rattle.vkg_schema.specs.declared.table.Table.{Table}
 use Rattle.vkg_schema.specs.declared.table.Reference.{Reference}
@@ -15,7 +17,7 @@ use Rattle.vkg_maps.specs.Dataset.{quads, quads_of_rule, quad_eq, dataset}
 use Rattle.vkg_maps.proofs.Quads.{quads_apart}
 use Rattle.vkg_direct.specs.DirectGraph.{row_graph, direct_graph}
 use Rattle.vkg_direct.specs.DirectMapping.{direct_map, direct}
-use Rattle.vkg_lists.proofs.Members.{each_from_recursion, Contains-there, Contains-cons_cases, Contains-none, Contains-from_flat_map, Contains-flat_map, Contains-from_map, Contains-map, Contains-first}
+use Rattle.vkg_lists.proofs.Members.{each_from_recursion, Contains-from_flat_map, Contains-flat_map, Contains-from_map, Contains-map}
 use Rattle.vkg_direct.proofs.Tables.{Makes, from_mapping, into_mapping}
 
 -- the map of a table stands at the table's place
@@ -24,22 +26,10 @@ map_at base [] n j = refl
 map_at base (t ∷ ts) n zero = let e : n ≡ n + 0 = omega arith in ap (λ k. Some (direct_map base (k, t))) e
 map_at base (t ∷ ts) n (suc j) = let e : (n + 1) + j ≡ n + suc j = omega arith in map_at base ts (n + 1) j ∙ ap (λ k. option_map (λ t. direct_map base (k, t)) (slice_get ts j)) e
 
-pub some_at : {X : Type 0} (xs : List X) (j : ℕ) → j < length xs → (x : X) × (slice_get xs j ≡ Some x)
-some_at [] j h = absurd (let n : ⊥ = omega (arith, h) in n)
-some_at (x ∷ xs) zero h = (x, refl)
-some_at (x ∷ xs) (suc j) h = some_at xs j (omega (arith, h))
-
 pub parent_at : (base : List ℕ) (ts : List Table) (m : TriplesMap) (j : ℕ) (t : Table) → slice_get ts j ≡ Some t → parent_of (map (direct_map base) (enumerate_from 0 ts)) m j ≡ direct_map base (j, t)
 parent_at base ts m j t e =
     let z : 0 + j ≡ j = omega arith in
     ap (λ o. unwrap_or o m) (map_at base ts 0 j ∙ ap (λ o. option_map (λ t. direct_map base (0 + j, t)) o) e) ∙ ap (λ k. direct_map base (k, t)) z
-
-pub enumerated : {X : Type 0} (n : ℕ) (xs : List X) (p : ℕ × X) → Contains (enumerate_from n xs) p → Contains xs p.1
-enumerated n [] p h = absurd (Contains-none p h)
-enumerated n (x ∷ xs) p h = elim (Contains-cons_cases (n, x) (enumerate_from (n + 1) xs) p h) [
-  | inl e ↦ Contains-first x p.1 xs (ap (λ q. q.1) e)
-  | inr c ↦ Contains-there x xs p.1 (enumerated (n + 1) xs p c)
-]
 
 module _ (base : List ℕ) (tables : List Table) (db : Database) where
   abbrev pub maps : List TriplesMap
@@ -51,9 +41,9 @@ module _ (base : List ℕ) (tables : List Table) (db : Database) where
 
   refers : IsWellFormed tables → (kt : ℕ × Table) → Contains (enumerate_from 0 tables) kt → (r : Reference) → Contains kt.1.references r → (r.pairs ≢ []) × ((parent_of maps (direct_map base kt) r.table).table ≡ r.table)
   refers w kt is r r_is =
-      let t = each_from_recursion (IsTable tables) tables w kt.1 (enumerated 0 tables kt is) in
+      let t = each_from_recursion (IsTable tables) tables w kt.1 (numbered_member 0 tables kt is) in
       let f = each_from_recursion (IsReference tables kt.1) kt.1.references t.references r r_is in
-      let target = some_at tables r.table f.inside in
+      let target = get_below tables r.table f.inside in
       let P : Option Table → Type 0 = λ o. IfSome o (λ t. RefersTo r t × AllByRecursion (Comparable kt.1 t) r.pairs) in
       let known = subst P target.1 f.target in
       (known.0.some, ap (λ m. m.table) (parent_at base tables (direct_map base kt) r.table target.0 target.1))

@@ -1,11 +1,13 @@
 -- The direct mapping of a well-formed schema is within it.
-use Rattle.std.proofs.Common.{◌≡◌, ◌∙◌, ℕ, zero, suc, ◌+◌, ◌<◌, Bool, true, false, cond, inl, inr, List, [], ◌∷◌, map, length, refl, sym, ap, subst, arith}
-use Rattle.std.specs.Prelude.{◌≢◌, not, position, nat_lt, if◌then◌else◌, Result, Ok, Err, Option, Some, None, option_map, unwrap_or, slice_get, IfSome, flat_map, find, codes, Contains}
+use Rattle.std.proofs.Common.{◌≡◌, ◌∙◌, ℕ, ◌+◌, ◌<◌, Bool, true, false, cond, inl, inr, List, [], ◌∷◌, map, length, refl, sym, ap, subst, arith}
+use Rattle.std.specs.Prelude.{◌≢◌, not, position, Ok, Option, Some, None, option_map, unwrap_or, slice_get, IfSome, flat_map, find, codes, Contains}
 use Rattle.std.specs.List.{AllByRecursion, enumerate_from}
 use Rattle.std.proofs.lemmas.List.{length-map}
-use Rattle.std.proofs.lemmas.Option.{slice_get-map, slice_get_within}
+use Rattle.std.proofs.lemmas.Option.{none-some, slice_get-map, slice_get_within}
+use Rattle.vkg_lists.proofs.Numbered.{numbered_place, numbered_get}
+use Rattle.vkg_lists.proofs.Positions.{get_below, get_member}
 use Rattle.vkg_lists.specs.Lists.{AllBelow}
-use Rattle.vkg_lists.proofs.Members.{each_from_recursion, recursion_from_each, Contains-from_map, Contains-cons_cases, Contains-none}
+use Rattle.vkg_lists.proofs.Members.{each_from_recursion, recursion_from_each, Contains-from_map}
 use Rattle.std.proofs.lemmas.List.Elements.{Contains-append_cases}
 use Rattle.std.proofs.lemmas.List.FromFn.{length-enumerate_from}
 use Rattle.vkg_cells.specs.declared.cell.SqlType.{SqlType}
@@ -19,31 +21,13 @@ use Rattle.vkg_maps.specs.declared.mapping.ObjectMap.TheVariants.{Parent}
 use Rattle.vkg_maps.specs.declared.mapping.PredicateObjectMap.{PredicateObjectMap}
 use Rattle.vkg_maps.specs.declared.mapping.TriplesMap.{TriplesMap}
 use Rattle.vkg_maps.specs.declared.mapping.Mapping.{Mapping}
-use Rattle.vkg_maps.specs.QuadRules.{parent_of, quad_rules, rule_limit}
-use Rattle.vkg_direct.specs.declared.direct_error.DirectError.{DirectError}
-use Rattle.vkg_direct.specs.declared.direct_error.DirectError.TheVariants.{TooManyRules}
+use Rattle.vkg_maps.specs.QuadRules.{parent_of}
 use Rattle.vkg_direct.specs.DirectGraph.{primary_key}
 use Rattle.vkg_direct.specs.DirectMapping.{column_property, direct, direct_map, has_primary_key, key_pieces, maps_of, node_pieces, properties_of, reference_property, unless_keyless, within_limit}
 use Rattle.vkg_maps.specs.Within.{kinds_at, AreConditions, IsCondition, IsMapWithin, IsObjectWithin, IsPairWithin, IsWithin, piece_columns}
+use Rattle.vkg_maps.proofs.Kinds.{kinds_of}
 use Rattle.vkg_direct.specs.Within.{DirectIsWithin}
-use Rattle.vkg_maps.proofs.Members.{in_list}
-
--- ---- numbered elements
-
-numbered_at : {A : Type 0} (n : ℕ) (xs : List A) (p : ℕ × A) → Contains (enumerate_from n xs) p → (k : ℕ) × (p.0 ≡ n + k) × (slice_get xs k ≡ Some p.1)
-numbered_at n [] p h = absurd (Contains-none p h)
-numbered_at n (x ∷ xs) p h = elim (Contains-cons_cases (n, x) (enumerate_from (n + 1) xs) p h) [
-  | inl e ↦ let i : n ≡ p.0 = ap (λ q. q.0) e in (0, omega (arith, i), ap (λ q. Some q.1) e)
-  | inr c ↦ let r = numbered_at (n + 1) xs p c in let i : p.0 ≡ (n + 1) + r.0 = r.1 in (suc r.0, omega (arith, i), r.2)
-]
-
-pub place_of : {A : Type 0} (xs : List A) (p : ℕ × A) → Contains (enumerate_from 0 xs) p → slice_get xs p.0 ≡ Some p.1
-place_of xs p h = let r = numbered_at 0 xs p h in let i : p.0 ≡ r.0 = let j : p.0 ≡ 0 + r.0 = r.1 in omega (arith, j) in ap (slice_get xs) i ∙ r.2
-
-element_of : {A : Type 0} (n : ℕ) (xs : List A) (k : ℕ) (x : A) → slice_get xs k ≡ Some x → slice_get (enumerate_from n xs) k ≡ Some (n + k, x)
-element_of n [] k x e = cc
-element_of n (y ∷ ys) zero x e = let s : y ≡ x = cc in let i : n ≡ n + 0 = omega arith in λ j. Some (i j, s j)
-element_of n (y ∷ ys) (suc k) x e = let i : (n + 1) + k ≡ n + suc k = omega arith in element_of (n + 1) ys k x e ∙ ap (λ m. Some (m, x)) i
+use Rattle.vkg_direct.proofs.RuleCount.{direct_of_limit}
 
 -- ---- places that are below a bound
 
@@ -72,19 +56,16 @@ module _ (base : List ℕ) (schema : List Table) (well : IsWellFormed schema) wh
   abbrev maps : List TriplesMap
   maps = maps_of base schema
 
-  table_at : (k : ℕ) (t : Table) → slice_get schema k ≡ Some t → kinds_at schema k ≡ map (λ (c : Column). c.kind) t.columns
-  table_at k t e = ap (λ o. unwrap_or (option_map (λ (t : Table). map (λ (c : Column). c.kind) t.columns) o) []) e
-
   module _ (k : ℕ) (t : Table) (here : slice_get schema k ≡ Some t) (fine : IsTable schema t) where
     abbrev m : TriplesMap
     m = direct_map base (k, t)
 
     width : length t.columns ≡ length (kinds_at schema k)
-    width = sym (length-map t.columns (λ (c : Column). c.kind)) ∙ ap length (sym (table_at k t here))
+    width = sym (length-map t.columns (λ (c : Column). c.kind)) ∙ ap length (sym (kinds_of schema k t here))
 
     -- an expression over the columns of a table is over the kinds
     kind_there : (k : ℕ) (t : Table) → slice_get schema k ≡ Some t → (at : ℕ) → slice_get (kinds_at schema k) at ≡ option_map (λ (c : Column). c.kind) (slice_get t.columns at)
-    kind_there k t e at = ap (λ ks. slice_get ks at) (table_at k t e) ∙ slice_get-map (λ (c : Column). c.kind) t.columns at
+    kind_there k t e at = ap (λ ks. slice_get ks at) (kinds_of schema k t e) ∙ slice_get-map (λ (c : Column). c.kind) t.columns at
 
     comparable_kinds : (other : ℕ) (u : Table) → slice_get schema other ≡ Some u → (p : ℕ × ℕ) → Comparable t u p →
         IfSome (slice_get (kinds_at schema k) p.0) (λ c. IfSome (slice_get (kinds_at schema other) p.1) (λ d. family c ≡ family d))
@@ -105,7 +86,7 @@ module _ (base : List ℕ) (schema : List Table) (well : IsWellFormed schema) wh
     conditions_are other u e (p ∷ ps) h i j = (
       record {
         of_child = subst (λ n. p.0 < n) width h.0;
-        of_parent = subst (λ n. p.1 < n) (sym (length-map u.columns (λ (c : Column). c.kind)) ∙ ap length (sym (table_at other u e))) i.0;
+        of_parent = subst (λ n. p.1 < n) (sym (length-map u.columns (λ (c : Column). c.kind)) ∙ ap length (sym (kinds_of schema other u e))) i.0;
         comparable = comparable_kinds other u e p j.0;
       },
       conditions_are other u e ps h.1 i.1 j.1,
@@ -122,14 +103,9 @@ module _ (base : List ℕ) (schema : List Table) (well : IsWellFormed schema) wh
         inside = subst (λ n. r.table < n) (sym (length-map (enumerate_from 0 schema) (direct_map base) ∙ length-enumerate_from 0 schema)) h.inside
 
         of : (o : Option Table) → slice_get schema r.table ≡ o → IfSome o (λ u. RefersTo r u × AllByRecursion (Comparable t u) r.pairs) → (r.table < length maps) × AreConditions schema k (parent_of maps m r.table).table r.pairs
-        of None e g = absurd (nowhere schema r.table h.inside e)
-          where
-            nowhere : (xs : List Table) (n : ℕ) → n < length xs → slice_get xs n ≡ None → ⊥
-            nowhere [] n l e = let i : n < 0 = l in omega (arith, i)
-            nowhere (x ∷ xs) zero l e = cc
-            nowhere (x ∷ xs) (suc n) l e = nowhere xs n (omega (arith, l)) e
+        of None e g = let there = get_below schema r.table h.inside in absurd (none-some there.0 (sym e ∙ there.1))
         of (Some u) e g =
-            let place : slice_get maps r.table ≡ Some (direct_map base (r.table, u)) = slice_get-map (direct_map base) (enumerate_from 0 schema) r.table ∙ ap (option_map (direct_map base)) (element_of 0 schema r.table u e ∙ zero_first u) in
+            let place : slice_get maps r.table ≡ Some (direct_map base (r.table, u)) = slice_get-map (direct_map base) (enumerate_from 0 schema) r.table ∙ ap (option_map (direct_map base)) (numbered_get 0 schema r.table u e ∙ zero_first u) in
             let table : r.table ≡ (parent_of maps m r.table).table = ap (λ (o : Option TriplesMap). (unwrap_or o m).table) (sym place) in
             (inside, subst (λ n. AreConditions schema k n r.pairs) table (some_conditions k r.table r.pairs g.0.some (conditions_are r.table u e r.pairs h.children g.0.parents g.1)))
           where
@@ -140,7 +116,7 @@ module _ (base : List ℕ) (schema : List Table) (well : IsWellFormed schema) wh
     pair_within po c = elim (Contains-append_cases (map (column_property base t) (enumerate_from 0 t.columns)) (map (reference_property base t) t.references) po c) [
       | inl d ↦
           let r = Contains-from_map (column_property base t) (enumerate_from 0 t.columns) po d in
-          let l : r.0.0 < length t.columns = slice_get_within t.columns r.0.0 r.0.1 (place_of t.columns r.0 r.1) in
+          let l : r.0.0 < length t.columns = slice_get_within t.columns r.0.0 r.0.1 (numbered_place t.columns r.0 r.1) in
           subst (IsPairWithin schema maps m) r.2 (record {
             predicates = (record { columns = tt; narrow = refl }, tt);
             objects = (record { columns = (subst (λ n. r.0.0 < n) width l, tt); narrow = refl }, tt);
@@ -169,16 +145,12 @@ module _ (base : List ℕ) (schema : List Table) (well : IsWellFormed schema) wh
       each : (m : TriplesMap) → Contains maps m → IsMapWithin schema maps m
       each m c =
           let r = Contains-from_map (direct_map base) (enumerate_from 0 schema) m c in
-          let here = place_of schema r.0 r.1 in
-          subst (IsMapWithin schema maps) r.2 (map_within r.0.0 r.0.1 here (each_from_recursion (IsTable schema) schema well r.0.1 (in_list schema r.0.0 r.0.1 here)))
+          let here = numbered_place schema r.0 r.1 in
+          subst (IsMapWithin schema maps) r.2 (map_within r.0.0 r.0.1 here (each_from_recursion (IsTable schema) schema well r.0.1 (get_member schema r.0.0 r.0.1 here)))
 
 pub direct_is_within : (schema : List Table) (base : List ℕ) (mapping : Mapping) → DirectIsWithin schema base mapping
 direct_is_within schema base mapping well e = keyed (position (λ t. not (has_primary_key t)) schema) e
   where
-    few : (b : Bool) → ◌≡◌ {A = Result Mapping DirectError} (if b then Err TooManyRules else Ok (direct schema base)) (Ok mapping) → IsWithin schema mapping
-    few true e = cc
-    few false e = let same : direct schema base ≡ mapping = cc in subst (IsWithin schema) same (maps_within base schema well)
-
     keyed : (o : Option ℕ) → unless_keyless o (within_limit (direct schema base)) ≡ Ok mapping → IsWithin schema mapping
-    keyed None e = few (nat_lt rule_limit (length (quad_rules (direct schema base)))) e
+    keyed None e = subst (IsWithin schema) (direct_of_limit schema base mapping e) (maps_within base schema well)
     keyed (Some place) e = cc

@@ -1,5 +1,5 @@
 -- Each row once, row by row, where a row's repeats are among the rows of its text.
-use Rattle.std.proofs.Common.{◌≡◌, refl, sym, ◌∙◌, ap, ℕ, ◌+◌, ◌<◌, List, [], ◌∷◌, ◌++◌, Bool, true, false, cond, not, ◌||◌, take, length, get_or, Some, inl, inr, append-nil}
+use Rattle.std.proofs.Common.{◌≡◌, refl, sym, ◌∙◌, ap, ℕ, ◌+◌, ◌<◌, List, [], ◌∷◌, ◌++◌, Bool, true, false, cond, ◌||◌, take, length, get_or, Some, inl, inr, append-nil}
 use Rattle.std.specs.Prelude.{filter_map, slice_get, if◌then◌else◌}
 use Rattle.std.specs.List.{filter, list_any}
 use Rattle.std.specs.Str.{bytes_eq}
@@ -8,14 +8,14 @@ use Rattle.std.proofs.lemmas.List.{take_more}
 use Rattle.std.proofs.lemmas.List.Elements.{filter_map-append, filter-append}
 use Rattle.std.proofs.lemmas.Slice.Eq.{bytes_eq-Decides}
 use Rattle.vkg_lists.specs.Sets.{distinct}
-use Rattle.vkg_lists.proofs.Bools.{is_false, same_truth}
-use Rattle.vkg_lists.proofs.Counts.{Decides-contains_test, eq_same}
-use Rattle.vkg_lists.proofs.Distinct.{Contains-distinct, Contains-from_distinct, distinct-append}
+use Rattle.vkg_lists.proofs.Bools.{is_false}
+use Rattle.vkg_lists.proofs.Counts.{eq_same}
+use Rattle.vkg_lists.proofs.Distinct.{distinct_push, list_any-distinct}
 use Rattle.vkg_schema.specs.Rows.{Row}
 use Rattle.vkg_plan.specs.Rows.{one_row}
+use Rattle.vkg_plan.proofs.CellLemmas.{rows_apart}
 use Rattle.vkg_index.specs.Keys.{has_text, row_text}
 use Rattle.vkg_index.proofs.Groups.{one}
-use Rattle.vkg_engine.proofs.CellLemmas.{rows_apart}
 
 abbrev any : Row → List Row → Bool
 any row rows = list_any (λ s. one_row s row) rows
@@ -46,22 +46,12 @@ kept-new row kept kept' found text t f h now = now ∙ ap (λ b. kept ++ (if b t
 
 -- ---- one more row
 
-any-distinct : (row : Row) (rows : List Row) → any row (distinct one_row rows) ≡ any row rows
-any-distinct row rows =
-    let d = Decides-contains_test rows_apart (distinct one_row rows) row in
-    let o = Decides-contains_test rows_apart rows row in
-    same_truth (any row (distinct one_row rows)) (any row rows) (λ h. o.1 (Contains-from_distinct one_row rows row (d.0 h))) (λ h. d.1 (Contains-distinct rows_apart rows row (o.0 h)))
-
-turned : (b : Bool) (row : Row) → cond (not b) (row ∷ []) [] ≡ (if b then [] else row ∷ [])
-turned true row = refl
-turned false row = refl
-
 pub once-more : (rows kept kept' : List Row) (k : ℕ) (row : Row) → k < length rows → row ≡ get_or rows k row → kept ≡ distinct one_row (take k rows) → kept' ≡ kept ++ (if any row kept then [] else row ∷ []) → kept' ≡ distinct one_row (take (k + 1) rows)
 once-more rows kept kept' k row below is was now =
     now
-    ∙ (ap (λ b. kept ++ (if b then [] else row ∷ [])) (ap (any row) was ∙ any-distinct row (take k rows))
+    ∙ (ap (λ b. kept ++ (if b then [] else row ∷ [])) (ap (any row) was ∙ list_any-distinct rows_apart (take k rows) row)
     ∙ (ap (λ l. l ++ (if any row (take k rows) then [] else row ∷ [])) was
-    ∙ (sym (distinct-append rows_apart (take k rows) (row ∷ []) ∙ ap (λ l. distinct one_row (take k rows) ++ l) (turned (any row (take k rows)) row))
+    ∙ (sym (distinct_push one_row (take k rows) row)
     ∙ ap (distinct one_row) (sym (take_more rows k row below ∙ ap (λ r. take k rows ++ r ∷ []) (sym is))))))
 
 -- the index with its number

@@ -1,4 +1,3 @@
-pub mod CellLemmas
 pub mod DistinctLemmas
 pub mod IndexLemmas
 pub mod LeftLemmas
@@ -7,4 +6,3 @@ pub mod LinkedLemmas
 pub mod RunLaws
 pub mod TableKinds
 pub mod TypedRows
-pub mod UnionLemmas

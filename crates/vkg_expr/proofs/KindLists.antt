@@ -1,7 +1,8 @@
 -- Kinds of lists of expressions, from their first.
-use Rattle.std.proofs.Common.{◌≡◌, true, ◌&&◌, List, [], ◌∷◌, refl, ap, map, length, suc}
+use Rattle.std.proofs.Common.{◌≡◌, true, ◌&&◌, List, refl, ap, map, length, ◌∙◌}
 use Rattle.std.proofs.Math.Bool.{and-false}
 use Rattle.std.specs.Prelude.{Option, Some, None}
+use Rattle.std.proofs.lemmas.List.{length-map}
 use Rattle.vkg_lists.specs.Options.{with_first}
 use Rattle.vkg_lists.proofs.Onto.{onto_none, onto_first}
 use Rattle.vkg_cells.specs.declared.cell.SqlType.{SqlType}
@@ -10,6 +11,7 @@ use Rattle.vkg_expr.specs.declared.expr.Expr.{Expr as ExprValue}
 use Rattle.vkg_expr.specs.Seen.{expr_seen}
 use Rattle.vkg_expr.specs.Expr.{each, exprs}
 use Rattle.vkg_expr.specs.Typing.{are_all, common, giving, is_one, same_kind}
+use Rattle.vkg_expr.proofs.Conjuncts.{each_exprs}
 
 pub are_all-more : (k : SqlType) (a : Option SqlType) (o : Option (List SqlType)) → are_all k (with_first a o) ≡ (is_one k a && are_all k o)
 are_all-more k None o = refl
@@ -31,7 +33,6 @@ common-more k None = refl
 common-more k (Some ls) = rw (itself k)
 
 pub length-each : (xs : List ExprValue) → length (each (exprs (map expr_seen xs))) ≡ length xs
-length-each [] = refl
-length-each (x ∷ xs) = ap suc (length-each xs)
+length-each xs = ap length (each_exprs (map expr_seen xs)) ∙ length-map xs expr_seen
 
 pub ruleset kind_lists = (are_all-more, common-more, onto_none, onto_first, length-each)

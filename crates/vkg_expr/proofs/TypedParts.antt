@@ -1,11 +1,12 @@
 -- The parts of an expression that is typed on a row are typed on it, and their values are what its step asks for.
 use Rattle.std.proofs.Common.{arith, ◌≡◌, ℕ, zero, suc, ◌<◌, ◌≤◌, true, ◌∙◌, List, [], ◌∷◌, ◌++◌, get_or, length, map, refl, sym, ap, subst}
-use Rattle.std.specs.Prelude.{All, Option, Some, None, Result, Ok, Err, IfOk, option_map, slice_get, ◌==◌}
+use Rattle.std.specs.Prelude.{All, Option, Some, None, Result, Ok, Err, IfOk, ◌==◌}
 use Rattle.std.specs.List.{AllByRecursion, list_all}
 use Rattle.std.proofs.lemmas.Bool.{eqb-true}
-use Rattle.std.proofs.lemmas.Option.{same_Some}
+use Rattle.std.proofs.lemmas.Option.{same_Some, slice_get_within}
 use Rattle.std.proofs.lemmas.List.Elements.{All-from_recursion}
-use Rattle.vkg_lists.proofs.Onto.{first_given}
+use Rattle.std.proofs.lemmas.Result.{IfOk-weaker}
+use Rattle.vkg_lists.proofs.Onto.{first_given, map_given}
 use Rattle.vkg_terms.specs.declared.term.Annotation.{Annotation}
 use Rattle.vkg_cells.specs.declared.cell.Cell.{Cell}
 use Rattle.vkg_cells.specs.declared.cell.SqlType.{SqlType}
@@ -21,11 +22,12 @@ use Rattle.vkg_expr.specs.Expr.{Expr, Exprs, Col, MakeIri, IriOf, MakeBlank, Mak
 use Rattle.vkg_expr.specs.Laws.{FitsRow, HasKinds, IsCondition, IsTyped}
 use Rattle.vkg_expr.specs.Seen.{expr_seen, expr_step}
 use Rattle.vkg_expr.specs.Steps.{AllFit, Fits, TakesEach, TakesOne}
-use Rattle.vkg_expr.specs.Typing.{are_all, arity, equality_kind, giving, is_one, kind_of, kinds_of, lexical_kind, no_column, result_kind, same_kind}
+use Rattle.vkg_expr.specs.Typing.{are_all, arity, equality_kind, giving, is_one, kind_of, kinds_of, lexical_kind, no_column, result_kind, same_kind, fits}
 use Rattle.vkg_expr.specs.Value.{value_of, values_of}
 use Rattle.vkg_expr.proofs.ValueFits.{along, common_given, given-is, kind_same, value-fits, values-fit}
 use Rattle.vkg_expr.proofs.Weights.{item-weighs, weight, weight_of, weight_of_each}
 use Rattle.vkg_lists.proofs.Bools.{and_parts}
+use Rattle.vkg_lists.proofs.Members.{zip_length}
 
 abbrev Got : {E : Type 0} → Result Cell E → Expr → Row → Type 0
 Got r e row = IfOk r (λ c. c ≡ value_of e row)
@@ -45,14 +47,8 @@ kinds-append [] ls (c ∷ cs) ds h k = absurd h
 kinds-append (x ∷ ks) ls [] ds h k = absurd h
 kinds-append (x ∷ ks) ls (c ∷ cs) ds h k = (h.0, kinds-append ks ls cs ds h.1 k)
 
-within : (ks : List SqlType) (row : Row) (at : ℕ) (k : SqlType) → HasKinds ks row → slice_get ks at ≡ Some k → at < length row
-within [] row at k h e = cc
-within (l ∷ ks) [] at k h e = absurd h
-within (l ∷ ks) (c ∷ cs) zero k h e = omega arith
-within (l ∷ ks) (c ∷ cs) (suc at) k h e = let w = within ks cs at k h.1 e in omega arith
-
 column-within : (at : ℕ) (row : Row) → IsTyped (Col at) row → at < length row
-column-within at row t = within t.kinds row at t.own t.of_row t.of_expr
+column-within at row t = subst (λ n. at < n) (zip_length (λ k c. fits k c ≡ true) t.kinds row t.of_row) (slice_get_within t.kinds at t.own t.of_expr)
 
 -- of one part
 
@@ -63,15 +59,11 @@ one_is k (Some l) e = ap Some (sym (kind_same k l e))
 one_given : (m k l : SqlType) (o : Option SqlType) → giving k (is_one m o) ≡ Some l → o ≡ Some m
 one_given m k l o e = one_is m o (given-is k l (is_one m o) e).0
 
-lexical_given : (o : Option SqlType) (l : SqlType) → lexical_kind o ≡ Some l → (k : SqlType) × (o ≡ Some k)
+pub lexical_given : (o : Option SqlType) (l : SqlType) → lexical_kind o ≡ Some l → (k : SqlType) × (o ≡ Some k)
 lexical_given None l e = cc
 lexical_given (Some k) l e = (k, refl)
 
-test_given : (o : Option SqlType) (l : SqlType) → option_map (λ k. kind.Bool) o ≡ Some l → (k : SqlType) × (o ≡ Some k)
-test_given None l e = cc
-test_given (Some k) l e = (k, refl)
-
-equality_given : (a b : Option SqlType) (l : SqlType) → equality_kind a b ≡ Some l → ((k : SqlType) × (a ≡ Some k)) × ((k : SqlType) × (b ≡ Some k))
+pub equality_given : (a b : Option SqlType) (l : SqlType) → equality_kind a b ≡ Some l → ((k : SqlType) × (a ≡ Some k)) × ((k : SqlType) × (b ≡ Some k))
 equality_given (Some k) (Some m) l e = ((k, refl), (m, refl))
 equality_given (Some k) None l e = cc
 equality_given None b l e = cc
@@ -98,7 +90,7 @@ typed-IriSafe : (e : Expr) (row : Row) → IsTyped (IriSafe e) row → IsTyped e
 typed-IriSafe e row t = typed_by t.kinds kind.Text e row t.of_row (one_given _ kind.Text t.own (kind_of e t.kinds) t.of_expr)
 
 typed-IsNull : (e : Expr) (row : Row) → IsTyped (IsNull e) row → IsTyped e row
-typed-IsNull e row t = let k = test_given (kind_of e t.kinds) t.own t.of_expr in typed_by t.kinds k.0 e row t.of_row k.1
+typed-IsNull e row t = let k = map_given (λ k. kind.Bool) (kind_of e t.kinds) t.own t.of_expr in typed_by t.kinds k.0 e row t.of_row k.1
 
 typed-Not : (e : Expr) (row : Row) → IsTyped (Not e) row → IsTyped e row
 typed-Not e row t = typed_by t.kinds kind.Bool e row t.of_row (one_given _ kind.Bool t.own (kind_of e t.kinds) t.of_expr)
@@ -112,12 +104,8 @@ typed-Same_left a b row t = let k = (equality_given (kind_of a t.kinds) (kind_of
 typed-Same_right : (a b : Expr) (row : Row) → IsTyped (Same a b) row → IsTyped b row
 typed-Same_right a b row t = let k = (equality_given (kind_of a t.kinds) (kind_of b t.kinds) t.own t.of_expr).1 in typed_by t.kinds k.0 b row t.of_row k.1
 
-if_got : {E : Type 0} (P : Cell → Type 0) (r : Result Cell E) (e : Expr) (row : Row) → P (value_of e row) → Got r e row → IfOk r P
-if_got P (Ok c) e row p h = subst P (sym h) p
-if_got P (Err x) e row p h = tt
-
 if_fits : {E : Type 0} (m k l : SqlType) (r : Result Cell E) (e : Expr) (ks : List SqlType) (row : Row) → HasKinds ks row → giving k (is_one m (kind_of e ks)) ≡ Some l → Got r e row → IfOk r (Fits m)
-if_fits m k l r e ks row h t g = if_got (Fits m) r e row (value-fits e ks m row (fits_row ks row h) (one_given m k l (kind_of e ks) t)) g
+if_fits m k l r e ks row h t g = IfOk-weaker r (λ c. c ≡ value_of e row) (Fits m) (λ c i. subst (Fits m) (sym i) (value-fits e ks m row (fits_row ks row h) (one_given m k l (kind_of e ks) t))) g
 
 takes-MakeIri : {E : Type 0} (r : Result Cell E) (e : Expr) (row : Row) → IsTyped (MakeIri e) row → Got r e row → IfOk r (TakesOne (MakeIri e))
 takes-MakeIri r e row t g = if_fits kind.Text kind.Term t.own r e t.kinds row t.of_row t.of_expr g
@@ -150,7 +138,7 @@ takes-Ebv r e row t g = if_fits kind.Term kind.Bool t.own r e t.kinds row t.of_r
 
 -- of a list of parts
 
-all_is : (k : SqlType) (o : Option (List SqlType)) → are_all k o ≡ true → (ls : List SqlType) × (o ≡ Some ls) × (list_all (same_kind k) ls ≡ true)
+pub all_is : (k : SqlType) (o : Option (List SqlType)) → are_all k o ≡ true → (ls : List SqlType) × (o ≡ Some ls) × (list_all (same_kind k) ls ≡ true)
 all_is k None e = cc
 all_is k (Some ls) e = (ls, refl, e)
 
@@ -184,8 +172,7 @@ all_fit m es ks row h t =
     All-from_recursion (Fits m) (values_of es row) (each_fit m a.0 (values_of es row) a.2 (values-fit es ks a.0 row (fits_row ks row h) a.1))
 
 if_got_each : {E : Type 0} (P : List Cell → Type 0) (r : Result (List Cell) E) (es : Exprs) (row : Row) → P (values_of es row) → GotEach r es row → IfOk r P
-if_got_each P (Ok cs) es row p h = subst P (sym h) p
-if_got_each P (Err x) es row p h = tt
+if_got_each P r es row p h = IfOk-weaker r (λ cs. cs ≡ values_of es row) P (λ cs i. subst P (sym i) p) h
 
 length-values : (es : Exprs) (row : Row) → length (values_of es row) ≡ length (each es)
 length-values Nil row = refl

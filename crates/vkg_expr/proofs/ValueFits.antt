@@ -1,9 +1,9 @@
 -- A typed expression has a cell of its kind, or NULL.
 use Rattle.std.proofs.Common.{◌≡◌, ℕ, Bool, true, false, not, List, [], ◌∷◌, refl, sym, subst}
-use Rattle.std.specs.Prelude.{Option, Some, None, option_map, find, unwrap_or, if◌then◌else◌}
+use Rattle.std.specs.Prelude.{Option, Some, None, find, unwrap_or, if◌then◌else◌}
 use Rattle.std.specs.List.{list_all}
-use Rattle.std.proofs.lemmas.Option.{same_Some}
-use Rattle.vkg_lists.proofs.Onto.{first_given}
+use Rattle.std.proofs.lemmas.Option.{same_Some, cond_some}
+use Rattle.vkg_lists.proofs.Onto.{first_given, map_given}
 use Rattle.vkg_terms.specs.declared.term.Term.{Term}
 use Rattle.vkg_cells.specs.declared.cell.Cell.{Cell}
 use Rattle.vkg_cells.specs.declared.cell.Cell.TheVariants as cell
@@ -46,16 +46,11 @@ null_fits kind.Bin = refl
 null_fits kind.Term = refl
 
 pub given-is : (k l : SqlType) (b : Bool) → giving k b ≡ Some l → (b ≡ true) × (k ≡ l)
-given-is k l true e = (refl, cc)
-given-is k l false e = cc
+given-is k l b e = cond_some b k l e
 
 lexical-is : (o : Option SqlType) (l : SqlType) → lexical_kind o ≡ Some l → kind.Text ≡ l
 lexical-is None l e = cc
 lexical-is (Some k) l e = (given-is kind.Text l (not (same_kind kind.Term k)) e).1
-
-null_test-is : (o : Option SqlType) (l : SqlType) → option_map (λ k. kind.Bool) o ≡ Some l → kind.Bool ≡ l
-null_test-is None l e = cc
-null_test-is (Some k) l e = same_Some kind.Bool l e
 
 equality-is : (a b : Option SqlType) (l : SqlType) → equality_kind a b ≡ Some l → kind.Bool ≡ l
 equality-is (Some m) (Some n) l e = (given-is kind.Bool l (same_family m n) e).1
@@ -180,7 +175,7 @@ mutual
   value-fits (IriSafe e) ks l row w t = along _ l _ (given-is kind.Text l _ t).1 (text_fits _)
   value-fits (Concat es) ks l row w t = along _ l _ (given-is kind.Text l _ t).1 (text_fits _)
   value-fits (Same a b) ks l row w t = along _ l _ (equality-is (kind_of a ks) (kind_of b ks) l t) (truth_fits _)
-  value-fits (IsNull e) ks l row w t = along kind.Bool l (value_of (IsNull e) row) (null_test-is (kind_of e ks) l t) refl
+  value-fits (IsNull e) ks l row w t = along kind.Bool l (value_of (IsNull e) row) (map_given (λ k. kind.Bool) (kind_of e ks) l t).2 refl
   value-fits (Not e) ks l row w t = along _ l _ (given-is kind.Bool l _ t).1 (truth_fits _)
   value-fits (And es) ks l row w t = along _ l _ (given-is kind.Bool l _ t).1 (truth_fits _)
   value-fits (Or es) ks l row w t = along _ l _ (given-is kind.Bool l _ t).1 (truth_fits _)

@@ -3,12 +3,14 @@ use Rattle.std.proofs.Common.{◌≡◌, ℕ, zero, suc, ◌<◌, List, [], ◌�
 use Rattle.std.specs.Prelude.{Contains, flat_map}
 use Rattle.std.specs.List.{AllByRecursion, AllZip}
 use Rattle.vkg_lists.specs.Lists.{AllBelow}
-use Rattle.vkg_lists.proofs.Members.{Contains-none, each_from_recursion}
+use Rattle.vkg_lists.proofs.Each.{recursion_get}
 use Rattle.vkg_cells.specs.declared.cell.SqlType.{SqlType}
 use Rattle.vkg_schema.specs.declared.table.Column.{Column}
-use Rattle.vkg_schema.specs.Meets.{FitsColumn, IsColumn, IsTable, MeetsSchema, TableMeets}
+use Rattle.vkg_schema.specs.Meets.{FitsColumn, IsColumn, IsTable, MeetsSchema}
 use Rattle.vkg_schema.specs.Rows.{Database, Row, cell_at, rows_of}
 use Rattle.vkg_schema.proofs.RowCells.{cell_at-left}
+use Rattle.vkg_schema.proofs.RowFits.{row_of_table}
+use Rattle.vkg_maps.proofs.Kinds.{kinds_of}
 use Rattle.vkg_maps.specs.declared.term_map.Piece.{Piece as TemplatePiece}
 use Rattle.vkg_maps.specs.declared.term_map.Piece.TheVariants as piece
 use Rattle.vkg_maps.specs.declared.term_map.TermMap.{TermMap}
@@ -30,15 +32,10 @@ fits_columns (c ∷ cs) [] i h at l = absurd h
 fits_columns (c ∷ cs) (d ∷ ds) i h zero l = fits_column c d i.0 h.0
 fits_columns (c ∷ cs) (d ∷ ds) i h (suc at) l = fits_columns cs ds i.1 h.1 at (omega (arith, l))
 
-fits_table : (tables whole : Tables) (db rest : Database) → AllByRecursion (IsTable tables) whole → AllZip (TableMeets db) whole rest → (table : ℕ) (row : Row) → Contains (rows_of rest table) row → FitsKinds (kinds_at whole table) row
-fits_table tables [] db [] w h table row c = absurd (Contains-none row c)
-fits_table tables [] db (rs ∷ rss) w h table row c = absurd h
-fits_table tables (t ∷ ts) db [] w h table row c = absurd h
-fits_table tables (t ∷ ts) db (rs ∷ rss) w h zero row c = fits_columns t.columns row w.0.columns (each_from_recursion (AllZip FitsColumn t.columns) rs h.0.cells row c)
-fits_table tables (t ∷ ts) db (rs ∷ rss) w h (suc table) row c = fits_table tables ts db rss w.1 h.1 table row c
-
 pub fits_rows : (schema : Tables) (db : Database) → AllByRecursion (IsTable schema) schema → MeetsSchema schema db → (table : ℕ) (row : Row) → Contains (rows_of db table) row → FitsKinds (kinds_at schema table) row
-fits_rows schema db w h table row c = fits_table schema schema db db w h table row c
+fits_rows schema db w h table row c =
+    let r = row_of_table db schema db h table row c in
+    subst (λ ks. FitsKinds ks row) (sym (kinds_of schema table r.0 r.1)) (fits_columns r.0.columns row (recursion_get (IsTable schema) schema table r.0 w r.1).columns r.2)
 
 -- ---- of the child's row, with another behind it
 

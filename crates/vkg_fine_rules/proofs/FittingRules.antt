@@ -1,8 +1,12 @@
 -- The rules of a mapping within a well-formed schema fit it.
-use Rattle.std.proofs.Common.{◌≡◌, ◌∙◌, ℕ, zero, suc, ◌+◌, ◌<◌, false, List, [], ◌∷◌, ◌++◌, map, length, refl, ap, subst, arith}
+use Rattle.std.proofs.Common.{◌≡◌, ◌∙◌, ℕ, zero, suc, ◌+◌, ◌<◌, false, List, [], ◌∷◌, ◌++◌, map, length, refl, sym, ap, subst, arith}
 use Rattle.std.specs.Prelude.{◌≢◌, Contains, flat_map, IfSome, Option, Some, None, option_map, slice_get}
 use Rattle.std.specs.List.{AllByRecursion}
+use Rattle.std.proofs.lemmas.Option.{none-some}
 use Rattle.vkg_lists.specs.Lists.{AllBelow}
+use Rattle.vkg_lists.proofs.Each.{recursion_weaken}
+use Rattle.vkg_lists.proofs.Heads.{slice_get-behind}
+use Rattle.vkg_lists.proofs.Positions.{get_below}
 use Rattle.vkg_lists.proofs.Members.{Contains-from_map, recursion_from_each}
 use Rattle.vkg_lists.proofs.Tests.{nat_test}
 use Rattle.vkg_cells.specs.declared.cell.SqlType.{SqlType}
@@ -90,14 +94,9 @@ module _ (ks : List SqlType) (none : NoTerms ks) where
 
 -- ---- behind the child's columns
 
-kind_behind : (ks ls : List SqlType) (at n : ℕ) → n ≡ at + length ks → slice_get (ks ++ ls) n ≡ slice_get ls at
-kind_behind [] ls at n e = ap (slice_get ls) (let f : n ≡ at = omega (arith, e) in f)
-kind_behind (k ∷ ks) ls at zero e = absurd (let f : ⊥ = omega (arith, e) in f)
-kind_behind (k ∷ ks) ls at (suc n) e = kind_behind ks ls at n (omega (arith, e))
-
 module _ (ks ls : List SqlType) where
   hole_behind : (at : ℕ) (k : SqlType) → FitsPiece ls (Hole at k) → FitsPiece (ks ++ ls) (Hole (at + length ks) k)
-  hole_behind at k h = (kind_behind ks ls at (at + length ks) refl ∙ h.0, h.1)
+  hole_behind at k h = (slice_get-behind ks ls (at + length ks) at refl ∙ h.0, h.1)
 
   pieces_behind : (ps : List Piece) → AllByRecursion (FitsPiece ls) ps → AllByRecursion (FitsPiece (ks ++ ls)) (map (moved_piece (length ks)) ps)
   pieces_behind [] h = tt
@@ -118,18 +117,12 @@ condition_fits : (ks ls : List SqlType) (c : ℕ × ℕ) → IsCondition ks ls c
 condition_fits ks ls c h = of (slice_get ks c.0) refl (slice_get ls c.1) refl h.comparable
   where
     nothing : (xs : List SqlType) (n : ℕ) → n < length xs → slice_get xs n ≡ None → ⊥
-    nothing [] n l e = let i : n < 0 = l in omega (arith, i)
-    nothing (x ∷ xs) zero l e = cc
-    nothing (x ∷ xs) (suc n) l e = nothing xs n (omega (arith, l)) e
+    nothing xs n l e = let r = get_below xs n l in none-some r.0 (sym e ∙ r.1)
 
     of : (o : Option SqlType) → slice_get ks c.0 ≡ o → (p : Option SqlType) → slice_get ls c.1 ≡ p → IfSome o (λ k. IfSome p (λ l. family k ≡ family l)) → equality_kind o p ≡ Some kind.Bool
     of None e p f g = absurd (nothing ks c.0 h.of_child e)
     of (Some k) e None f g = absurd (nothing ls c.1 h.of_parent f)
     of (Some k) e (Some l) f g = families_give k l g
-
-conditions_fit : (ks ls : List SqlType) (cs : List (ℕ × ℕ)) → AllByRecursion (IsCondition ks ls) cs → AllByRecursion (FitsCondition ks ls) cs
-conditions_fit ks ls [] h = tt
-conditions_fit ks ls (c ∷ cs) h = (condition_fits ks ls c h.0, conditions_fit ks ls cs h.1)
 
 module _ (schema : Tables) (mapping : Mapping) (well : IsWellFormed schema) (within : IsWithin schema mapping) where
   abbrev Over : ℕ → TermMap → Type 0
@@ -140,7 +133,10 @@ module _ (schema : Tables) (mapping : Mapping) (well : IsWellFormed schema) (wit
 
   join_fits : (table : ℕ) (join : Option Join) → AreJoined schema table join → FitsJoin schema table join
   join_fits table None h = tt
-  join_fits table (Some join) h = (table_there schema join.table h.0, conditions_fit (kinds_at schema table) (kinds_at schema join.table) join.conditions h.1)
+  join_fits table (Some join) h =
+      let ks = kinds_at schema table in
+      let ls = kinds_at schema join.table in
+      (table_there schema join.table h.0, recursion_weaken (IsCondition ks ls) (FitsCondition ks ls) join.conditions (condition_fits ks ls) h.1)
 
   object_fits : (table : ℕ) (join : Option Join) (t : TermMap) → Over (object_table table join) t → FitsTerm (rule_kinds schema table join) (object_term mapping.base schema (kinds_at schema table) join t)
   object_fits table None t h = term_fits (kinds_at schema table) (none table) mapping.base t h

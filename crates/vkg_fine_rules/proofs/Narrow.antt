@@ -1,6 +1,7 @@
 -- The terms of a term map are no numbers of too many digits.
 use Rattle.std.proofs.Common.{◌≡◌, ℕ, Bool, true, false, not, ◌&&◌, List, refl, sym, subst}
 use Rattle.std.specs.Prelude.{Option, Some, None, option_map, if◌then◌else◌, Ok, Err, IsTrue, IsFalse}
+use Rattle.std.proofs.lemmas.Bool.{not_from_false}
 use Rattle.vkg_terms.specs.declared.term.Annotation.TheVariants.{Plain, Lang, Typed}
 use Rattle.vkg_terms.specs.declared.term.Term.{Term}
 use Rattle.vkg_terms.specs.declared.term.Term.TheVariants.{Iri, Blank, Lit}
@@ -17,12 +18,8 @@ use Rattle.vkg_maps.specs.Terms.{against, term_of, term_if_any, term_from, templ
 use Rattle.vkg_maps.specs.Within.{is_wide_constant}
 use Rattle.vkg_unfold.specs.FineRows.{IsNarrow}
 
-not_wide : (b : Bool) → IsFalse b → IsTrue (not b)
-not_wide true h = sym h
-not_wide false h = refl
-
 narrow_constant : (c : Term) → IsFalse (is_wide_constant (from.Constant c)) → IsNarrow (Some c)
-narrow_constant c h = not_wide (is_wide_number c) h
+narrow_constant c h = not_from_false (is_wide_number c) h
 
 narrow_text : (t : TermType) (s : List ℕ) → IsNarrow (term_if_any (term_from t s))
 narrow_text sort.Iri s = of (is_absolute s)

@@ -9,12 +9,11 @@ use Rattle.vkg_row_rules.specs.RowRules.{row_rules}
 use Rattle.vkg_maps.specs.Within.{IsWithin}
 use Rattle.vkg_unfold.specs.FineRows.{Meets}
 use Rattle.vkg_unfold.specs.FittingRules.{AreFitting}
-use Rattle.vkg_fine_rules.specs.Texts.{HoldTexts}
 
 -- over a database that meets its schema and has no data error each row of each rule is fine
 abbrev pub HasFineRows : Tables → Mapping → Database → Type 0
 HasFineRows schema mapping db =
-    IsWellFormed schema → IsWithin schema mapping → HoldTexts (row_rules schema mapping) → MeetsSchema schema db → data_faults mapping db ≡ [] →
+    IsWellFormed schema → IsWithin schema mapping → MeetsSchema schema db → data_faults mapping db ≡ [] →
     Meets schema (row_rules schema mapping) db
 
 -- the rules of a mapping within a well-formed schema fit it

@@ -8,7 +8,5 @@
 #![tactic(auto)]
 
 mod laws;
-mod texts;
 
 pub use laws::{fine_rows, fitting_rules};
-pub use texts::hold_texts;

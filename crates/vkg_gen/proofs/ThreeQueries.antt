@@ -1,5 +1,5 @@
 -- The three queries of the report are read without a fault, each as one query.
-use Rattle.std.proofs.Common.{◌≡◌, ◌∙◌, List, [], ◌∷◌, None, Ok, refl, sym, length}
+use Rattle.std.proofs.Common.{◌≡◌, ◌∙◌, List, [], ◌∷◌, None, Ok, refl, sym, length, get_or}
 use Rattle.std.specs.Prelude.{IsUtf8}
 use Rattle.std.specs.Str.{chars}
 use Rattle.std.specs.Char.{encode_utf8}
@@ -10,6 +10,7 @@ use Rattle.vkg_grammar.specs.Grammar.{Derives}
 use Rattle.vkg_grammar.specs.Kinds.{kinds_of}
 use Rattle.vkg_grammar.specs.OneTree.{IsTreeOf}
 use Rattle.vkg_grammar.specs.Trees.{Tree, nothing}
+use Rattle.vkg_grammar.proofs.Same.{tree_found}
 use Rattle.vkg_tokens.specs.declared.cutting.Token.{Token}
 use Rattle.vkg_tokens.specs.Characters.{is_base, is_base_or_low_line, is_label_start, is_variable_part, is_name_part, is_escaped_sign, is_iri_part, is_escaped_letter, code_point_more}
 use Rattle.vkg_tokens.specs.Cut.{cut, piece}
@@ -25,15 +26,11 @@ use Rattle.vkg_company.proofs.Derivation.{derives, found, notes_or, tokens_or}
 use Rattle.vkg_schema.specs.Company.{base}
 use Rattle.vkg_gen.specs.Report.{names_text, distinct_text, depts_text}
 use Rattle.vkg_gen.specs.Readable.{IsFaultless}
-use Rattle.vkg_gen.proofs.QueryTexts.{no_query_fault, one_query, shallow, tree_found}
+use Rattle.vkg_gen.proofs.QueryTexts.{no_query_fault, one_query, shallow}
 
 unfoldable opened : Unit {0}
 unfolding chars encode_utf8 cut piece token_class sparql_word outside_word call_word is_outside_form is_outside_call is_outside_text turtle_word turtle_tag is_base is_base_or_low_line is_label_start is_variable_part is_name_part is_escaped_sign is_iri_part is_escaped_letter code_point_more text_meant meaning_of fails deepened
 opened = tt
-
-abbrev tree_or : List Tree → Tree
-tree_or [] = nothing
-tree_or (t ∷ ts) = t
 
 -- ---- names
 
@@ -52,7 +49,7 @@ unfolding opened
 names_derived = derives 2000 SPARQL (0 ∷ []) (kinds_of names_tokens) names_notes refl
 
 abbrev names_tree : Tree
-names_tree = tree_or ((decoded (length (kinds_of names_tokens)) (acts_of names_notes)).trees)
+names_tree = get_or (decoded (length (kinds_of names_tokens)) (acts_of names_notes)).trees 0 nothing
 
 names_is_tree : IsTreeOf SPARQL (kinds_of names_tokens) names_tree
 unfolding opened
@@ -100,7 +97,7 @@ unfolding opened
 distinct_derived = derives 2000 SPARQL (0 ∷ []) (kinds_of distinct_tokens) distinct_notes refl
 
 abbrev distinct_tree : Tree
-distinct_tree = tree_or ((decoded (length (kinds_of distinct_tokens)) (acts_of distinct_notes)).trees)
+distinct_tree = get_or (decoded (length (kinds_of distinct_tokens)) (acts_of distinct_notes)).trees 0 nothing
 
 distinct_is_tree : IsTreeOf SPARQL (kinds_of distinct_tokens) distinct_tree
 unfolding opened
@@ -148,7 +145,7 @@ unfolding opened
 depts_derived = derives 2000 SPARQL (0 ∷ []) (kinds_of depts_tokens) depts_notes refl
 
 abbrev depts_tree : Tree
-depts_tree = tree_or ((decoded (length (kinds_of depts_tokens)) (acts_of depts_notes)).trees)
+depts_tree = get_or (decoded (length (kinds_of depts_tokens)) (acts_of depts_notes)).trees 0 nothing
 
 depts_is_tree : IsTreeOf SPARQL (kinds_of depts_tokens) depts_tree
 unfolding opened

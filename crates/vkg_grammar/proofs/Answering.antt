@@ -1,9 +1,9 @@
 -- The goals of `parse_by`, over plain variables.
-use Rattle.std.proofs.Common.{◌≡◌, ℕ, zero, suc, ◌+◌, ◌<◌, ◌≤◌, inl, inr, true, false, List, [], ◌∷◌, ◌++◌, length, get_or, take, drop, Option, Some, None, ap, sym, ◌∙◌, subst, arith, reverse}
+use Rattle.std.proofs.Common.{◌≡◌, ℕ, ◌+◌, ◌<◌, ◌≤◌, inl, inr, true, false, List, [], ◌∷◌, ◌++◌, length, get_or, take, drop, Option, Some, None, ap, sym, ◌∙◌, subst, arith, reverse}
 use Rattle.std.proofs.lemmas.Bool.{cases_lt}
 use Rattle.std.proofs.lemmas.List.{take_more, take-take, take-append-drop, take_all, get_or-map, length-map}
 use Rattle.vkg_tokens.specs.declared.cutting.Token.{Token}
-use Rattle.vkg_grammar.specs.Kinds.{kinds_of, AreBelow}
+use Rattle.vkg_grammar.specs.Kinds.{kinds_of}
 use Rattle.vkg_grammar.specs.declared.note.Note.{Note}
 use Rattle.vkg_grammar.specs.declared.rule.Rule.{Rule}
 use Rattle.vkg_grammar.specs.Grammar.{IsLL1, IsGrammar, IsAlive}
@@ -43,11 +43,6 @@ the_text {g = g} {s = s} {taken = taken} ts n h p (ended more e r) = subst (λ y
 -- the kind of a token, among the kinds
 pub kind_at : (tokens : List Token) (n : ℕ) (e : Token) → n < length tokens → get_or (kinds_of tokens) n 0 ≡ (get_or tokens n e).kind
 kind_at tokens n e h = get_or-map (λ t. t.kind) tokens n e 0 h
-
-pub kind_below : (bound : ℕ) (tokens : List Token) (n : ℕ) (e : Token) → AreBelow bound tokens → n < length tokens → (get_or tokens n e).kind < bound
-kind_below bound [] n e b h = absurd (omega arith)
-kind_below bound (t ∷ tokens) zero e b h = b.0
-kind_below bound (t ∷ tokens) (suc n) e b h = kind_below bound tokens n e b.1 (omega arith)
 
 pub count_of : (tokens : List Token) → length (kinds_of tokens) ≡ length tokens
 count_of tokens = length-map tokens (λ t. t.kind)

@@ -1,7 +1,7 @@
 -- A grammar whose claims pass the test keeps ways apart.
-use Rattle.std.proofs.Common.{◌≡◌, ℕ, zero, suc, ◌+◌, ◌<◌, Bool, true, false, not, ◌⊎◌, inl, inr, List, [], ◌∷◌, ◌++◌, length, get_or, Option, Some, None, refl, sym, subst, arith, nat_eq, nat_lt}
-use Rattle.std.proofs.lemmas.Bool.{eqb-true, eq-eqb, ltb-true}
-use Rattle.vkg_lists.proofs.Members.{recursion_append}
+use Rattle.std.proofs.Common.{◌≡◌, ℕ, zero, suc, ◌+◌, ◌<◌, Bool, true, false, not, ◌⊎◌, inl, inr, List, [], ◌∷◌, ◌++◌, length, get_or, Option, Some, None, refl, sym, subst, arith, nat_eq, nat_lt, ◌∙◌, true≢false}
+use Rattle.std.proofs.lemmas.Bool.{eqb-true, eq-eqb, ltb-true, both_ways, not-true}
+use Rattle.vkg_lists.proofs.Members.{recursion_append, recursion_right}
 use Rattle.vkg_lists.specs.Lists.{AllBelow}
 use Rattle.vkg_grammar.specs.declared.note.Note.{Note}
 use Rattle.vkg_grammar.specs.declared.note.Act.TheVariants.{Leaf}
@@ -79,11 +79,18 @@ apart_holds : (k : ℕ) (xs ys : List ℕ) → apart_all xs ys ≡ true → hold
 apart_holds k [] ys e h h' = cc
 apart_holds k (x ∷ xs) ys e h h' = elim (step_holds k x xs h) [ inl q ↦ (let f : holds x ys ≡ false = (apart_first x xs ys e).0 in let t : holds x ys ≡ true = subst (λ y. holds y ys ≡ true) q h' in cc) | inr q ↦ apart_holds k xs ys (apart_first x xs ys e).1 q h' ]
 
+-- what a test of all rules with their claims says of each
+rule_each : (p : Claim → Shape → Bool) (all : ℕ → List Rule → List Claim → Bool)
+    → ((base : ℕ) (r : Rule) (rs : List Rule) → all base (r ∷ rs) [] ≡ false)
+    → ((base : ℕ) (r : Rule) (rs : List Rule) (d : Claim) (ds : List Claim) → all base (r ∷ rs) (d ∷ ds) ≡ both (p d (shape base r)) (all (base + 1) rs ds))
+    → (base : ℕ) (rs : List Rule) (ds : List Claim) (i j : ℕ) → j ≡ base + i → i < length rs → all base rs ds ≡ true → p (get_or ds i none_claimed) (shape j (get_or rs i (Token 0))) ≡ true
+rule_each p all none more base [] ds i j q h e = absurd (omega arith)
+rule_each p all none more base (r ∷ rs) [] i j q h e = absurd (true≢false (sym e ∙ none base r rs))
+rule_each p all none more base (r ∷ rs) (d ∷ ds) zero j q h e = let same : base ≡ j = omega arith in subst (λ y. p d (shape y r) ≡ true) same (both_first (p d (shape base r)) (all (base + 1) rs ds) (sym (more base r rs d ds) ∙ e))
+rule_each p all none more base (r ∷ rs) (d ∷ ds) (suc i) j q h e = rule_each p all none more (base + 1) rs ds i j (omega arith) (omega arith) (both_second (p d (shape base r)) (all (base + 1) rs ds) (sym (more base r rs d ds) ∙ e))
+
 pub claimed_each : (cs : List Claim) (base : ℕ) (rs : List Rule) (ds : List Claim) (i j : ℕ) → j ≡ base + i → i < length rs → all_claimed cs base rs ds ≡ true → shape_claimed cs (get_or ds i none_claimed) (shape j (get_or rs i (Token 0))) ≡ true
-claimed_each cs base [] ds i j q h e = absurd (omega arith)
-claimed_each cs base (r ∷ rs) [] i j q h e = absurd (cc)
-claimed_each cs base (r ∷ rs) (d ∷ ds) zero j q h e = let same : base ≡ j = omega arith in subst (λ y. shape_claimed cs d (shape y r) ≡ true) same (both_first (shape_claimed cs d (shape base r)) (all_claimed cs (base + 1) rs ds) e)
-claimed_each cs base (r ∷ rs) (d ∷ ds) (suc i) j q h e = claimed_each cs (base + 1) rs ds i j (omega arith) (omega arith) (both_second (shape_claimed cs d (shape base r)) (all_claimed cs (base + 1) rs ds) e)
+claimed_each cs = rule_each (shape_claimed cs) (all_claimed cs) (λ b r rs. refl) (λ b r rs d ds. refl)
 
 -- what is claimed of some symbols at the next token
 abbrev ClaimedAt : List Claim → Option ℕ → List ℕ → Type 0
@@ -155,23 +162,15 @@ module _ (g : List Rule) (wf : IsGrammar g) (cs : List Claim) (claimed : (n : �
   follow_of_way : (m : ℕ) (xs : List ℕ) → way_claimed cs (claim_at cs m) xs ≡ true → follow_way cs (claim_at cs m).follow xs ≡ true
   follow_of_way m xs w = both_second (if_so (empty_way cs xs) (claim_at cs m).empty) (follow_way cs (claim_at cs m).follow xs) (both_second (within_all (begin_way cs xs) (claim_at cs m).begin) _ w)
 
-  below_after : (before : List ℕ) (n : ℕ) (after : List ℕ) → AllBelow (length g) (before ++ n ∷ after) → AllBelow (length g) after
-  below_after [] n after b = b.1
-  below_after (x ∷ before) n after b = below_after before n after b.1
-
   follows_of : {n k : ℕ} → MayFollow g n k → holds k (claim_at cs n).follow ≡ true
   follows_of {n = n} {k = k} (within m before after w b) =
-      follow_place k (claim_at cs m).follow before n after (follow_of_way m (before ++ n ∷ after) (way_of w)) (inl (claims_of (Some k) (below_after before n after (wf.closed m (before ++ n ∷ after) (way_inside w) w)) at_token b.2))
+      follow_place k (claim_at cs m).follow before n after (follow_of_way m (before ++ n ∷ after) (way_of w)) (inl (claims_of (Some k) (recursion_right (λ k. k < length g) before (n ∷ after) (wf.closed m (before ++ n ∷ after) (way_inside w) w)).1 at_token b.2))
   follows_of {n = n} {k = k} (at_end m before after w e f) =
-      follow_place k (claim_at cs m).follow before n after (follow_of_way m (before ++ n ∷ after) (way_of w)) (inr (claims_of None (below_after before n after (wf.closed m (before ++ n ∷ after) (way_inside w) w)) at_end_of e.1, follows_of f))
+      follow_place k (claim_at cs m).follow before n after (follow_of_way m (before ++ n ∷ after) (way_of w)) (inr (claims_of None (recursion_right (λ k. k < length g) before (n ∷ after) (wf.closed m (before ++ n ∷ after) (way_inside w) w)).1 at_end_of e.1, follows_of f))
 
   starts_of : (n k : ℕ) (xs : List ℕ) → AllBelow (length g) xs → Starts g n xs k → holds k (starts_way cs (claim_at cs n) xs) ≡ true
   starts_of n k xs b (inl m) = more_holds k (empty_way cs xs) (begin_way cs xs) (claim_at cs n).follow (claims_of (Some k) b at_token m.2)
   starts_of n k xs b (inr p) = more_behind k (empty_way cs xs) (begin_way cs xs) (claim_at cs n).follow (claims_of None b at_end_of p.0.1) (follows_of p.1)
-
-  not_so : (b : Bool) → not b ≡ true → b ≡ true → ⊥
-  not_so true e q = cc
-  not_so false e q = cc
 
   pub certified : IsProductive g → IsLL1 g
   certified prod = record { productive = prod; one_empty = one_empty; one_begins = one_begins }
@@ -180,7 +179,7 @@ module _ (g : List Rule) (wf : IsGrammar g) (cs : List Claim) (claimed : (n : �
       choice n xs ys h e = let s : shape_claimed cs (claim_at cs n) (Choice xs ys) ≡ true = subst (λ y. shape_claimed cs (claim_at cs n) y ≡ true) e (claimed n h) in both_second (way_claimed cs (claim_at cs n) ys) _ (both_second (way_claimed cs (claim_at cs n) xs) _ s)
 
       one_empty : (n : ℕ) (xs ys : List ℕ) → n < length g → shape_of g n ≡ Choice xs ys → MayBeEmpty g xs → MayBeEmpty g ys → ⊥
-      one_empty n xs ys h e p q = not_so (empty_way cs ys) (so_then (empty_way cs xs) (not (empty_way cs ys)) (both_first (if_so (empty_way cs xs) (not (empty_way cs ys))) _ (choice n xs ys h e)) (claims_of None (wf.closed n xs h (the_first e)) at_end_of p.1)) (claims_of None (wf.closed n ys h (the_second e)) at_end_of q.1)
+      one_empty n xs ys h e p q = both_ways (empty_way cs ys) (not-true (empty_way cs ys) (so_then (empty_way cs xs) (not (empty_way cs ys)) (both_first (if_so (empty_way cs xs) (not (empty_way cs ys))) _ (choice n xs ys h e)) (claims_of None (wf.closed n xs h (the_first e)) at_end_of p.1))) (claims_of None (wf.closed n ys h (the_second e)) at_end_of q.1)
 
       one_begins : (n : ℕ) (xs ys : List ℕ) (k : ℕ) → n < length g → shape_of g n ≡ Choice xs ys → Starts g n xs k → Starts g n ys k → ⊥
       one_begins n xs ys k h e p q = apart_holds k (starts_way cs (claim_at cs n) xs) (starts_way cs (claim_at cs n) ys) (both_second (if_so (empty_way cs xs) (not (empty_way cs ys))) _ (choice n xs ys h e)) (starts_of n k xs (wf.closed n xs h (the_first e)) p) (starts_of n k ys (wf.closed n ys h (the_second e)) q)
@@ -190,10 +189,7 @@ either_true true b e = inl refl
 either_true false b e = inr e
 
 pub lower_each : (cs : List Claim) (base : ℕ) (rs : List Rule) (ds : List Claim) (i j : ℕ) → j ≡ base + i → i < length rs → all_lower cs base rs ds ≡ true → shape_lower cs (get_or ds i none_claimed).level (shape j (get_or rs i (Token 0))) ≡ true
-lower_each cs base [] ds i j q h e = absurd (omega arith)
-lower_each cs base (r ∷ rs) [] i j q h e = absurd (cc)
-lower_each cs base (r ∷ rs) (d ∷ ds) zero j q h e = let same : base ≡ j = omega arith in subst (λ y. shape_lower cs d.level (shape y r) ≡ true) same (both_first (shape_lower cs d.level (shape base r)) (all_lower cs (base + 1) rs ds) e)
-lower_each cs base (r ∷ rs) (d ∷ ds) (suc i) j q h e = lower_each cs (base + 1) rs ds i j (omega arith) (omega arith) (both_second (shape_lower cs d.level (shape base r)) (all_lower cs (base + 1) rs ds) e)
+lower_each cs = rule_each (λ d sh. shape_lower cs d.level sh) (all_lower cs) (λ b r rs. refl) (λ b r rs d ds. refl)
 
 module _ (g : List Rule) (wf : IsGrammar g) (cs : List Claim) (lower : (n : ℕ) → n < length g → shape_lower cs (claim_at cs n).level (shape_of g n) ≡ true) where
   way_text : (b : ℕ) (xs : List ℕ) → AllBelow (length g) xs → ((x : ℕ) → x < length g → (claim_at cs x).level < b → HasText g x) → lower_way cs b xs ≡ true → (ts : List ℕ) × (ws : List Note) × Derives g xs ts ws

@@ -1,5 +1,5 @@
 -- The tables tell whether a grammar is LL(1).
-use Rattle.std.proofs.Common.{Bool, false, IsTrue, ◌≡◌, ℕ, ◌+◌, ◌<◌, ◌≤◌, inl, inr, List, [], ◌∷◌, length, Some, None, refl, subst, arith}
+use Rattle.std.proofs.Common.{◌≡◌, ℕ, ◌+◌, ◌<◌, ◌≤◌, inl, inr, List, [], ◌∷◌, length, Some, None, refl, subst, arith}
 use Rattle.vkg_lists.specs.Lists.{AllBelow}
 use Rattle.vkg_grammar.specs.declared.rule.Rule.{Rule}
 use Rattle.vkg_grammar.specs.Grammar.{Shape, One, Parts, Choice, shape_of, MayBeEmpty, Starts, the_first, the_second, IsLL1, IsGrammar, IsProductive}
@@ -54,6 +54,3 @@ module _ (g : List Rule) (t follow : List ℕ) (w : ℕ) (wf : IsGrammar g) (pro
         (λ p q. ll.one_empty n xs ys h e (by_empty xs (wf.closed n xs h (the_first e)) p) (by_empty ys (wf.closed n ys h (the_second e)) q)),
         (λ k inside p q. ll.one_begins n xs ys k h e (by_starts n k xs h (wf.closed n xs h (the_first e)) p) (by_starts n k ys h (wf.closed n ys h (the_second e)) q)),
       )
-
-pub not_true : {b : Bool} → b ≡ false → IsTrue b → ⊥
-not_true e t = cc

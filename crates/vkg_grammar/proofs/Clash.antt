@@ -1,25 +1,17 @@
 -- A symbol that may be empty does not begin with what may follow it.
-use Rattle.std.proofs.Common.{◌≡◌, ℕ, ◌<◌, inl, inr, List, [], ◌∷◌, ◌++◌, length, refl, sym, subst, append_assoc}
+use Rattle.std.proofs.Common.{ℕ, ◌<◌, inl, inr, List, [], ◌∷◌, ◌++◌, length, sym, subst, append_assoc}
 use Rattle.vkg_lists.proofs.Members.{recursion_append}
 use Rattle.vkg_lists.specs.Lists.{AllBelow}
 use Rattle.vkg_grammar.specs.declared.note.Note.{Note}
 use Rattle.vkg_grammar.specs.declared.rule.Rule.{Rule}
 use Rattle.vkg_grammar.specs.Grammar.{Derives, done, parts, first, second, MayBeEmpty, MayBegin, IsWay, the_parts, the_first, the_second, MayFollow, within, at_end, IsLL1, IsGrammar}
-use Rattle.vkg_grammar.proofs.Core.{Split, split, spelled, starts_seen}
+use Rattle.vkg_grammar.proofs.Core.{starts_seen, empty_parts}
 use Rattle.vkg_grammar.proofs.Stepping.{of_parts, OfChoice, by_first, by_second, of_choice, OfParts, by_parts}
 
 -- What begins what stands behind a symbol may follow it, and k may follow it where nothing else need stand there.
 abbrev pub FitsBefore : List Rule → ℕ → List ℕ → Type 0
 FitsBefore g k [] = Unit {0}
 FitsBefore g k (n ∷ s) = ((j : ℕ) → MayBegin g s j → MayFollow g n j) × (MayBeEmpty g s → MayFollow g n k) × FitsBefore g k s
-
-pub empty_parts : {g : List Rule} {ws : List Note} (xs s : List ℕ) → Derives g (xs ++ s) [] ws → MayBeEmpty g xs × MayBeEmpty g s
-empty_parts {g = g} {ws = ws} xs s d =
-    let r : Split g xs s [] ws = split xs s refl d in by_front r.front r.back r.tokens r.of_front r.of_back
-  where
-    by_front : (u v : List ℕ) {wu wv : List Note} → [] ≡ u ++ v → Derives g xs u wu → Derives g s v wv → MayBeEmpty g xs × MayBeEmpty g s
-    by_front [] v {wu = wu} {wv = wv} e a b = ((wu, a), (wv, spelled (sym e) b))
-    by_front (x ∷ u) v e a b = absurd (cc)
 
 before_way : {g : List Rule} {n : ℕ} (k : ℕ) (s before xs : List ℕ) → IsWay g n (before ++ xs) → ((j : ℕ) → MayBegin g s j → MayFollow g n j) → (MayBeEmpty g s → MayFollow g n k) → FitsBefore g k s → FitsBefore g k (xs ++ s)
 before_way k s before [] w f e fs = fs

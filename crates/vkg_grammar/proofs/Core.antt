@@ -77,17 +77,17 @@ starts_seen {g = g} {n = n} {s = s} {ts = ts} {ws = ws} {k = k} ys f d =
     by_front [] {wu = wu} {wv = wv} e d' b = inr ((wu, d'), f k (ts, wv, spelled (sym e) b))
     by_front (x ∷ u) {wu = wu} e d' b = inl (u, wu, subst (λ y. Derives g ys (y ∷ u) wu) (sym (head_same _ _ _ _ e)) d')
 
-pub empty_seen : {g : List Rule} {ws : List Note} (ys s : List ℕ) → Derives g (ys ++ s) [] ws → MayBeEmpty g ys
-empty_seen {g = g} {ws = ws} ys s d =
-    let r : Split g ys s [] ws = split ys s refl d in by_front r.front r.back r.tokens r.of_front
+pub empty_parts : {g : List Rule} {ws : List Note} (xs s : List ℕ) → Derives g (xs ++ s) [] ws → MayBeEmpty g xs × MayBeEmpty g s
+empty_parts {g = g} {ws = ws} xs s d =
+    let r : Split g xs s [] ws = split xs s refl d in by_front r.front r.back r.tokens r.of_front r.of_back
   where
-    by_front : (u v : List ℕ) {wu : List Note} → [] ≡ u ++ v → Derives g ys u wu → MayBeEmpty g ys
-    by_front [] v {wu = wu} e d' = (wu, d')
-    by_front (x ∷ u) v e d' = absurd (cc)
+    by_front : (u v : List ℕ) {wu wv : List Note} → [] ≡ u ++ v → Derives g xs u wu → Derives g s v wv → MayBeEmpty g xs × MayBeEmpty g s
+    by_front [] v {wu = wu} {wv = wv} e a b = ((wu, a), (wv, spelled (sym e) b))
+    by_front (x ∷ u) v e a b = absurd (cc)
 
 -- Where xs begins as the next token says, the other way does not lead to such a text.
 pub forced : {g : List Rule} {n : ℕ} {xs ys s : List ℕ} {c : Option ℕ} {ts : List ℕ} {ws : List Note} → Apart g n xs ys → ((k : ℕ) → MayBegin g s k → MayFollow g n k) → Ahead g xs c → Sees c ts → Derives g (ys ++ s) ts ws → ⊥
-forced {ys = ys} {s = s} a f h at_end_of d = a.empty (ahead_empty h) (empty_seen ys s d)
+forced {ys = ys} {s = s} a f h at_end_of d = a.empty (ahead_empty h) (empty_parts ys s d).0
 forced {ys = ys} a f h (at_token {k = k}) d = a.begins k (inl (ahead_begin h)) (starts_seen ys f d)
 
 -- Where xs may be empty and no way begins with the next token, the other way does not lead to a text that begins with it.

@@ -1,18 +1,18 @@
 -- What may follow a symbol, by the table.
-use Rattle.std.proofs.Common.{◌≡◌, ℕ, zero, suc, ◌+◌, ◌*◌, ◌/◌, ◌%◌, ◌<◌, ◌≤◌, Bool, true, false, ◌⊎◌, inl, inr, List, [], ◌∷◌, ◌++◌, length, get_or, take, Option, Some, None, refl, ap, sym, ◌∙◌, subst, append_assoc, arith, replicate}
+use Rattle.std.proofs.Common.{◌≡◌, ℕ, zero, suc, ◌+◌, ◌*◌, ◌<◌, ◌≤◌, Bool, false, ◌⊎◌, inl, inr, List, [], ◌∷◌, ◌++◌, length, Option, Some, None, refl, ap, sym, ◌∙◌, subst, append_assoc, arith, replicate}
 use Rattle.std.proofs.lemmas.List.{take_all, length-replicate}
-use Rattle.std.proofs.lemmas.Nat.{mul-add-lt, div-mul-add, mod-mul-add}
 use Rattle.std.proofs.Math.ListN.{get_or-eq_default}
 use Rattle.vkg_lists.specs.Lists.{AllBelow}
+use Rattle.vkg_lists.proofs.Members.{recursion_right}
 use Rattle.vkg_grammar.specs.declared.rule.Rule.{Rule}
 use Rattle.vkg_grammar.specs.declared.rule.Rule.TheVariants.{Token}
 use Rattle.vkg_grammar.specs.Grammar.{Shape, One, Parts, Choice, shape_of, MayFollow, within, at_end, IsWay, the_parts, the_first, the_second, IsGrammar, IsProductive}
 use Rattle.vkg_grammar.specs.Rank.{column, rank_in, Begins, IsTable}
 use Rattle.vkg_grammar.specs.Machine.{at_token, at_end_of}
-use Rattle.vkg_grammar.specs.Tables.{seen_at, IsNextCell, zeros, IsRound, PlaceFollows, ShapeFollows, HasPlace, FollowReason, IsFollowTable}
+use Rattle.vkg_grammar.specs.Tables.{seen_at, IsRound, PlaceFollows, ShapeFollows, HasPlace, FollowReason, IsFollowTable}
 use Rattle.vkg_grammar.proofs.Core.{ahead_empty, ahead_begin}
 use Rattle.vkg_grammar.proofs.Heights.{ahead_begins, begins_ahead}
-use Rattle.vkg_grammar.proofs.Rounds.{cell_why, cell_done, in_range, out_of_range, seen_column, column_or_not, zero_rank, never_past}
+use Rattle.vkg_grammar.proofs.Rounds.{cell_why, cell_done, out_of_range, column_or_not, zero_rank, never_past, cell_at}
 
 -- a way's symbol has a rule
 pub way_inside : {g : List Rule} {m : ℕ} {xs : List ℕ} → IsWay g m xs → m < length g
@@ -61,19 +61,15 @@ module _ (g : List Rule) (rank : ℕ → Option ℕ → ℕ) (wf : IsGrammar g) 
   shape_here n k behind (the_first e) p = subst (ShapeFollows rank behind n (Some k)) (sym e) (inl p)
   shape_here n k behind (the_second e) p = subst (ShapeFollows rank behind n (Some k)) (sym e) (inr p)
 
-  below_mid : (before : List ℕ) (n : ℕ) (after : List ℕ) → AllBelow (length g) (before ++ n ∷ after) → (n < length g) × AllBelow (length g) after
-  below_mid [] n after b = b
-  below_mid (x ∷ before) n after b = below_mid before n after b.1
-
   pub follows_found : {n k : ℕ} (follow : List ℕ) (width : ℕ) → ((n : ℕ) (c : Option ℕ) → n < length g → HasPlace g rank follow width n c → 0 < rank_in follow width n c) → MayFollow g n k → 0 < rank_in follow width n (Some k)
   follows_found {n = n} {k = k} follow width closed (within m before after w b) =
       let h : m < length g = way_inside w in
-      let mid : (n < length g) × AllBelow (length g) after = below_mid before n after (wf.closed m (before ++ n ∷ after) h w) in
+      let mid : (n < length g) × AllBelow (length g) after = recursion_right (λ k. k < length g) before (n ∷ after) (wf.closed m (before ++ n ∷ after) h w) in
       let s : Begins rank (Some k) after = begins_ahead g rank wf table mid.1 (record { tokens = k ∷ b.0; ways = b.1; sees = at_token; derives = b.2 }) in
       closed n (Some k) mid.0 (m, h, shape_here n k (0 < rank_in follow width m (Some k)) w (place_here n k (0 < rank_in follow width m (Some k)) before after (inl s)))
   follows_found {n = n} {k = k} follow width closed (at_end m before after w e f) =
       let h : m < length g = way_inside w in
-      let mid : (n < length g) × AllBelow (length g) after = below_mid before n after (wf.closed m (before ++ n ∷ after) h w) in
+      let mid : (n < length g) × AllBelow (length g) after = recursion_right (λ k. k < length g) before (n ∷ after) (wf.closed m (before ++ n ∷ after) h w) in
       let s : Begins rank None after = begins_ahead g rank wf table mid.1 (record { tokens = []; ways = e.0; sees = at_end_of; derives = e.1 }) in
       let more : 0 < rank_in follow width m (Some k) = follows_found follow width closed f in
       closed n (Some k) mid.0 (m, h, shape_here n k (0 < rank_in follow width m (Some k)) w (place_here n k (0 < rank_in follow width m (Some k)) before after (inr (s, more))))
@@ -89,14 +85,6 @@ shape_behind rank n c (One k) f p = absurd p
 shape_behind rank n c (Parts xs) f p = place_behind rank n c xs f p
 shape_behind rank n c (Choice xs ys) f (inl p) = inl (place_behind rank n c xs f p)
 shape_behind rank n c (Choice xs ys) f (inr p) = inr (place_behind rank n c ys f p)
-
--- a cell of a round
-cell_at : (R : ℕ → Option ℕ → Type 0) {changed : Bool} (m w stamp : ℕ) (old new : List ℕ) (n : ℕ) (c : Option ℕ) → length old ≡ w * m → n < m → column c < w → IsRound (λ i. R (i / w) (seen_at (i % w))) stamp old new (length old) changed → IsNextCell (R n c) stamp (rank_in old w n c) (rank_in new w n c)
-cell_at R m w stamp old new n c size h col r =
-    let inside : n * w + column c < length old = rw size (mul-add-lt n w (column c) m h col) in
-    let reason : R ((n * w + column c) / w) (seen_at ((n * w + column c) % w)) ≡ R n c = ap (λ y. R y (seen_at ((n * w + column c) % w))) (div-mul-add n w (column c) col) ∙ ap (R n) (ap seen_at (mod-mul-add n w (column c) col) ∙ seen_column c) in
-    let cell : IsNextCell (R ((n * w + column c) / w) (seen_at ((n * w + column c) % w))) stamp (get_or old (n * w + column c) 0) (get_or new (n * w + column c) 0) = r.cells (n * w + column c) inside in
-    rw (in_range old w n c col, in_range new w n c col) (subst (λ y. IsNextCell y stamp (get_or old (n * w + column c) 0) (get_or new (n * w + column c) 0)) reason cell)
 
 -- What holds before each round.
 pub record IsFollowing (g : List Rule) (w : ℕ) (t : List ℕ) : Type 0 where
@@ -141,6 +129,3 @@ follow_done {g = g} t w old new wf prod table wide a r e = λ n k h. ((λ p. of_
     closed : (n : ℕ) (c : Option ℕ) → n < length g → HasPlace g (rank_in t w) old w n c → (column c < w) ⊎ (w ≤ column c) → 0 < rank_in old w n c
     closed n c h s (inl col) = cell_done (cell_at (λ n c. HasPlace g (rank_in t w) old w n c) (length g) w 1 old new n c a.size h col r) (ap (λ y. rank_in y w n c) same) (omega arith) s
     closed n c h (m, hm, s) (inr out) = absurd (past_shape w n m c t old (shape_of g m) out wide s)
-
-pub follow_fewer : (reason : ℕ → Type 0) {changed : Bool} (old new : List ℕ) → IsRound reason 1 old new (length old) changed → changed ≡ true → zeros new < zeros old
-follow_fewer reason old new r e = let less : zeros new < zeros (take (length old) old) = r.changes e in let all : zeros (take (length old) old) ≡ zeros old = ap zeros (take_all (length old) old (omega arith)) in omega arith

@@ -1,6 +1,9 @@
 -- A derivation is a tree, and a tree is a derivation.
-use Rattle.std.proofs.Common.{◌≡◌, ℕ, ◌<◌, ◌≤◌, ◌+◌, List, [], ◌∷◌, ◌++◌, length, drop, slice_get, Some, refl, ap, sym, ◌∙◌, subst, arith, append_assoc, zero, suc}
-use Rattle.std.proofs.lemmas.List.{append-nil}
+use Rattle.std.proofs.Common.{◌≡◌, ℕ, ◌<◌, ◌≤◌, ◌+◌, List, [], ◌∷◌, ◌++◌, length, drop, slice_get, Some, refl, ap, sym, ◌∙◌, subst, arith, append_assoc, zero, suc, ◌-◌}
+use Rattle.std.proofs.lemmas.List.{append-nil, drop_all, length-drop}
+use Rattle.std.proofs.lemmas.Option.{get_or_from_slice_get, slice_get_within}
+use Rattle.vkg_lists.proofs.Firsts.{opened}
+use Rattle.vkg_lists.proofs.Heads.{head_same, tail_same}
 use Rattle.vkg_grammar.specs.declared.rule.Rule.{Rule}
 use Rattle.vkg_grammar.specs.declared.rule.Rule.TheVariants.{Empty, Then, Either, Optional, Repeated}
 use Rattle.vkg_grammar.specs.declared.note.Act.{Act as Step}
@@ -60,29 +63,14 @@ no_leaf : (r : Rule) (n : ℕ) (xs : List ℕ) → parts r n Leaf ≡ Some xs �
 no_leaf Empty n xs e = absurd (cc)
 no_leaf r n xs e = absurd (cc)
 
-one_is : {A : Type 0} {x y : A} {xs ys : List A} → x ∷ xs ≡ y ∷ ys → (x ≡ y) × (xs ≡ ys)
-one_is e = (cc, cc)
-
 -- the first of what is left
 first_left : (kinds ts : List ℕ) (at k : ℕ) → k ∷ ts ≡ drop at kinds → (slice_get kinds at ≡ Some k) × (ts ≡ drop (at + 1) kinds) × (at < length kinds)
 first_left [] ts zero k e = absurd (cc)
 first_left [] ts (suc at) k e = absurd (cc)
-first_left (x ∷ kinds) ts zero k e = (ap (λ y. Some y) (sym (one_is e).0), (one_is e).1, omega arith)
+first_left (x ∷ kinds) ts zero k e = (ap (λ y. Some y) (sym (head_same k x ts kinds e)), tail_same k x ts kinds e, omega arith)
 first_left (x ∷ kinds) ts (suc at) k e =
     let r = first_left kinds ts at k e in
     (r.0, r.1 ∙ ap (λ m. drop m (x ∷ kinds)) (let same : suc (at + 1) ≡ suc at + 1 = omega arith in same), omega (arith, r.2))
-
-left_first : (kinds : List ℕ) (at k : ℕ) → slice_get kinds at ≡ Some k → drop at kinds ≡ k ∷ drop (at + 1) kinds
-left_first [] zero k e = absurd (cc)
-left_first [] (suc at) k e = absurd (cc)
-left_first (x ∷ kinds) zero k e = ap (λ y. y ∷ kinds) (let same : x ≡ k = cc in same)
-left_first (x ∷ kinds) (suc at) k e = left_first kinds at k e ∙ ap (λ m. k ∷ drop m (x ∷ kinds)) (let same : suc (at + 1) ≡ suc at + 1 = omega arith in same)
-
-none_left : (kinds : List ℕ) (at : ℕ) → at ≤ length kinds → [] ≡ drop at kinds → at ≡ length kinds
-none_left [] zero h e = refl
-none_left [] (suc at) h e = absurd (omega arith)
-none_left (x ∷ kinds) zero h e = absurd (cc)
-none_left (x ∷ kinds) (suc at) h e = let r = none_left kinds at (omega arith) e in omega (arith, r)
 
 pair_up : {g : List Rule} {kinds s : List ℕ} {q : List Step} {n a b : ℕ} (at : ℕ) → parts (rule g n) n Pair ≡ Some (a ∷ b ∷ []) → Grown g kinds at (a ∷ b ∷ s) q → Grown g kinds at (n ∷ s) (Pair ∷ q)
 pair_up {g = g} {kinds = kinds} {s = s} {q = q} {n = n} {a = a} {b = b} at p r = go r.trees r.from r.steps r.all
@@ -111,7 +99,7 @@ single_up {g = g} {kinds = kinds} {s = s} {q = q} {n = n} {a = a} at step up is 
         }
 
 grow : {g : List Rule} {kinds s ts : List ℕ} {q : List Step} → Derives g s ts q → (at : ℕ) → at ≤ length kinds → ts ≡ drop at kinds → Grown g kinds at s q
-grow {kinds = kinds} done at h e = record { forest = []; trees = no_tree; from = tt; steps = refl; all = (let r = none_left kinds at h e in omega (arith, r)) }
+grow {kinds = kinds} done at h e = record { forest = []; trees = no_tree; from = tt; steps = refl; all = (let left : 0 ≡ length kinds - at = ap length e ∙ length-drop at kinds in omega (arith, h, left)) }
 grow {g = g} {kinds = kinds} (read {k = k} {s = s} {ts = ts} {q = q} p d) at h e =
     let f = first_left kinds ts at k e in
     let r : Grown g kinds (at + 1) s q = grow d (at + 1) (omega (arith, f.2)) f.1 in
@@ -141,7 +129,8 @@ has_tree {g = g} {kinds = kinds} {q = q} d = let r : Grown g kinds 0 (0 ∷ []) 
 -- and back
 pub sown : {g : List Rule} {kinds s : List ℕ} {q : List Step} {n : ℕ} {t : Tree} (at : ℕ) → IsTree g kinds n t → IsFrom at t → Derives g s (drop (at + size t) kinds) q → Derives g (n ∷ s) (drop at kinds) (steps_of t ++ q)
 sown {g = g} {kinds = kinds} {s = s} {q = q} {n = n} at (a_token {k = k} {i = i} p o) h d =
-    let e = left_first kinds at k (ap (λ m. slice_get kinds m) (sym h) ∙ o) in
+    let here : slice_get kinds at ≡ Some k = ap (λ m. slice_get kinds m) (sym h) ∙ o in
+    let e = opened kinds at k (slice_get_within kinds at k here) (sym (get_or_from_slice_get kinds at k k here)) in
     subst (λ ts. Derives g (n ∷ s) ts (Leaf ∷ q)) (sym e) (read p d)
 sown {g = g} {kinds = kinds} {s = s} {q = q} at (a_nothing p) h d = by p (subst (λ m. Derives g s (drop m kinds) q) (let same : at + 0 ≡ at = omega arith in same) d)
 sown at (a_first p t) h d = by p (sown at t h d)
@@ -152,14 +141,8 @@ sown {g = g} {kinds = kinds} {s = s} {q = q} at (a_pair {a = a} {b = b} {x = x} 
 
 pub derives : {g : List Rule} {kinds : List ℕ} {t : Tree} → IsTreeOf g kinds t → Derives g (0 ∷ []) kinds (steps_of t)
 derives {g = g} {kinds = kinds} {t = t} w =
-    let d : Derives g (0 ∷ []) kinds (steps_of t ++ []) = sown 0 w.is w.from (subst (λ ts. Derives g [] ts []) (gone kinds (0 + size t) (omega (arith, w.all))) done) in
+    let d : Derives g (0 ∷ []) kinds (steps_of t ++ []) = sown 0 w.is w.from (subst (λ ts. Derives g [] ts []) (sym (drop_all (0 + size t) kinds (omega (arith, w.all)))) done) in
     subst (λ z. Derives g (0 ∷ []) kinds z) (append-nil (steps_of t)) d
-  where
-    gone : (ks : List ℕ) (m : ℕ) → m ≡ length ks → [] ≡ drop m ks
-    gone [] zero e = refl
-    gone [] (suc m) e = refl
-    gone (k ∷ ks) zero e = absurd (omega arith)
-    gone (k ∷ ks) (suc m) e = gone ks m (omega arith)
 
 -- a text of which there is one derivation has one tree
 pub one_tree : {g : List Rule} {kinds : List ℕ} {t u : Tree} → ((p q : List Step) → Derives g (0 ∷ []) kinds p → Derives g (0 ∷ []) kinds q → p ≡ q) → IsTreeOf g kinds t → IsTreeOf g kinds u → t ≡ u
@@ -168,4 +151,4 @@ one_tree {kinds = kinds} {t = t} {u = u} only w v =
     let e : steps_of t ≡ steps_of u = only (steps_of t) (steps_of u) (derives w) (derives v) in
     let a = decodes n 0 t [] w.from (let same : n ≡ 0 + size t = omega (arith, w.all) in same) in
     let b = decodes n 0 u [] v.from (let same : n ≡ 0 + size u = omega (arith, v.all) in same) in
-    (one_is (sym a.1 ∙ ap (λ q. (decoded n (q ++ [])).trees) e ∙ b.1)).0
+    head_same t u [] [] (sym a.1 ∙ ap (λ q. (decoded n (q ++ [])).trees) e ∙ b.1)

@@ -2,7 +2,9 @@
 use Rattle.std.proofs.Common.{◌≡◌, ℕ, zero, suc, ◌+◌, ◌*◌, ◌<◌, ◌≤◌, ◌⊎◌, inl, inr, List, [], ◌∷◌, ◌++◌, length, get_or, Option, Some, None, refl, ap, sym, subst, append-nil, arith}
 use Rattle.std.proofs.Math.Logic.{⊎_swap}
 use Rattle.std.proofs.Math.Nat.{eq-zero-or-pos}
-use Rattle.vkg_lists.proofs.Members.{recursion_append}
+use Rattle.std.specs.Prelude.{IfSome}
+use Rattle.std.specs.List.{AllByRecursion}
+use Rattle.vkg_lists.proofs.Members.{recursion_append, recursion_from_each}
 use Rattle.vkg_lists.specs.Lists.{AllBelow}
 use Rattle.vkg_grammar.specs.declared.note.Note.{Note}
 use Rattle.vkg_grammar.specs.declared.note.Act.TheVariants.{Leaf}
@@ -132,12 +134,10 @@ module _ (g : List Rule) (rank : ℕ → Option ℕ → ℕ) where
 
   -- why the parser ends
   abbrev QuietAt : Option ℕ → ℕ → Type 0
-  QuietAt None x = Unit {0}
-  QuietAt (Some k) x = rank x (Some k) ≡ 0
+  QuietAt c x = IfSome c (λ k. rank x (Some k) ≡ 0)
 
   abbrev Quiet : Option ℕ → List ℕ → Type 0
-  Quiet c [] = Unit {0}
-  Quiet c (x ∷ xs) = QuietAt c x × Quiet c xs
+  Quiet c xs = AllByRecursion (QuietAt c) xs
 
   skip : (c : Option ℕ) (x : ℕ) (s : List ℕ) → QuietAt c x → height rank c (x ∷ s) ≡ tri (rank x None) + height rank c s
   skip None x s q = refl
@@ -207,10 +207,7 @@ module _ (g : List Rule) (rank : ℕ → Option ℕ → ℕ) where
   nearer_drop {n = n} {xs = xs} {c = c} s w ll t h way (by_kind f pos) = by_column c f pos
     where
       by_column : (c : Option ℕ) → Falls rank (rank n c) c xs → 0 < rank n c → height rank c (xs ++ s) < height rank c (n ∷ s)
-      by_column None f pos = none_drop (rank n None) None s xs (short_way way) f (all_quiet xs) where
-        all_quiet : (xs : List ℕ) → Quiet None xs
-        all_quiet [] = tt
-        all_quiet (x ∷ xs) = (tt, all_quiet xs)
+      by_column None f pos = none_drop (rank n None) None s xs (short_way way) f (recursion_from_each (QuietAt None) xs (λ x m. tt))
       by_column (Some k) f pos = rw (at_pos (rank n (Some k)) (tri (rank n None) + height rank (Some k) s) pos) (some_drop (rank n (Some k)) k s xs (short_way way) f (no_clash xs w ll t h way))
   nearer_drop {n = n} {xs = xs} s w ll t h way (by_nothing {k = k} z f never) =
       rw (skip (Some k) n s z) (none_drop (rank n None) (Some k) s xs (short_way way) f (quiet_of k xs f never))

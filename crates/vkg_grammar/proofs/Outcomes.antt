@@ -10,6 +10,7 @@ use Rattle.vkg_grammar.specs.Grammar.{Derives, IsAlive}
 use Rattle.vkg_grammar.specs.Kinds.{kinds_of, start_at}
 use Rattle.vkg_grammar.specs.Laws.{HaveOneOutcome}
 use Rattle.std.proofs.lemmas.List.{append-nil}
+use Rattle.vkg_lists.proofs.Results.{err_same, ok_err, ok_same}
 use Rattle.vkg_grammar.proofs.Core.{spelled}
 use Rattle.vkg_grammar.proofs.Outer.{alive_front}
 use Rattle.vkg_grammar.specs.Parsing.{IsFirstDead, IsCutOff, IsTheText, Fails, NoTextAt}
@@ -17,13 +18,13 @@ use Rattle.vkg_tokens.specs.declared.cutting.Token.{Token}
 
 -- what cuts a text gives its tokens, or one place where none begins
 pub same_tokens : {r : Result (List Token) ℕ} {ts us : List Token} → r ≡ Ok ts → r ≡ Ok us → ts ≡ us
-same_tokens e f = cc
+same_tokens e f = ok_same _ _ (sym e ∙ f)
 
 pub same_place : {r : Result (List Token) ℕ} {a b : ℕ} → r ≡ Err a → r ≡ Err b → a ≡ b
-same_place e f = cc
+same_place e f = err_same _ _ (sym e ∙ f)
 
 pub not_tokens : {r : Result (List Token) ℕ} {ts : List Token} {a : ℕ} → r ≡ Ok ts → r ≡ Err a → ⊥
-not_tokens e f = cc
+not_tokens e f = ok_err _ _ (sym e ∙ f)
 
 -- the least of a kind is one
 least : (m n : ℕ) → (m < n → ⊥) → (n < m → ⊥) → m ≡ n
@@ -63,6 +64,23 @@ one_place g text ts a b (inl p) (inl q) = p.2 ∙ ap (start_at ts) (one_dead g (
 one_place g text ts a b (inl p) (inr q) = absurd (not_cut g (kinds_of ts) p.0 p.1 q.0)
 one_place g text ts a b (inr p) (inl q) = absurd (not_cut g (kinds_of ts) q.0 q.1 p.0)
 one_place g text ts a b (inr p) (inr q) = p.1 ∙ sym q.1
+
+-- ---- the same of a text whose tokens are cut twice
+
+pub too_deep_once : (g : Form) {r : Result (List Token) ℕ} {ts us : List Token} {m n a b : ℕ} → r ≡ Ok ts → r ≡ Ok us → IsTooDeep g (kinds_of ts) m → IsTooDeep g (kinds_of us) n → a ≡ start_at ts m → b ≡ start_at us n → a ≡ b
+too_deep_once g {ts = ts} {us = us} {m = m} {n = n} c d x y p q =
+    let t : us ≡ ts = same_tokens d c in
+    let z : IsTooDeep g (kinds_of ts) n = subst (λ vs. IsTooDeep g (kinds_of vs) n) t y in
+    p ∙ (λ i. start_at (sym t i) (one_deep g (kinds_of ts) m n x z i)) ∙ sym q
+
+pub deep_not_shallow : (g : Form) {r : Result (List Token) ℕ} {ts us : List Token} {n : ℕ} → r ≡ Ok ts → r ≡ Ok us → IsTooDeep g (kinds_of ts) n → IsShallow g (kinds_of us) → ⊥
+deep_not_shallow g {us = us} {n = n} c d x s = not_deep g (kinds_of us) n s (subst (λ vs. IsTooDeep g (kinds_of vs) n) (same_tokens c d) x)
+
+pub derived_no_text : (g : List Rule) (text : List ℕ) {r : Result (List Token) ℕ} {ts us : List Token} {ws : List Note} {at : ℕ} → r ≡ Ok ts → r ≡ Ok us → Derives g (0 ∷ []) (kinds_of ts) ws → NoTextAt g text us at → ⊥
+derived_no_text g text {us = us} {ws = ws} {at = at} c d derived n = no_text g text us ws at (subst (λ vs. Derives g (0 ∷ []) (kinds_of vs) ws) (same_tokens c d) derived) n
+
+pub no_text_once : (g : List Rule) (text : List ℕ) {r : Result (List Token) ℕ} {ts us : List Token} {a b : ℕ} → r ≡ Ok ts → r ≡ Ok us → NoTextAt g text ts a → NoTextAt g text us b → a ≡ b
+no_text_once g text {ts = ts} {a = a} {b = b} c d x y = one_place g text ts a b x (subst (λ vs. NoTextAt g text vs b) (same_tokens d c) y)
 
 one_fault : (g : Form) (ks : List ℕ) (e f : ParseFault) → Fails g ks e → Fails g ks f → (e ≡ Memory → ⊥) → (f ≡ Memory → ⊥) → e ≡ f
 one_fault g ks Memory f a b p q = absurd (p refl)

@@ -1,9 +1,10 @@
 -- The goals of `expand`, over plain variables.
-use Rattle.std.proofs.Common.{◌≡◌, ℕ, zero, suc, ◌+◌, ◌*◌, ◌<◌, ◌⊎◌, inl, inr, List, [], ◌∷◌, ◌++◌, length, get_or, Option, Some, None, refl, ap, sym, ◌∙◌, subst, arith, reverse}
+use Rattle.std.proofs.Common.{◌≡◌, ℕ, ◌+◌, ◌*◌, ◌<◌, ◌⊎◌, inl, inr, List, [], ◌∷◌, ◌++◌, length, get_or, Option, Some, None, refl, ap, sym, ◌∙◌, subst, arith, reverse}
 use Rattle.std.proofs.lemmas.List.{reverse-append}
 use Rattle.std.proofs.lemmas.Nat.{mul-add-lt}
 use Rattle.std.proofs.lemmas.Option.{none-some}
 use Rattle.vkg_lists.specs.Lists.{AllBelow}
+use Rattle.vkg_lists.proofs.Members.{recursion_at}
 use Rattle.vkg_grammar.specs.declared.note.Note.{Note}
 use Rattle.vkg_grammar.specs.declared.note.Act.TheVariants.{Leaf}
 use Rattle.vkg_grammar.specs.declared.rule.Rule.{Rule}
@@ -20,12 +21,7 @@ pub has_rows : (w m size n : ℕ) (c : Option ℕ) → n < m → size ≡ w * m 
 has_rows w m size n c h e col = (col, rw e (mul-add-lt n w (column c) m h col), rw e (let first : n * w + 0 < w * m = mul-add-lt n w 0 m h (omega arith) in omega arith))
 
 pub rows_below : (w m size : ℕ) (c : Option ℕ) (xs : List ℕ) → AllBelow m xs → size ≡ w * m → column c < w → AllHaveRows size w xs c
-rows_below w m size c [] b e col = λ i h. absurd (omega arith)
-rows_below w m size c (x ∷ xs) b e col = λ i. at (rows_below w m size c xs b.1 e col) i
-  where
-    at : ((i : ℕ) → i < length xs → HasRows size w (get_or xs i 0) c) → (i : ℕ) → i < length (x ∷ xs) → HasRows size w (get_or (x ∷ xs) i 0) c
-    at more zero h = has_rows w m size x c b.0 e col
-    at more (suc i) h = more i (omega arith)
+rows_below w m size c xs b e col = λ i h. has_rows w m size (get_or xs i 0) c (recursion_at (λ k. k < m) xs i 0 b h) e col
 
 -- What `expand` knows when it looks at a symbol.
 pub record Looking (g : List Rule) (rank : ℕ → Option ℕ → ℕ) (c : Option ℕ) (n : ℕ) : Type 0 where

@@ -1,10 +1,11 @@
 -- What the rounds keep.
-use Rattle.std.proofs.Common.{◌↔◌, IsTrue, ◌≡◌, ℕ, zero, suc, ◌+◌, ◌*◌, ◌%◌, ◌<◌, ◌≤◌, Bool, true, false, ◌⊎◌, inl, inr, List, [], ◌∷◌, ◌++◌, length, get_or, take, Option, Some, None, refl, ap, sym, ◌∙◌, subst, arith, add-one, below_more, lt-ltb, le-ltb, replicate}
-use Rattle.std.proofs.lemmas.Bool.{cases_lt}
-use Rattle.std.proofs.lemmas.List.{length-replicate}
+use Rattle.std.proofs.Common.{◌↔◌, IsTrue, ◌≡◌, ℕ, zero, suc, ◌+◌, ◌*◌, ◌/◌, ◌%◌, ◌<◌, ◌≤◌, Bool, true, false, ◌⊎◌, inl, inr, List, [], ◌∷◌, ◌++◌, length, get_or, take, Option, Some, None, refl, ap, sym, ◌∙◌, subst, arith, add-one, below_more, lt-ltb, le-ltb, replicate}
+use Rattle.std.proofs.lemmas.Bool.{cases_lt, both_ways}
+use Rattle.std.proofs.lemmas.List.{length-replicate, get_or_push}
 use Rattle.std.proofs.lemmas.List.{get_or_append_left, length_push, take_more, take_all}
 use Rattle.std.proofs.lemmas.Nat.{mul-add-lt, div-mul-add, mod-mul-add}
 use Rattle.vkg_lists.specs.Lists.{AllBelow}
+use Rattle.vkg_lists.proofs.Heads.{replicate_same}
 use Rattle.vkg_grammar.specs.declared.rule.Rule.{Rule}
 use Rattle.vkg_grammar.specs.Grammar.{Shape, One, Parts, Choice, shape_of, IsGrammar, the_parts, the_first, the_second}
 use Rattle.vkg_grammar.specs.Rank.{column, rank_in, Begins, ShapeBegins, Falls, falls_end, falls_here, falls_later, ShapeFalls, IsTable}
@@ -53,19 +54,12 @@ round_step reason stamp old new i value changed changed' h r cell d =
       size = omega (arith, length_push new value, r.size);
       cells = below_more (λ j. IsNextCell (reason j) stamp (get_or old j 0) (get_or (new ++ value ∷ []) j 0)) i
           (λ j lt. rw (get_or_append_left new (value ∷ []) 0 j (omega (arith, r.size))) (r.cells j lt))
-          (rw (at_end new value i r.size) cell);
+          (rw (get_or_push new value 0 i r.size) cell);
       same = λ e. same_end d e r.same next;
       fewer = omega (arith, r.fewer);
       changes = λ e. elim d [ inl p ↦ (let less : zeros (value ∷ []) < zeros (get_or old i 0 ∷ []) = cell_fewer cell p.0 in omega (arith, r.fewer)) | inr p ↦ (let less : zeros new < zeros (take i old) = r.changes (sym p.1 ∙ e) in omega arith) ];
     }
   where
-    at_end : (new : List ℕ) (value i : ℕ) → length new ≡ i → get_or (new ++ value ∷ []) i 0 ≡ value
-    at_end new value i e = rw (← e) (at_length new value)
-      where
-        at_length : (new : List ℕ) (value : ℕ) → get_or (new ++ value ∷ []) (length new) 0 ≡ value
-        at_length [] value = refl
-        at_length (x ∷ new) value = at_length new value
-
     same_end : ((value ≡ get_or old i 0 → ⊥) × (changed' ≡ true)) ⊎ ((value ≡ get_or old i 0) × (changed' ≡ changed)) → changed' ≡ false → (changed ≡ false → new ≡ take i old) → take (i + 1) old ≡ take i old ++ get_or old i 0 ∷ [] → new ++ value ∷ [] ≡ take (i + 1) old
     same_end (inl p) e same next = absurd (let q : changed' ≡ true = p.1 in cc)
     same_end (inr p) e same next = let q : new ≡ take i old = same (sym p.1 ∙ e) in let v : value ≡ get_or old i 0 = p.0 in cc
@@ -74,10 +68,7 @@ pub next_comes : (reason : Type 0) {stamp old : ℕ} {b : Bool} → old ≡ 0 �
 next_comes reason {stamp = stamp} z t b = subst (λ y. IsNextCell reason stamp y stamp) (sym z) (comes (b.0 t))
 
 pub next_waits : (reason : Type 0) {stamp old : ℕ} {b : Bool} → old ≡ 0 → b ≡ false → IsTrue b ↔ reason → IsNextCell reason stamp old 0
-next_waits reason {stamp = stamp} {b = b} z f iff = subst (λ y. IsNextCell reason stamp y 0) (sym z) (waits (λ s. not_both (iff.1 s)))
-  where
-    not_both : b ≡ true → ⊥
-    not_both t = cc
+next_waits reason {stamp = stamp} {b = b} z f iff = subst (λ y. IsNextCell reason stamp y 0) (sym z) (waits (λ s. both_ways b f (iff.1 s)))
 
 -- cells of the table
 pub in_range : (t : List ℕ) (w n : ℕ) (c : Option ℕ) → column c < w → rank_in t w n c ≡ get_or t (n * w + column c) 0
@@ -90,13 +81,16 @@ pub seen_column : (c : Option ℕ) → seen_at (column c) ≡ c
 seen_column None = refl
 seen_column (Some k) = rw add-one refl
 
-pub round_cell : (g : List Rule) {changed : Bool} (w stamp : ℕ) (old new : List ℕ) (n : ℕ) (c : Option ℕ) → length old ≡ w * length g → n < length g → column c < w → IsRound (BeginReason g w old) stamp old new (length old) changed → IsNextCell (ShapeBegins (rank_in old w) c (shape_of g n)) stamp (rank_in old w n c) (rank_in new w n c)
-round_cell g w stamp old new n c size h col r =
-    let i : ℕ = n * w + column c in
-    let inside : n * w + column c < length old = rw size (mul-add-lt n w (column c) (length g) h col) in
-    let reason : BeginReason g w old (n * w + column c) ≡ ShapeBegins (rank_in old w) c (shape_of g n) = ap (λ y. ShapeBegins (rank_in old w) (seen_at ((n * w + column c) % w)) (shape_of g y)) (div-mul-add n w (column c) col) ∙ ap (λ y. ShapeBegins (rank_in old w) y (shape_of g n)) (ap seen_at (mod-mul-add n w (column c) col) ∙ seen_column c) in
-    let cell : IsNextCell (BeginReason g w old (n * w + column c)) stamp (get_or old (n * w + column c) 0) (get_or new (n * w + column c) 0) = r.cells (n * w + column c) inside in
+-- a cell of a round
+pub cell_at : (R : ℕ → Option ℕ → Type 0) {changed : Bool} (m w stamp : ℕ) (old new : List ℕ) (n : ℕ) (c : Option ℕ) → length old ≡ w * m → n < m → column c < w → IsRound (λ i. R (i / w) (seen_at (i % w))) stamp old new (length old) changed → IsNextCell (R n c) stamp (rank_in old w n c) (rank_in new w n c)
+cell_at R m w stamp old new n c size h col r =
+    let inside : n * w + column c < length old = rw size (mul-add-lt n w (column c) m h col) in
+    let reason : R ((n * w + column c) / w) (seen_at ((n * w + column c) % w)) ≡ R n c = ap (λ y. R y (seen_at ((n * w + column c) % w))) (div-mul-add n w (column c) col) ∙ ap (R n) (ap seen_at (mod-mul-add n w (column c) col) ∙ seen_column c) in
+    let cell : IsNextCell (R ((n * w + column c) / w) (seen_at ((n * w + column c) % w))) stamp (get_or old (n * w + column c) 0) (get_or new (n * w + column c) 0) = r.cells (n * w + column c) inside in
     rw (in_range old w n c col, in_range new w n c col) (subst (λ y. IsNextCell y stamp (get_or old (n * w + column c) 0) (get_or new (n * w + column c) 0)) reason cell)
+
+pub round_cell : (g : List Rule) {changed : Bool} (w stamp : ℕ) (old new : List ℕ) (n : ℕ) (c : Option ℕ) → length old ≡ w * length g → n < length g → column c < w → IsRound (BeginReason g w old) stamp old new (length old) changed → IsNextCell (ShapeBegins (rank_in old w) c (shape_of g n)) stamp (rank_in old w n c) (rank_in new w n c)
+round_cell g w stamp old new n c size h col r = cell_at (λ n c. ShapeBegins (rank_in old w) c (shape_of g n)) (length g) w stamp old new n c size h col r
 
 pub cell_kept : {reason : Type 0} {stamp old v : ℕ} → IsNextCell reason stamp old v → 0 < old → v ≡ old
 cell_kept (stays h) p = refl
@@ -186,17 +180,16 @@ finished {g = g} w stamp old new wf cols wide size pos f r e = record { falls = 
     closed n c h s (inl col) = cell_done (round_cell g w stamp old new n c size h col r) (ap (λ y. rank_in y w n c) same) pos s
     closed n c h s (inr out) = absurd (past c n (shape_of g n) h refl out s)
 
+-- a round that changes a cell leaves fewer empty
+pub round_fewer : (reason : ℕ → Type 0) {changed : Bool} {stamp : ℕ} (old new : List ℕ) → IsRound reason stamp old new (length old) changed → changed ≡ true → zeros new < zeros old
+round_fewer reason old new r e = let less : zeros new < zeros (take (length old) old) = r.changes e in let all : zeros (take (length old) old) ≡ zeros old = ap zeros (take_all (length old) old (omega arith)) in omega arith
+
 pub zeros_replicate : (n : ℕ) → zeros (replicate n 0) ≡ n
 zeros_replicate zero = refl
 zeros_replicate (suc n) = ap suc (zeros_replicate n)
 
-pub zero_read : (m i : ℕ) → get_or {A = ℕ} (replicate m 0) i 0 ≡ 0
-zero_read zero i = refl
-zero_read (suc m) zero = refl
-zero_read (suc m) (suc i) = zero_read m i
-
 pub zero_rank : (m w n : ℕ) (c : Option ℕ) → rank_in (replicate m 0) w n c ≡ 0
-zero_rank m w n c = elim (column_or_not w c) [ inl col ↦ in_range (replicate m 0) w n c col ∙ zero_read m (n * w + column c) | inr out ↦ out_of_range (replicate m 0) w n c out ]
+zero_rank m w n c = elim (column_or_not w c) [ inl col ↦ in_range (replicate m 0) w n c col ∙ replicate_same {A = ℕ} m (n * w + column c) 0 | inr out ↦ out_of_range (replicate m 0) w n c out ]
 
 -- What holds before each round.
 pub record IsBegun (g : List Rule) (w stamp : ℕ) (table : List ℕ) : Type 0 where
@@ -214,7 +207,6 @@ begun {g = g} w table e = subst (λ y. IsBegun g w 1 y) (sym e) (record {
 })
 
 pub begun_next : {g : List Rule} {changed : Bool} (w stamp : ℕ) (old new : List ℕ) → IsGrammar g → IsBegun g w stamp old → IsRound (BeginReason g w old) stamp old new (length old) changed → changed ≡ true → IsBegun g w (stamp + 1) new × (zeros new < zeros old)
-begun_next w stamp old new wf b r e =
-    let less : zeros new < zeros (take (length old) old) = r.changes e in
-    let all : zeros (take (length old) old) ≡ zeros old = ap zeros (take_all (length old) old (omega arith)) in
-    (record { founded = founded_next w stamp old new wf b.size b.positive b.founded r; size = r.size ∙ b.size; room = omega (arith, b.room); positive = omega arith }, omega arith)
+begun_next {g = g} w stamp old new wf b r e =
+    let less : zeros new < zeros old = round_fewer (BeginReason g w old) old new r e in
+    (record { founded = founded_next w stamp old new wf b.size b.positive b.founded r; size = r.size ∙ b.size; room = omega (arith, b.room); positive = omega arith }, less)

@@ -1,11 +1,12 @@
 -- The engine's derivations and these are the same.
 use Rattle.std.proofs.Common.{◌≡◌, ℕ, ◌+◌, List, [], ◌∷◌, ◌++◌, length, Some, refl, ap, sym, ◌∙◌, subst, append-nil, arith}
+use Rattle.vkg_lists.proofs.Heads.{head_same}
 use Rattle.vkg_grammar.specs.declared.rule.Rule.{Rule}
 use Rattle.vkg_grammar.specs.declared.rule.Rule.TheVariants.{Token, Empty, Then, Either, Optional, Repeated}
 use Rattle.vkg_grammar.specs.declared.note.Note.{Note}
 use Rattle.vkg_grammar.specs.declared.note.Act.{Act}
 use Rattle.vkg_grammar.specs.declared.note.Act.TheVariants.{Leaf, Nothing, Pair, First, Second}
-use Rattle.vkg_grammar.specs.Grammar.{noted, One, Parts, Choice, shape, shape_of, at_parts, at_first, at_second}
+use Rattle.vkg_grammar.specs.Grammar.{noted, One, Parts, Choice, shape, at_parts, at_first, at_second}
 use Rattle.vkg_grammar.specs.Grammar as engine
 use Rattle.vkg_grammar.specs.Parsing.{IsTheText}
 use Rattle.vkg_grammar.specs.Trees.{Tree, size}
@@ -93,13 +94,22 @@ to_engine {g = g} (by {n = n} {step = act} {xs = xs} {s = s} {ts = ts} {q = q} e
 pub tree_derives : {g : List Rule} {kinds : List ℕ} {t : Tree} → IsTreeOf g kinds t → (ws : List Note) × engine.Derives g (0 ∷ []) kinds ws
 tree_derives t = let r = to_engine (derives t) in (r.notes, r.derives)
 
+-- what is built of a derivation is a tree of the text
+built : {g : List Rule} {kinds : List ℕ} {ws : List Note} → engine.Derives g (0 ∷ []) kinds ws → (t : Tree) × IsTreeOf g kinds t × ((decoded (length kinds) (acts_of ws)).trees ≡ t ∷ [])
+built {g = g} {kinds = kinds} {ws = ws} derived =
+    let r : (t : Tree) × IsTreeOf g kinds t × (acts_of ws ≡ steps_of t) = has_tree (from_engine derived) in
+    let d = decodes (length kinds) 0 r.0 [] r.1.from (let same : length kinds ≡ 0 + size r.0 = omega (arith, r.1.all) in same) in
+    (r.0, r.1, ap (λ q. (decoded (length kinds) q).trees) (r.2 ∙ sym (append-nil (steps_of r.0))) ∙ d.1)
+
+pub tree_found : (g : List Rule) (kinds : List ℕ) (ws : List Note) (t : Tree) → engine.Derives g (0 ∷ []) kinds ws → (decoded (length kinds) (acts_of ws)).trees ≡ t ∷ [] → IsTreeOf g kinds t
+tree_found g kinds ws t d e = let r = built d in subst (IsTreeOf g kinds) (head_same r.0 t [] [] (sym r.2 ∙ e)) r.1
+
 -- the engine's acts are those of the one tree, and what is built of them is that tree
 pub the_tree : {g : List Rule} {kinds : List ℕ} {ws : List Note} → IsTheText g kinds ws → (t : Tree) × IsTheTree g kinds t × ((decoded (length kinds) (acts_of ws)).trees ≡ t ∷ [])
 the_tree {g = g} {kinds = kinds} {ws = ws} w =
-    let r : (t : Tree) × IsTreeOf g kinds t × (acts_of ws ≡ steps_of t) = has_tree (from_engine w.derives) in
+    let r : (t : Tree) × IsTreeOf g kinds t × ((decoded (length kinds) (acts_of ws)).trees ≡ t ∷ []) = built w.derives in
     let only : (p q : List Act) → Derives g (0 ∷ []) kinds p → Derives g (0 ∷ []) kinds q → p ≡ q = λ p q a b.
     let x = to_engine a in
     let y = to_engine b in
     sym x.acts ∙ ap acts_of (w.only x.notes x.derives ∙ sym (w.only y.notes y.derives)) ∙ y.acts in
-    let d = decodes (length kinds) 0 r.0 [] r.1.from (let same : length kinds ≡ 0 + size r.0 = omega (arith, r.1.all) in same) in
-    (r.0, record { is = r.1; only = λ u v. one_tree only v r.1 }, ap (λ q. (decoded (length kinds) q).trees) (r.2 ∙ sym (append-nil (steps_of r.0))) ∙ d.1)
+    (r.0, record { is = r.1; only = λ u v. one_tree only v r.1 }, r.2)

@@ -1,15 +1,16 @@
 -- Which symbols derive some list of tokens.
-use Rattle.std.proofs.Common.{◌≡◌, ℕ, zero, suc, ◌<◌, Bool, true, false, ◌⊎◌, inl, inr, List, [], ◌∷◌, ◌++◌, length, get_or, take, refl, ap, sym, ◌∙◌, subst, arith, replicate}
+use Rattle.std.proofs.Common.{◌≡◌, ℕ, ◌<◌, Bool, false, ◌⊎◌, inl, inr, List, [], ◌∷◌, ◌++◌, length, get_or, refl, ap, sym, ◌∙◌, subst, arith, replicate}
 use Rattle.std.proofs.lemmas.List.{take_all, append-nil, length-replicate}
-use Rattle.vkg_lists.proofs.Members.{recursion_append}
+use Rattle.vkg_lists.proofs.Members.{recursion_append, recursion_left, recursion_right}
 use Rattle.vkg_lists.specs.Lists.{AllBelow}
+use Rattle.vkg_lists.proofs.Heads.{replicate_same}
 use Rattle.vkg_grammar.specs.declared.note.Note.{Note}
 use Rattle.vkg_grammar.specs.declared.note.Act.TheVariants.{Leaf}
 use Rattle.vkg_grammar.specs.declared.rule.Rule.{Rule}
 use Rattle.vkg_grammar.specs.Grammar.{noted, at_parts, at_first, at_second, Shape, One, Parts, Choice, shape_of, Derives, done, read, parts, first, second, IsGrammar, the_parts, the_first, the_second}
-use Rattle.vkg_grammar.specs.Tables.{zeros, IsRound, AllFound, ShapeFound, TextReason, HasText}
+use Rattle.vkg_grammar.specs.Tables.{IsRound, AllFound, ShapeFound, TextReason, HasText}
 use Rattle.vkg_grammar.proofs.Core.{join, moved}
-use Rattle.vkg_grammar.proofs.Rounds.{cell_why, cell_done, zero_read}
+use Rattle.vkg_grammar.proofs.Rounds.{cell_why, cell_done}
 
 module _ (g : List Rule) (wf : IsGrammar g) where
   all_text : (t xs : List ℕ) → ((n : ℕ) → n < length g → 0 < get_or t n 0 → HasText g n) → AllBelow (length g) xs → AllFound t xs → (ts : List ℕ) × (ws : List Note) × Derives g xs ts ws
@@ -25,16 +26,12 @@ module _ (g : List Rule) (wf : IsGrammar g) where
   shape_text t n (Choice xs ys) h e so (inl f) = let d : (ts : List ℕ) × (ws : List Note) × Derives g xs ts ws = all_text t xs so (wf.closed n xs h (the_first e)) f in (d.0, noted n (at_first xs) ∷ d.1, first e (moved (sym (append-nil xs)) d.2))
   shape_text t n (Choice xs ys) h e so (inr f) = let d : (ts : List ℕ) × (ws : List Note) × Derives g ys ts ws = all_text t ys so (wf.closed n ys h (the_second e)) f in (d.0, noted n (at_second ys) ∷ d.1, second e (moved (sym (append-nil ys)) d.2))
 
-  found_split : (t xs s : List ℕ) → AllFound t (xs ++ s) → AllFound t xs × AllFound t s
-  found_split t [] s f = (tt, f)
-  found_split t (x ∷ xs) s f = let r : AllFound t xs × AllFound t s = found_split t xs s f.1 in ((f.0, r.0), r.1)
-
   found_all : {s ts : List ℕ} {ws : List Note} (t : List ℕ) → ((n : ℕ) → n < length g → TextReason g t n → 0 < get_or t n 0) → AllBelow (length g) s → Derives g s ts ws → AllFound t s
   found_all t closed b done = tt
   found_all t closed b (read {n = n} {k = k} q d) = (closed n b.0 (subst (ShapeFound t) (sym q) tt), found_all t closed b.1 d)
-  found_all t closed b (parts {n = n} {xs = xs} {s = s} q d) = let r : AllFound t xs × AllFound t s = found_split t xs s (found_all t closed (recursion_append (λ k. k < length g) xs s (wf.closed n xs b.0 (the_parts q)) b.1) d) in (closed n b.0 (subst (ShapeFound t) (sym q) r.0), r.1)
-  found_all t closed b (first {n = n} {xs = xs} {s = s} q d) = let r : AllFound t xs × AllFound t s = found_split t xs s (found_all t closed (recursion_append (λ k. k < length g) xs s (wf.closed n xs b.0 (the_first q)) b.1) d) in (closed n b.0 (subst (ShapeFound t) (sym q) (inl r.0)), r.1)
-  found_all t closed b (second {n = n} {ys = xs} {s = s} q d) = let r : AllFound t xs × AllFound t s = found_split t xs s (found_all t closed (recursion_append (λ k. k < length g) xs s (wf.closed n xs b.0 (the_second q)) b.1) d) in (closed n b.0 (subst (ShapeFound t) (sym q) (inr r.0)), r.1)
+  found_all t closed b (parts {n = n} {xs = xs} {s = s} q d) = let r : AllFound t (xs ++ s) = found_all t closed (recursion_append (λ k. k < length g) xs s (wf.closed n xs b.0 (the_parts q)) b.1) d in (closed n b.0 (subst (ShapeFound t) (sym q) (recursion_left (λ x. 0 < get_or t x 0) xs s r)), recursion_right (λ x. 0 < get_or t x 0) xs s r)
+  found_all t closed b (first {n = n} {xs = xs} {s = s} q d) = let r : AllFound t (xs ++ s) = found_all t closed (recursion_append (λ k. k < length g) xs s (wf.closed n xs b.0 (the_first q)) b.1) d in (closed n b.0 (subst (ShapeFound t) (sym q) (inl (recursion_left (λ x. 0 < get_or t x 0) xs s r))), recursion_right (λ x. 0 < get_or t x 0) xs s r)
+  found_all t closed b (second {n = n} {ys = xs} {s = s} q d) = let r : AllFound t (xs ++ s) = found_all t closed (recursion_append (λ k. k < length g) xs s (wf.closed n xs b.0 (the_second q)) b.1) d in (closed n b.0 (subst (ShapeFound t) (sym q) (inr (recursion_left (λ x. 0 < get_or t x 0) xs s r))), recursion_right (λ x. 0 < get_or t x 0) xs s r)
 
 -- What holds before each round.
 pub record AreTexts (g : List Rule) (t : List ℕ) : Type 0 where
@@ -42,7 +39,7 @@ pub record AreTexts (g : List Rule) (t : List ℕ) : Type 0 where
   pub sound : (n : ℕ) → n < length g → 0 < get_or t n 0 → HasText g n
 
 pub texts_begun : {g : List Rule} (t : List ℕ) → t ≡ replicate (length g) 0 → AreTexts g t
-texts_begun {g = g} t e = subst (AreTexts g) (sym e) (record { size = length-replicate (length g) 0; sound = λ n h p. absurd (let z : get_or (replicate (length g) 0) n 0 ≡ 0 = zero_read (length g) n in omega arith) })
+texts_begun {g = g} t e = subst (AreTexts g) (sym e) (record { size = length-replicate (length g) 0; sound = λ n h p. absurd (let z : get_or (replicate (length g) 0) n 0 ≡ 0 = replicate_same {A = ℕ} (length g) n 0 in omega arith) })
 
 pub texts_next : {g : List Rule} {changed : Bool} (old new : List ℕ) → IsGrammar g → AreTexts g old → IsRound (TextReason g old) 1 old new (length old) changed → AreTexts g new
 texts_next {g = g} old new wf a r = record { size = r.size ∙ a.size; sound = λ n h p. sound n h (cell_why (r.cells n (omega (arith, a.size))) p) }
@@ -50,9 +47,6 @@ texts_next {g = g} old new wf a r = record { size = r.size ∙ a.size; sound = �
     sound : (n : ℕ) → n < length g → (0 < get_or old n 0) ⊎ ((get_or new n 0 ≡ 1) × TextReason g old n) → HasText g n
     sound n h (inl p) = a.sound n h p
     sound n h (inr q) = shape_text g wf old n (shape_of g n) h refl a.sound q.1
-
-pub texts_fewer : (g : List Rule) {changed : Bool} (old new : List ℕ) → IsRound (TextReason g old) 1 old new (length old) changed → changed ≡ true → zeros new < zeros old
-texts_fewer g old new r e = let less : zeros new < zeros (take (length old) old) = r.changes e in let all : zeros (take (length old) old) ≡ zeros old = ap zeros (take_all (length old) old (omega arith)) in omega arith
 
 pub texts_done : {g : List Rule} {changed : Bool} (old new : List ℕ) → IsGrammar g → AreTexts g old → IsRound (TextReason g old) 1 old new (length old) changed → changed ≡ false → (n : ℕ) → n < length g → HasText g n → 0 < get_or old n 0
 texts_done {g = g} old new wf a r e n h d = (found_all g wf old closed (h, tt) d.2).0
@@ -62,8 +56,3 @@ texts_done {g = g} old new wf a r e n h d = (found_all g wf old closed (h, tt) d
 
     closed : (n : ℕ) → n < length g → TextReason g old n → 0 < get_or old n 0
     closed n h q = cell_done (r.cells n (omega (arith, a.size))) (ap (λ y. get_or y n 0) same) (omega arith) q
-
-pub below_each : (m : ℕ) (xs : List ℕ) → AllBelow m xs → (i : ℕ) → i < length xs → get_or xs i 0 < m
-below_each m [] b i h = absurd (omega arith)
-below_each m (x ∷ xs) b zero h = b.0
-below_each m (x ∷ xs) b (suc i) h = below_each m xs b.1 i (omega arith)

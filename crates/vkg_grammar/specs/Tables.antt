@@ -1,6 +1,7 @@
 -- How the table is made: rounds over all cells, until nothing changes.
 use Rattle.std.specs.Prelude.{◌↔◌, ◌≡◌, ℕ, ◌+◌, ◌/◌, ◌%◌, ◌<◌, ◌≤◌, Bool, true, false, ◌⊎◌, List, [], ◌∷◌, length, get_or, take, Option, Some, None}
 use Rattle.std.proofs.Common.{zero, suc}
+use Rattle.std.specs.List.{AllByRecursion}
 use Rattle.vkg_grammar.specs.declared.note.Note.{Note}
 use Rattle.vkg_grammar.specs.declared.rule.Rule.{Rule}
 use Rattle.vkg_grammar.specs.Grammar.{Shape, One, Parts, Choice, shape_of, Derives, MayFollow}
@@ -41,8 +42,7 @@ BeginReason g width table i = ShapeBegins (rank_in table width) (seen_at (i % wi
 
 -- All of these symbols are found.
 abbrev pub AllFound : List ℕ → List ℕ → Type 0
-AllFound table [] = Unit {0}
-AllFound table (x ∷ xs) = (0 < get_or table x 0) × AllFound table xs
+AllFound table xs = AllByRecursion (λ x. 0 < get_or table x 0) xs
 
 -- A symbol of this shape derives some list if the symbols that are found do.
 abbrev pub ShapeFound : List ℕ → Shape → Type 0

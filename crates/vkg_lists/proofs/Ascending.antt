@@ -75,6 +75,10 @@ module _ {A : Type 0} {cmp : A → A → Ordering} (o : IsLinearOrder cmp) where
 pub ascending_is : (xs ys : List (List ℕ)) → IsPermutation xs ys → IsSorted bytes_cmp ys → ys ≡ ascending xs
 ascending_is = ascending_by_is bytes_linear
 
+-- in whatever order the texts stood
+pub same_ascending : (xs ys : List (List ℕ)) → IsPermutation xs ys → ascending xs ≡ ascending ys
+same_ascending xs ys p = ascending_is ys (ascending xs) (bag_trans (bag_sym p) (ascending_by-bag bytes_linear xs)) (ascending_by-sorted bytes_linear xs)
+
 pub ascending_once-members : (xs : List (List ℕ)) → HasSameMembers xs (ascending_once xs)
 ascending_once-members xs = members_trans (HasSameMembers-distinct bytes_test xs) (members_bag (ascending_by-bag bytes_linear (distinct bytes_eq xs)))
 

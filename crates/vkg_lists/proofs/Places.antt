@@ -3,9 +3,9 @@ use Rattle.std.proofs.Common.{◌≡◌, ℕ, ◌≤◌, inl, inr, ⊎_elim, Lis
 use Rattle.std.proofs.lemmas.Bool.{cases_lt}
 use Rattle.std.proofs.lemmas.Option.{none-some, same_Some}
 use Rattle.std.specs.Prelude.{fold}
-use Rattle.std.specs.List.{Contains}
+use Rattle.std.specs.List.{AllByRecursion, Contains}
 use Rattle.vkg_lists.specs.Places.{lesser, least_of, IsLeastPlace}
-use Rattle.vkg_lists.proofs.Members.{Contains-none, Contains-here, Contains-there, Contains-cons_cases}
+use Rattle.vkg_lists.proofs.Members.{Contains-none, Contains-here, Contains-there, Contains-cons_cases, recursion_from_each}
 
 pub lesser-none : (a : Option ℕ) → lesser a None ≡ a
 lesser-none None = refl
@@ -36,6 +36,13 @@ module _ {A : Type 0} (place : A → Option ℕ) where
   least_of-none (y ∷ xs) e x c =
       let both = lesser-both_none (place y) (least_of place xs) (sym (least_of-cons y xs) ∙ e) in
       ⊎_elim (λ i. subst (λ z. place z ≡ None) i both.0) (λ d. least_of-none xs both.1 x d) (Contains-cons_cases y xs x c)
+
+  pub least_of-each : (xs : List A) → least_of place xs ≡ None → AllByRecursion (λ x. place x ≡ None) xs
+  least_of-each xs e = recursion_from_each (λ x. place x ≡ None) xs (least_of-none xs e)
+
+  -- a place that was found before is not lost
+  pub least_of-kept : (a : ℕ) (xs : List A) → fold (λ b x. lesser b (place x)) (Some a) xs ≡ None → ⊥
+  least_of-kept a xs e = none-some a (sym (lesser-both_none (Some a) (least_of place xs) (sym (least_of-from (Some a) xs) ∙ e)).0)
 
   least_by : (y : A) (xs : List A) (p rest : Option ℕ) → place y ≡ p → least_of place xs ≡ rest → ((b : ℕ) → rest ≡ Some b → IsLeastPlace place xs b) → (at : ℕ) → lesser p rest ≡ Some at → IsLeastPlace place (y ∷ xs) at
   least_by y xs None rest is none later at e = let l = later at e in record {

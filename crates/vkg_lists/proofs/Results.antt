@@ -1,7 +1,7 @@
 -- `Ok` and `Err` are told apart, and so are `Some` and `None`; results whose value is a list.
-use Rattle.std.proofs.Common.{◌≡◌, true, List, [], ◌∷◌, ◌++◌, Option, Some, None, Result, Ok, Err, refl, sym, ap, append_assoc}
-use Rattle.std.specs.Prelude.{is_some}
-use Rattle.vkg_lists.specs.Results.{followed_by, in_front}
+use Rattle.std.proofs.Common.{◌≡◌, Bool, true, false, cond, List, [], ◌∷◌, ◌++◌, Option, Some, None, Result, Ok, Err, refl, sym, ap, append_assoc}
+use Rattle.std.specs.Prelude.{is_some, option_and_then}
+use Rattle.vkg_lists.specs.Results.{followed_by, in_front, unless}
 
 pub ok_same : {A E : Type 0} (a b : A) → ◌≡◌ {A = Result A E} (Ok a) (Ok b) → a ≡ b
 ok_same a b e = cc e
@@ -16,6 +16,14 @@ pub some_of : {A : Type 0} (o : Option A) → is_some o ≡ true → (x : A) × 
 some_of None e = cc
 some_of (Some x) e = (x, refl)
 
+pub some_then : {A B : Type 0} (f : A → Option B) (o : Option A) → is_some (option_and_then f o) ≡ true → (a : A) × (o ≡ Some a) × (is_some (f a) ≡ true)
+some_then f None e = cc
+some_then f (Some a) e = (a, refl, e)
+
+pub some_if : {A : Type 0} (b : Bool) (o : Option A) → is_some (cond b o None) ≡ true → (b ≡ true) × (is_some o ≡ true)
+some_if true o e = (refl, e)
+some_if false o e = cc
+
 pub followed_none : {A F : Type 0} (r : Result (List A) F) → followed_by [] r ≡ r
 followed_none (Ok xs) = refl
 followed_none (Err fault) = refl
@@ -23,3 +31,11 @@ followed_none (Err fault) = refl
 pub followed_first : {A F : Type 0} (xs : List A) (x : A) (r : Result (List A) F) → followed_by xs (in_front x r) ≡ followed_by (xs ++ x ∷ []) r
 followed_first xs x (Ok ys) = ap Ok (sym (append_assoc xs (x ∷ []) ys))
 followed_first xs x (Err fault) = refl
+
+pub front_given : {A F : Type 0} (x : A) (r : Result (List A) F) (xs : List A) → in_front x r ≡ Ok xs → (ys : List A) × (r ≡ Ok ys) × (x ∷ ys ≡ xs)
+front_given x (Ok ys) xs e = (ys, refl, ok_same (x ∷ ys) xs e)
+front_given x (Err fault) xs e = cc
+
+pub unless_given : {A F : Type 0} (fault : Option F) (r : Result A F) (x : A) → unless fault r ≡ Ok x → (fault ≡ None) × (r ≡ Ok x)
+unless_given None r x e = (refl, e)
+unless_given (Some fault) r x e = cc

@@ -3,6 +3,8 @@ use Rattle.std.proofs.Common.{◌≡◌, refl, sym, ◌∙◌, ap, subst, ℕ, �
 use Rattle.std.specs.Prelude.{Contains}
 use Rattle.std.specs.List.{enumerate_from}
 use Rattle.std.proofs.lemmas.Option.{same_Some}
+use Rattle.vkg_lists.proofs.Nothing.{first_nothing}
+use Rattle.vkg_lists.proofs.Numbered.{numbered_from, numbered_once}
 use Rattle.vkg_lists.proofs.Results.{err_same}
 use Rattle.vkg_lists.specs.Firsts.{first_of}
 use Rattle.vkg_lists.proofs.Members.{Contains-none, Contains-here, Contains-there, Contains-cons_cases, Contains-flat_map}
@@ -17,26 +19,6 @@ use Rattle.vkg_maps.specs.DataFaults.{fault_of, term_maps, fault_at, faults_at, 
 use Rattle.vkg_maps.specs.LeastFault.{IsDataFault, IsLeastFault, Precedes, FindsLeast}
 
 -- ---- numbered elements
-
-pub at_least : {X : Type 0} (n : ℕ) (xs : List X) (p : ℕ × X) → Contains (enumerate_from n xs) p → n ≤ p.0
-at_least n [] p h = absurd (Contains-none p h)
-at_least n (x ∷ xs) p h = elim (Contains-cons_cases (n, x) (enumerate_from (n + 1) xs) p h) [
-  | inl e ↦ let i : n ≡ p.0 = ap (λ q. q.0) e in omega (arith, i)
-  | inr c ↦ let l : n + 1 ≤ p.0 = at_least (n + 1) xs p c in omega (arith, l)
-]
-
-one_item : {X : Type 0} (n : ℕ) (xs : List X) (p q : ℕ × X) → Contains (enumerate_from n xs) p → Contains (enumerate_from n xs) q → p.0 ≡ q.0 → p.1 ≡ q.1
-one_item n [] p q h g e = absurd (Contains-none p h)
-one_item n (x ∷ xs) p q h g e = elim (Contains-cons_cases (n, x) (enumerate_from (n + 1) xs) p h) [
-  | inl a ↦ elim (Contains-cons_cases (n, x) (enumerate_from (n + 1) xs) q g) [
-    | inl b ↦ sym (ap (λ r. r.1) a) ∙ ap (λ r. r.1) b
-    | inr d ↦ let l : n + 1 ≤ q.0 = at_least (n + 1) xs q d in let i : n ≡ p.0 = ap (λ r. r.0) a in absurd (let no : ⊥ = omega (arith, l, i, e) in no)
-  ]
-  | inr c ↦ elim (Contains-cons_cases (n, x) (enumerate_from (n + 1) xs) q g) [
-    | inl b ↦ let l : n + 1 ≤ p.0 = at_least (n + 1) xs p c in let i : n ≡ q.0 = ap (λ r. r.0) b in absurd (let no : ⊥ = omega (arith, l, i, e) in no)
-    | inr d ↦ one_item (n + 1) xs p q c d e
-  ]
-]
 
 -- where the first of what all elements have is found
 record Found {X A : Type 0} (F : (ℕ × X) → List A) (n : ℕ) (xs : List X) (a : A) : Type 0 where
@@ -65,7 +47,7 @@ found {X} {A} F n (x ∷ xs) a e = split (λ g. found F (n + 1) xs a g) (F (n, x
       item = x;
       is = Contains-here (n, x) (enumerate_from (n + 1) xs);
       first = ap first_of i ∙ e;
-      earlier = λ p c l. let m : n ≤ p.0 = at_least n (x ∷ xs) p c in absurd (let no : ⊥ = omega (arith, l, m) in no);
+      earlier = λ p c l. let m : n ≤ p.0 = numbered_from n (x ∷ xs) p c in absurd (let no : ⊥ = omega (arith, l, m) in no);
     }
 
 -- what an element before the first one has is nothing, so it has no member
@@ -123,13 +105,13 @@ module _ (mapping : Mapping) (db : Database) where
       elim (no_earlier by_map 1 mapping.maps f a (g.map, is.triples_map) g is.is_map (in_map g is)) [
         | inl l ↦ inr (inl l)
         | inr i ↦
-            let m : is.triples_map ≡ a.item = one_item 1 mapping.maps (g.map, is.triples_map) (a.place, a.item) is.is_map a.is (sym i) in
+            let m : is.triples_map ≡ a.item = numbered_once 1 mapping.maps (g.map, is.triples_map) (a.place, a.item) is.is_map a.is (sym i) in
             let row_is : Contains (enumerate_from 1 (rows_of db a.item.table)) (g.row, is.cells) = subst (λ m. Contains (enumerate_from 1 (rows_of db m.table)) (g.row, is.cells)) m is.is_row in
             let in_this : Contains (by_row a.place a.item (g.row, is.cells)) g = subst (λ m. Contains (by_row a.place m (g.row, is.cells)) g) m (subst (λ k. Contains (by_row k is.triples_map (g.row, is.cells)) g) (sym i) (in_row g is)) in
             elim (no_earlier (by_row a.place a.item) 1 (rows_of db a.item.table) f b (g.row, is.cells) g row_is in_this) [
               | inl l ↦ inr (inr (i, inl l))
               | inr j ↦
-                  let r : is.cells ≡ b.item = one_item 1 (rows_of db a.item.table) (g.row, is.cells) (b.place, b.item) row_is b.is (sym j) in
+                  let r : is.cells ≡ b.item = numbered_once 1 (rows_of db a.item.table) (g.row, is.cells) (b.place, b.item) row_is b.is (sym j) in
                   let term_is : Contains (enumerate_from 0 (term_maps a.item)) (g.term, Some is.term_map) = subst (λ m. Contains (enumerate_from 0 (term_maps m)) (g.term, Some is.term_map)) m is.is_term in
                   let in_that : Contains (by_term a.place (b.place, b.item) (g.term, Some is.term_map)) g =
                   subst (λ row. Contains (by_term a.place (b.place, row) (g.term, Some is.term_map)) g) r
@@ -138,7 +120,7 @@ module _ (mapping : Mapping) (db : Database) where
                   elim (no_earlier (by_term a.place (b.place, b.item)) 0 (term_maps a.item) f c (g.term, Some is.term_map) g term_is in_that) [
                     | inl l ↦ inr (inr (i, inr (j, l)))
                     | inr n ↦
-                        let t : Some is.term_map ≡ c.item = one_item 0 (term_maps a.item) (g.term, Some is.term_map) (c.place, c.item) term_is c.is (sym n) in
+                        let t : Some is.term_map ≡ c.item = numbered_once 0 (term_maps a.item) (g.term, Some is.term_map) (c.place, c.item) term_is c.is (sym n) in
                         let u : is.term_map ≡ o.0 = same_Some is.term_map o.0 (t ∙ o.2) in
                         let fault : o.1 ≡ g.fault = err_same o.1 g.fault (sym o.3 ∙ ap (λ row. term_of mapping.base o.0 row) (sym r) ∙ ap (λ m. term_of mapping.base m is.cells) (sym u) ∙ is.fails) in
                         inl (λ x. record { fault = fault x; map = i x; row = j x; term = n x })
@@ -156,14 +138,10 @@ module _ (mapping : Mapping) (db : Database) where
       } in
       subst (IsLeastFault mapping db) (sym o.4) (record { is = is; first = first })
 
-  none_at_all : {A : Type 0} (xs : List A) → first_of xs ≡ None → (x : A) → Contains xs x → ⊥
-  none_at_all [] e x h = Contains-none x h
-  none_at_all (y ∷ ys) e x h = cc
-
   -- what the scan finds
   pub finds_least : FindsLeast mapping db (least_data_fault mapping db)
   finds_least = split (least_data_fault mapping db) refl
     where
       split : (o : Option DataFault) → least_data_fault mapping db ≡ o → FindsLeast mapping db o
-      split None e = λ f is. none_at_all (data_faults mapping db) e f (in_all f is)
+      split None e = λ f is. Contains-none f (subst (λ fs. Contains fs f) (first_nothing (data_faults mapping db) e) (in_all f is))
       split (Some f) e = least f e

@@ -1,4 +1,4 @@
+pub mod Kinds
 pub mod Quads
 pub mod LeastFault
 pub mod Company
-pub mod Members

@@ -1,6 +1,6 @@
 -- The verdict is exact.
 use Rattle.std.proofs.Common.{◌≡◌, ◌⊎◌, inl, inr, ℕ, zero, suc, lit<, nat_lt, refl, sym, ap, subst, ◌∙◌, List, [], ◌∷◌, Bool, true, false, cond, ◌&&◌, ◌||◌, ◌==◌, arith, map, Result, Ok, Err, IsUtf8, append-nil, true≢false}
-use Rattle.std.specs.Prelude.{IfOk, Option, Some, None, option_map, bytes_eq}
+use Rattle.std.specs.Prelude.{IfOk, Option, Some, None, option_map, bytes_eq, IfSome}
 use Rattle.std.specs.List.{AllByRecursion, list_all}
 use Rattle.std.proofs.lemmas.Str.{IsUtf8-nil, IsUtf8-append}
 use lib.Utf8.{encode, encodes, scalar, scalars}
@@ -8,6 +8,7 @@ use Rattle.std.proofs.lemmas.Slice.Eq.{bytes_eq-Decides}
 use Rattle.std.proofs.lemmas.List.Folds.{list_all-append}
 use Rattle.std.proofs.lemmas.Option.{none-some, same_Some}
 use Rattle.std.proofs.Math.Bool.{and-false, and-true}
+use Rattle.std.proofs.lemmas.Result.{IfOk-weaker}
 use Rattle.vkg_lists.specs.Options.{joined}
 use Rattle.hex.specs.Hex.{decode_of, encode_lower, IsBytes}
 use Rattle.hex.specs.declared.error.FromHexError.{FromHexError}
@@ -15,14 +16,13 @@ use Rattle.hex.proofs.HexLemmas.{decode_of-encode_lower}
 use Rattle.vkg_lists.proofs.Bools.{and_true, and_parts, is_false, same_truth, neither}
 use Rattle.vkg_lists.proofs.Counts.{eq_comm}
 use Rattle.vkg_lists.proofs.Texts.{bytes_test}
+use Rattle.vkg_lists.proofs.Onto.{joined_each, map_lacking}
 use Rattle.vkg_terms.specs.declared.term.Term.{Term}
 use Rattle.vkg_terms.specs.declared.term.Term.TheVariants.{Iri, Blank, Lit}
-use Rattle.vkg_terms.specs.declared.term.Annotation.{Annotation}
-use Rattle.vkg_terms.specs.declared.term.Annotation.TheVariants.{Plain, Lang, Typed}
 use Rattle.vkg_terms.specs.Label.{blank_label}
 use Rattle.vkg_terms.specs.Same.{annotation_eq, term_eq, term_name}
 use Rattle.vkg_terms.proofs.LabelLemmas.{label_same, label_kit}
-use Rattle.vkg_terms.proofs.SameLemmas.{term_itself, terms_apart}
+use Rattle.vkg_terms.proofs.SameLemmas.{term_itself, terms_apart, annotation_itself, same_annotation}
 use Rattle.vkg_terms.proofs.SafeLemmas.{octets}
 use Rattle.vkg_cells.specs.declared.cell.SqlType.{SqlType}
 use Rattle.vkg_cells.specs.Form.{lexical_form}
@@ -44,9 +44,9 @@ use Rattle.vkg_match.specs.Cut.{cut_pieces, is_break, last_pieces}
 use Rattle.vkg_match.specs.Laws.{FitsHole, FitsHoles, FitsPiece, HoldsTexts, IsExact, IsTextPiece, is_met}
 use Rattle.vkg_match.specs.Sources.{labelled_of, octets_labelled}
 use Rattle.vkg_match.specs.Verdict.{Verdict, Never, All, both, by_constants, by_sorts, constant_agrees, constant_of, cut_of, cuts_agree, holes_or_texts, if_cut, is_resolved, lone_hole, of_one_sort, pieces_of, same_sort, segment, segment_at, segments, sort_of, sort_of_term, texts_agree, verdict_of, when, where_same, whole_text}
-use Rattle.vkg_match.proofs.Cuts.{chars_text, cut_fine, cut_text, last_clear, last_fine, part}
+use Rattle.vkg_match.proofs.Cuts.{chars_text, cut_fine, cut_text, last_clear, last_fine, part, IsFineSegment}
 use Rattle.vkg_match.proofs.Holes.{Held, clear_hole, held, hole_met, holes_met, text_kept, text_there}
-use Rattle.vkg_match.proofs.Splits.{Clear, ClearPart, agree, split_exact}
+use Rattle.vkg_match.proofs.Splits.{ClearPart, agree, split_exact}
 use Rattle.vkg_match.proofs.Values.{Text, joined_nil, piece_text, pieces_text, pieces_value, same_terms, term_at, term_made, term_value, terms_hold, text_at, texts_hold, whole_value}
 
 when_met : (row : Row) (b : Bool) → is_met (when b) row ≡ b
@@ -71,9 +71,6 @@ texts_met sort row ps qs =
 
 -- ---- one segment
 module _ (sort : Sort) (row : Row) where
-  text : List Piece → Text
-  text ps = pieces_text sort row ps
-
   constant_is : (ps : List Piece) (s : List ℕ) → constant_of ps ≡ Some s → pieces_text sort row ps ≡ Some s
   constant_is [] s e = e
   constant_is (Chars t ∷ []) s e = joined_nil (piece_text sort row (Chars t)) ∙ chars_text sort row t ∙ e
@@ -129,7 +126,7 @@ module _ (sort : Sort) (row : Row) where
 
   -- ---- segments with their breaks
   abbrev FineSegment : Segment → Type 0
-  FineSegment m = (Clear (is_break sort) (pieces_text sort row m.pieces) × (is_break sort m.mark ≡ true)) × AllByRecursion (FitsPiece row) m.pieces
+  FineSegment m = IsFineSegment sort row (FitsPiece row) (λ s. tt) (clear_hole sort row) m
 
   segment_met : (m n : Segment) → FineSegment m → FineSegment n → is_met (segment_at sort m n) row ≡ ((m.mark == n.mark) && same_form (pieces_text sort row m.pieces) (pieces_text sort row n.pieces))
   unfolding segment_at
@@ -215,15 +212,10 @@ terms_made OfBlank (OfLit y) (Some s) (Some t) e = cc
 terms_made (OfLit x) OfIri (Some s) (Some t) e = cc
 terms_made (OfLit x) OfBlank (Some s) (Some t) e = cc
 
-literal_text : (x y : Annotation) (row : Row) (ps : List Piece) → pieces_text (OfLit y) row ps ≡ pieces_text (OfLit x) row ps
-literal_text x y row [] = refl
-literal_text x y row (Chars s ∷ ps) = ap (joined (Some s)) (literal_text x y row ps)
-literal_text x y row (Hole at k ∷ ps) = ap (joined (piece_text (OfLit x) row (Hole at k))) (literal_text x y row ps)
-
 sort_text : (a b : Sort) (row : Row) (ps : List Piece) → same_sort a b ≡ true → pieces_text b row ps ≡ pieces_text a row ps
 sort_text OfIri OfIri row ps e = refl
 sort_text OfBlank OfBlank row ps e = refl
-sort_text (OfLit x) (OfLit y) row ps e = literal_text x y row ps
+sort_text (OfLit x) (OfLit y) row ps e = ap (λ a. pieces_text (OfLit a) row ps) (sym (same_annotation x y e))
 sort_text OfIri OfBlank row ps e = cc
 sort_text OfIri (OfLit y) row ps e = cc
 sort_text OfBlank OfIri row ps e = cc
@@ -264,13 +256,10 @@ pieces_exact row e f ps qs s h g =
 
 -- ---- a blank node whose label belongs to no text
 abbrev Spelled : Text → Type 0
-Spelled None = Unit {0}
-Spelled (Some s) = IsUtf8 s
+Spelled o = IfSome o IsUtf8
 
 spelled_joined : (a b : Text) → Spelled a → Spelled b → Spelled (joined a b)
-spelled_joined None b h k = tt
-spelled_joined (Some s) None h k = tt
-spelled_joined (Some s) (Some t) h k = IsUtf8-append s t h k
+spelled_joined a b h k = joined_each IsUtf8 IsUtf8-append a b h k
 
 blank_spelled : (row : Row) (ps : List Piece) → AllByRecursion IsTextPiece ps → AllByRecursion (FitsPiece row) ps → Spelled (pieces_text OfBlank row ps)
 blank_spelled row [] t h = IsUtf8-nil
@@ -304,11 +293,7 @@ record NoPieces (e : TermExpr) : Type 0 where
 no_pieces : (e : TermExpr) → pieces_of e ≡ None → is_resolved e ≡ false → NoPieces e
 no_pieces (Fixed (Iri s)) e r = cc
 no_pieces (Fixed (Lit s a)) e r = cc
-no_pieces (Fixed (Blank l)) e r = record { label = l; is = refl; none = by (labelled_of l) e }
-  where
-    by : (o : Text) → option_map (λ t. Chars t ∷ []) o ≡ None → o ≡ None
-    by None e = refl
-    by (Some t) e = cc
+no_pieces (Fixed (Blank l)) e r = record { label = l; is = refl; none = map_lacking (λ t. Chars t ∷ []) (labelled_of l) e }
 no_pieces (Made sort ps) e r = cc
 no_pieces (Resolved base at k) e r = cc
 
@@ -322,21 +307,7 @@ blank_apart row l (Resolved base at k) n x r s u h = cc
 sort_turned : (a b : Sort) → same_sort a b ≡ true → same_sort b a ≡ true
 sort_turned OfIri OfIri e = refl
 sort_turned OfBlank OfBlank e = refl
-sort_turned (OfLit x) (OfLit y) e = notes x y e
-  where
-    bytes : (a b : List ℕ) → bytes_eq a b ≡ true → bytes_eq b a ≡ true
-    bytes a b e = (bytes_eq-Decides b a).1 (sym ((bytes_eq-Decides a b).0 e))
-
-    notes : (x y : Annotation) → annotation_eq x y ≡ true → annotation_eq y x ≡ true
-    notes Plain Plain e = refl
-    notes Plain (Lang b) e = cc
-    notes Plain (Typed b) e = cc
-    notes (Lang a) Plain e = cc
-    notes (Lang a) (Lang b) e = bytes a b e
-    notes (Lang a) (Typed b) e = cc
-    notes (Typed a) Plain e = cc
-    notes (Typed a) (Lang b) e = cc
-    notes (Typed a) (Typed b) e = bytes a b e
+sort_turned (OfLit x) (OfLit y) e = subst (λ z. annotation_eq z x ≡ true) (same_annotation x y e) (annotation_itself x)
 sort_turned OfIri OfBlank e = cc
 sort_turned OfIri (OfLit y) e = cc
 sort_turned OfBlank OfIri e = cc
@@ -465,5 +436,4 @@ pub exactly : (e f : TermExpr) (v : Verdict) → v ≡ verdict_of e f → IsExac
 exactly e f v is = subst (IsExact e f) (sym is) (exact e f)
 
 pub exacts : {E : Type 0} (e f : TermExpr) (r : Result VerdictValue E) → IfOk r (λ v. verdict_seen v ≡ verdict_of e f) → IfOk r (λ v. IsExact e f (verdict_seen v))
-exacts e f (Ok v) h = exactly e f (verdict_seen v) h
-exacts e f (Err x) h = tt
+exacts e f r h = IfOk-weaker r (λ v. verdict_seen v ≡ verdict_of e f) (λ v. IsExact e f (verdict_seen v)) (λ v i. exactly e f (verdict_seen v) i) h

@@ -1,5 +1,5 @@
 -- A cell that a field is read as: its form is a text, is read as that cell again, and the cell is of the kind's family.
-use Rattle.std.proofs.Common.{◌≡◌, ℕ, refl, sym, ap, subst, List, Bool, true, ◌||◌, Some, Ok, IsUtf8}
+use Rattle.std.proofs.Common.{◌≡◌, ℕ, refl, subst, List, Bool, true, ◌||◌, Some, Ok, IsUtf8}
 use Rattle.std.proofs.lemmas.Str.{IsUtf8-from_ascii}
 use Rattle.vkg_lists.proofs.Results.{ok_same}
 use Rattle.hex.specs.Hex.{decode_of, encode_upper}
@@ -90,14 +90,3 @@ proper kind.Date c text u e =
 proper kind.Stamp c text u e = let h = stamp_ok (stamp_form text) c e in along kind.Stamp (cell.Stamp h.0) c text (proper_stamp h.0 text h.1) h.2 e
 proper kind.Bin c text u e = let h = octets_ok (decode_of text) c e in along kind.Bin (cell.Bin (encode_upper h.0)) c text (proper_bin h.0) h.1 e
 proper kind.Term c text u e = cc
-
--- a cell that is read as a field of a kind is of its family
-pub family_is : (k : SqlType) (c : Cell) (text : List ℕ) → cell_of_field k text ≡ Ok c → family_of c ≡ family k
-family_is kind.Text c text e = ap family_of (sym (ok_same (cell.Text text) c e))
-family_is kind.Int c text e = ap family_of (sym (number_ok (is_integer text) text (cell.Int (canonical text)) c e).2)
-family_is kind.Dec c text e = ap family_of (sym (number_ok (is_decimal text) text (cell.Dec (canonical text)) c e).2)
-family_is kind.Bool c text e = ap family_of (sym (field_ok (is_true_word text || is_false_word text) (cell.Bool (is_true_word text)) c e).1)
-family_is kind.Date c text e = ap family_of (sym (field_ok (is_date text) (cell.Date text) c e).1)
-family_is kind.Stamp c text e = ap family_of (sym (stamp_ok (stamp_form text) c e).2)
-family_is kind.Bin c text e = ap family_of (sym (octets_ok (decode_of text) c e).1)
-family_is kind.Term c text e = cc

@@ -1,6 +1,6 @@
 -- What a hole makes on a row whose cell fits it.
 use Rattle.std.proofs.Common.{◌≡◌, ◌⊎◌, inl, inr, ℕ, refl, sym, ap, subst, ◌∙◌, List, [], ◌∷◌, ◌++◌, Bool, true, false, cond, not, ◌&&◌, ◌||◌, ◌==◌, arith, nat_lt, Result, Ok, Err, IsUtf8, append-nil}
-use Rattle.std.specs.Prelude.{Option, Some, None, option_map, option_and_then, bytes_eq, IsSome, is_some, chars, flat_map, encode_utf8}
+use Rattle.std.specs.Prelude.{Option, Some, None, option_map, option_and_then, bytes_eq, is_some, chars, flat_map, encode_utf8}
 use Rattle.std.specs.List.{list_all}
 use Rattle.std.specs.Str.{NonePass, NoCharPasses, is_utf8}
 use Rattle.std.proofs.lemmas.Option.{cond_some, none-some, same_Some}
@@ -23,6 +23,7 @@ use Rattle.vkg_cells.specs.declared.cell.FieldFault.{FieldFault}
 use Rattle.vkg_cells.specs.Field.{cell_of_field}
 use Rattle.vkg_cells.specs.Form.{lexical_form}
 use Rattle.vkg_cells.specs.Order.{family, family_of, same, same_form}
+use Rattle.vkg_cells.proofs.FieldLemmas.{family_is}
 use Rattle.vkg_cells.proofs.LawLemmas.{by-form}
 use Rattle.vkg_schema.specs.Rows.{Row, cell_at, is_known_true}
 use Rattle.vkg_expr.specs.declared.term_expr.Sort.{Sort}
@@ -35,7 +36,7 @@ use Rattle.vkg_match.specs.Cut.{is_break}
 use Rattle.vkg_match.specs.Laws.{FitsHole, is_met}
 use Rattle.vkg_match.specs.Sources.{cell_if, cell_with, source_of, text_if}
 use Rattle.vkg_match.specs.Verdict.{hole_makes, hole_text, holes_agree, where_cell, where_same}
-use Rattle.vkg_match.proofs.Forms.{Proper, family_is, proper}
+use Rattle.vkg_match.proofs.Forms.{Proper, proper}
 use Rattle.vkg_match.proofs.Splits.{Clear}
 use Rattle.vkg_match.proofs.Values.{Text, piece_text, texts_hold}
 
@@ -55,13 +56,10 @@ known_true (Some b) e = ap Some e
 -- cells of one family are equal where their forms are
 same_known : (c d : Cell) (s t : List ℕ) → family_of c ≡ family_of d → lexical_form c ≡ Some s → lexical_form d ≡ Some t → is_known_true (same c d) ≡ bytes_eq s t
 same_known c d s t f a b =
-    let law = by-form c d f (has (lexical_form c) s a) in
+    let law = by-form c d f (ap is_some a) in
     same_truth _ _
     (λ e. (bytes_eq-Decides s t).1 (same_Some s t (sym a ∙ law.0 (known_true (same c d) e) ∙ b)))
     (λ e. ap is_known_true (law.1 (a ∙ ap Some ((bytes_eq-Decides s t).0 e) ∙ sym b)))
-  where
-    has : (o : Text) (s : List ℕ) → o ≡ Some s → IsSome o
-    has o s e = ap is_some e
 
 null_left : (c d : Cell) → c ≡ cell.Null → is_known_true (same c d) ≡ false
 null_left c d e = ap (λ x. is_known_true (same x d)) e

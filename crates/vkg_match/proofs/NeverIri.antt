@@ -5,8 +5,8 @@ use Rattle.std.specs.List.{AllByRecursion}
 use Rattle.std.proofs.lemmas.Option.{same_Some}
 use Rattle.std.proofs.lemmas.Str.{IsUtf8-from_ascii}
 use Rattle.std.proofs.lemmas.List.Folds.{list_all-append}
-use Rattle.vkg_lists.specs.Options.{joined}
 use Rattle.vkg_lists.proofs.Bools.{and_parts}
+use Rattle.vkg_lists.proofs.Onto.{both_given}
 use Rattle.vkg_terms.specs.declared.term.Term.TheVariants.{Iri}
 use Rattle.vkg_terms.specs.Same.{term_name}
 use Rattle.vkg_terms.specs.Vocabulary.{rr_default_graph}
@@ -24,31 +24,18 @@ use Rattle.vkg_match.specs.Verdict.{Never, verdict_of}
 use Rattle.vkg_match.proofs.Exact.{never, there_at}
 use Rattle.vkg_match.proofs.Values.{Text, piece_text, pieces_text, term_at, term_made}
 
--- two texts that are joined are there
-record Joined (a b : Text) (w : List ℕ) : Type 0 where
-  front : List ℕ
-  back : List ℕ
-  first : a ≡ Some front
-  second : b ≡ Some back
-  is : front ++ back ≡ w
-
-joined_there : (a b : Text) (w : List ℕ) → joined a b ≡ Some w → Joined a b w
-joined_there None b w e = cc
-joined_there (Some s) None w e = cc
-joined_there (Some s) (Some t) w e = record { front = s; back = t; first = refl; second = refl; is = same_Some (s ++ t) w e }
-
 parts_small : (s t w : List ℕ) → s ++ t ≡ w → small w ≡ true → (small s ≡ true) × (small t ≡ true)
 parts_small s t w e h = and_parts (small s) (small t) (sym (list_all-append (λ b. nat_lt b 128) s t) ∙ ap small e ∙ h)
 
 iri_texts : (row : Row) (ps : List Piece) (w : List ℕ) → pieces_text OfIri row ps ≡ Some w → small w ≡ true → AllByRecursion IsTextPiece ps
 iri_texts row [] w e h = tt
 iri_texts row (Chars s ∷ ps) w e h =
-    let j = joined_there (Some s) (pieces_text OfIri row ps) w e in
-    let p = parts_small j.front j.back w j.is h in
-    (subst IsUtf8 (sym (same_Some s j.front j.first)) (IsUtf8-from_ascii j.front (ascii_small j.front p.0)), iri_texts row ps j.back j.second p.1)
+    let j = both_given (Some s) (pieces_text OfIri row ps) w e in
+    let p = parts_small j.0 j.2.0 w j.2.2 h in
+    (subst IsUtf8 (sym (same_Some s j.0 j.1)) (IsUtf8-from_ascii j.0 (ascii_small j.0 p.0)), iri_texts row ps j.2.0 j.2.1 p.1)
 iri_texts row (Hole at k ∷ ps) w e h =
-    let j = joined_there (piece_text OfIri row (Hole at k)) (pieces_text OfIri row ps) w e in
-    (tt, iri_texts row ps j.back j.second (parts_small j.front j.back w j.is h).1)
+    let j = both_given (piece_text OfIri row (Hole at k)) (pieces_text OfIri row ps) w e in
+    (tt, iri_texts row ps j.2.0 j.2.1 (parts_small j.0 j.2.0 w j.2.2 h).1)
 
 iri_made : (o : Text) (w : List ℕ) → option_map Iri o ≡ Some (Iri w) → o ≡ Some w
 iri_made None w e = cc

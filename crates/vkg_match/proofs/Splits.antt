@@ -1,24 +1,18 @@
 -- Texts that are split at characters that their parts do not hold.
-use Rattle.std.proofs.Common.{◌≡◌, ℕ, ◌+◌, refl, sym, ap, ◌∙◌, List, [], ◌∷◌, ◌++◌, length, Bool, true, false, ◌&&◌, ◌==◌, append_assoc, length-append, arith}
-use Rattle.std.specs.Prelude.{Some, None, bytes_eq}
+use Rattle.std.proofs.Common.{◌≡◌, ℕ, refl, sym, ap, ◌∙◌, List, [], ◌∷◌, ◌++◌, Bool, true, false, ◌&&◌, ◌==◌, append_assoc, arith}
+use Rattle.std.specs.Prelude.{Some, None, bytes_eq, IfSome}
 use Rattle.std.specs.List.{AllByRecursion}
 use Rattle.std.specs.Str.{NonePass, NoCharPasses}
 use Rattle.std.proofs.lemmas.Slice.Eq.{bytes_eq-Decides}
-use Rattle.std.proofs.lemmas.Str.{encode_same, NoCharPasses-append, length-encode, len_utf8_bounds}
+use Rattle.std.proofs.lemmas.Str.{encode_same, NoCharPasses-append}
 use Rattle.std.proofs.Math.Bool.{and-false, and_assoc}
 use lib.Utf8.{encode, encodes}
 use Rattle.vkg_lists.specs.Options.{joined}
 use Rattle.vkg_lists.proofs.Bools.{and_parts, is_false, same_truth}
+use Rattle.vkg_lists.proofs.Onto.{joined_each}
+use Rattle.vkg_terms.proofs.Octets.{not_nothing}
 use Rattle.vkg_cells.specs.Order.{same_form}
 use Rattle.vkg_match.proofs.Values.{Text}
-
-not_nothing : (c : ℕ) (u : List ℕ) → [] ≡ encode c ++ u → ⊥
-not_nothing c u e =
-    let h : 0 ≡ length (encode c ++ u) = ap length e in
-    let k : length (encode c ++ u) ≡ length (encode c) + length u = length-append (encode c) u in
-    let n = length-encode c in
-    let m = (len_utf8_bounds c).0 in
-    omega (arith, h, k, n, m)
 
 -- of two parts that hold no such character, and each such a character behind it
 module _ (p : ℕ → Bool) where
@@ -49,13 +43,10 @@ module _ (p : ℕ → Bool) where
 
   -- no character of the text, if there is one, passes
   abbrev pub Clear : Text → Type 0
-  Clear None = Unit {0}
-  Clear (Some s) = NoCharPasses p s
+  Clear o = IfSome o (NoCharPasses p)
 
   pub clear_joined : (a b : Text) → Clear a → Clear b → Clear (joined a b)
-  clear_joined None b h k = tt
-  clear_joined (Some s) None h k = tt
-  clear_joined (Some s) (Some t) h k = NoCharPasses-append p s t h k
+  clear_joined a b h k = joined_each (NoCharPasses p) (NoCharPasses-append p) a b h k
 
   abbrev pub ClearPart : (Text × ℕ) → Type 0
   ClearPart x = Clear x.0 × (p x.1 ≡ true)

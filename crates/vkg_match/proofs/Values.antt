@@ -1,7 +1,8 @@
 -- What term expressions make on a row.
-use Rattle.std.proofs.Common.{◌≡◌, ℕ, refl, sym, ap, ◌∙◌, List, [], ◌∷◌, Bool, false, map, append_assoc, append-nil}
+use Rattle.std.proofs.Common.{◌≡◌, ℕ, refl, sym, ap, ◌∙◌, List, [], ◌∷◌, Bool, false, map}
 use Rattle.std.specs.Prelude.{Option, Some, None, option_map, unwrap_or}
 use Rattle.vkg_lists.specs.Options.{joined}
+pub use Rattle.vkg_lists.proofs.Onto.{joined_assoc, joined_nil, nil_joined}
 use Rattle.vkg_terms.specs.declared.term.Term.{Term}
 use Rattle.vkg_terms.specs.declared.term.Term.TheVariants.{Iri, Blank, Lit}
 use Rattle.vkg_terms.specs.Label.{blank_label}
@@ -24,20 +25,6 @@ use Rattle.vkg_match.specs.Verdict.{whole_text}
 
 abbrev pub Text : Type 0
 Text = Option (List ℕ)
-
-pub joined_assoc : (a b c : Text) → joined (joined a b) c ≡ joined a (joined b c)
-joined_assoc None b c = refl
-joined_assoc (Some s) None c = refl
-joined_assoc (Some s) (Some t) None = refl
-joined_assoc (Some s) (Some t) (Some u) = ap Some (append_assoc s t u)
-
-pub joined_nil : (a : Text) → joined a (Some []) ≡ a
-joined_nil None = refl
-joined_nil (Some s) = ap Some (append-nil s)
-
-pub nil_joined : (a : Text) → joined (Some []) a ≡ a
-nil_joined None = refl
-nil_joined (Some s) = refl
 
 -- the text of a piece, which a NULL has none of
 abbrev pub piece_text : Sort → Row → Piece → Text

@@ -11,13 +11,11 @@ use Rattle.vkg_algebra.specs.Solutions.{Solution}
 use Rattle.vkg_algebra.specs.Values.{expression_value}
 use Rattle.vkg_plain.specs.Chains.{both_value, either_value}
 
-all_chain : (s : Solution) (a : Condition) (cs : List ConditionValue) → fold both_value (expression_value a s) (map (λ c. expression_value (condition_seen c) s) cs) ≡ expression_value (fold And a (map condition_seen cs)) s
-all_chain s a [] = refl
-all_chain s a (c ∷ cs) = all_chain s (And a (condition_seen c)) cs
-
-any_chain : (s : Solution) (a : Condition) (cs : List ConditionValue) → fold either_value (expression_value a s) (map (λ c. expression_value (condition_seen c) s) cs) ≡ expression_value (fold Or a (map condition_seen cs)) s
-any_chain s a [] = refl
-any_chain s a (c ∷ cs) = any_chain s (Or a (condition_seen c)) cs
+-- an operator of conditions, and what it makes of the values of its operands
+module _ (op : Condition → Condition → Condition) (on : Option Term → Option Term → Option Term) (s : Solution) (made : (a b : Condition) → on (expression_value a s) (expression_value b s) ≡ expression_value (op a b) s) where
+  value_chain : (a : Condition) (cs : List ConditionValue) → fold on (expression_value a s) (map (λ c. expression_value (condition_seen c) s) cs) ≡ expression_value (fold op a (map condition_seen cs)) s
+  value_chain a [] = refl
+  value_chain a (c ∷ cs) = ap (λ v. fold on v (map (λ d. expression_value (condition_seen d) s) cs)) (made a (condition_seen c)) ∙ value_chain (op a (condition_seen c)) cs
 
 -- what is made of the values of a chain's members
 module _ {E : Type 0} (s : Solution) (a : ConditionValue) (cs : List ConditionValue) (whole : ConditionValue) where
@@ -29,7 +27,7 @@ module _ {E : Type 0} (s : Solution) (a : ConditionValue) (cs : List ConditionVa
   all_result (Ok v) (Err m) more h f g is = absurd h
   all_result (Ok v) (Ok w) (Err m) h f g is = absurd h
   all_result (Ok v) (Ok w) (Ok vs) h f g is =
-      h ∙ (λ i. fold both_value (f i) (g i)) ∙ all_chain s (condition_seen a) cs
+      h ∙ (λ i. fold both_value (f i) (g i)) ∙ value_chain And both_value s (λ b c. refl) (condition_seen a) cs
       ∙ sym (ap (λ c. expression_value c s) (seen-And a cs)) ∙ ap (λ c. expression_value (condition_seen c) s) (sym is)
 
   pub any_result : (r first : Result (Option Term) E) (more : Result (List (Option Term)) E) →
@@ -40,5 +38,5 @@ module _ {E : Type 0} (s : Solution) (a : ConditionValue) (cs : List ConditionVa
   any_result (Ok v) (Err m) more h f g is = absurd h
   any_result (Ok v) (Ok w) (Err m) h f g is = absurd h
   any_result (Ok v) (Ok w) (Ok vs) h f g is =
-      h ∙ (λ i. fold either_value (f i) (g i)) ∙ any_chain s (condition_seen a) cs
+      h ∙ (λ i. fold either_value (f i) (g i)) ∙ value_chain Or either_value s (λ b c. refl) (condition_seen a) cs
       ∙ sym (ap (λ c. expression_value c s) (seen-Or a cs)) ∙ ap (λ c. expression_value (condition_seen c) s) (sym is)

@@ -3,15 +3,11 @@ use Rattle.std.proofs.Common.{◌≡◌, ◌≢◌, ◌<◌, ◌++◌, ℕ, List
 use Rattle.std.specs.Prelude.{flat_map, chars, IsUtf8}
 use Rattle.std.proofs.lemmas.Bool.Decides.{nat_tests}
 use Rattle.std.proofs.lemmas.List.{append-nil}
-use Rattle.std.proofs.lemmas.Str.{encode_same, encode_ascii, length-encode, len_utf8_bounds, encodes-chars}
+use Rattle.std.proofs.lemmas.Str.{encode_ascii, encode_same, length-encode, len_utf8_bounds, encodes-chars}
 use Rattle.std.proofs.Math.Utf8.{encode, encodes}
 use Rattle.vkg_terms.specs.NQuads.{escaped}
-use Rattle.vkg_terms.proofs.TextLemmas.{Written, unescaped, written}
+use Rattle.vkg_terms.proofs.TextLemmas.{Written, not_quote, octet, unescaped, written}
 use Rattle.vkg_lists.proofs.Heads.{head_same, tail_same}
-
--- an ASCII octet is the character that it writes
-octet : (c b : ℕ) (rest more : List ℕ) → b < 128 → encode c ++ rest ≡ b ∷ more → (c ≡ b) × (rest ≡ more)
-octet c b rest more h e = encode_same c b rest more (e ∙ ap (λ (l : List ℕ). l ++ more) (sym (encode_ascii b h)))
 
 joined : (v w x y : List ℕ) → v ≡ w → x ≡ v ++ y → x ≡ w ++ y
 joined v w x y p e = e ∙ ap (λ (l : List ℕ). l ++ y) p
@@ -64,15 +60,9 @@ by_no_letter c v rest more (inr (quote, back, inline, p)) same none = back (sym 
 pub letter_lacks : (c : ℕ) (text rest more : List ℕ) → text ≡ encode 92 ++ more → length more ≡ 0 → text ≡ escaped c ++ rest → ⊥
 letter_lacks c text rest more is none e = by_no_letter c (escaped c) rest more (written c) (sym is ∙ e) none
 
-by_no_quote : (c : ℕ) (v rest more : List ℕ) → Written c v → encode 34 ++ more ≡ v ++ rest → ⊥
-by_no_quote c v rest more (inl (e, p, m, inline, low)) same =
-    let bad = (octet 34 92 more (e ∷ rest) (omega arith) (joined v (92 ∷ e ∷ []) _ rest p same)).0 in
-    omega (arith, bad)
-by_no_quote c v rest more (inr (quote, back, inline, p)) same = quote (sym (encode_same 34 c more rest (joined v (encode c) _ rest p same)).0)
-
 -- a text that goes on with a character begins with no quote
 pub no_character : (c : ℕ) (text rest more : List ℕ) → text ≡ encode 34 ++ more → text ≡ escaped c ++ rest → ⊥
-no_character c text rest more is e = by_no_quote c (escaped c) rest more (written c) (sym is ∙ e)
+no_character c text rest more is e = not_quote c rest more (sym e ∙ is ∙ ap (λ (l : List ℕ). l ++ more) (encode_ascii 34 (omega arith)))
 
 by_some : (c : ℕ) (v : List ℕ) → Written c v → 0 < length v
 by_some c v (inl (e, p, m, inline, low)) = let n = ap length p in omega arith

@@ -2,7 +2,6 @@ pub mod Asked
 pub mod Chains
 pub mod EscapeLemmas
 pub mod Maps
-pub mod OneMore
 pub mod QuadLemmas
 pub mod SeenForms
 pub mod TermLemmas

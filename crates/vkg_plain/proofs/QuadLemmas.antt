@@ -9,6 +9,7 @@ use Rattle.vkg_base.specs.Written.{written}
 use Rattle.vkg_terms.specs.NQuads.{Quad, term_text, graph_text, line}
 use Rattle.vkg_terms.specs.Writable.{IsWritableQuad}
 use Rattle.vkg_terms.specs.declared.term.Term.{Term}
+use Rattle.vkg_terms.proofs.TextLemmas.{line_shape as line_parts}
 use Rattle.vkg_plain.specs.declared.read_fault.ReadFault.{ReadFault}
 use Rattle.vkg_plain.specs.declared.read_fault.ReadFault.TheVariants.{Memory}
 use Rattle.vkg_plain.specs.Reading.{IsHeldQuad, ReadsTerm, ReadsQuad}
@@ -22,9 +23,9 @@ ending_begins None rest = (46 ∷ 10 ∷ rest, refl)
 ending_begins (Some t) rest = (term_text t ++ (codes " ." ++ 10 ∷ rest), refl)
 
 pub line_shape : (q : Quad) (rest : List ℕ) → line q ++ 10 ∷ rest ≡ term_text q.subject ++ 32 ∷ (term_text q.predicate ++ 32 ∷ (term_text q.object ++ ending q.graph rest))
-line_shape q rest = shape (term_text q.subject) (term_text q.predicate) (term_text q.object) (graph_text q.graph) (codes " .") (10 ∷ rest)
+line_shape q rest = ap (λ l. l ++ 10 ∷ rest) (line_parts q) ∙ shape (term_text q.subject) (term_text q.predicate) (term_text q.object) (graph_text q.graph) (codes " .") (10 ∷ rest)
   where
-    shape : (s p o g d r : List ℕ) → (((((s ++ codes " ") ++ p) ++ codes " ") ++ o) ++ g ++ d) ++ r ≡ s ++ (32 ∷ (p ++ (32 ∷ (o ++ (g ++ (d ++ r))))))
+    shape : (s p o g d r : List ℕ) → (s ++ (32 ∷ (p ++ (32 ∷ (o ++ (g ++ d)))))) ++ r ≡ s ++ (32 ∷ (p ++ (32 ∷ (o ++ (g ++ (d ++ r))))))
     shape s p o g d r = simp append_assoc
 
 -- what a reader of terms answers along a line

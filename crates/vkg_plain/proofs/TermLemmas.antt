@@ -4,7 +4,7 @@ use Rattle.std.specs.Prelude.{flat_map, chars, codes, MatchResult}
 use Rattle.std.specs.List.{list_all}
 use Rattle.std.proofs.lemmas.Bool.{false≢true}
 use Rattle.std.proofs.lemmas.Bool.Decides.{nat_tests}
-use Rattle.std.proofs.lemmas.List.Folds.{list_all_at}
+use Rattle.std.proofs.lemmas.List.Folds.{list_all_at, list_all-append}
 use Rattle.std.proofs.lemmas.Result.{MatchResult-weaker}
 use Rattle.vkg_terms.specs.Iri.{is_iri_character}
 use Rattle.vkg_terms.specs.NQuads.{term_text, escaped, bracketed, annotation_text}
@@ -15,6 +15,7 @@ use Rattle.vkg_terms.specs.declared.term.Annotation.{Annotation}
 use Rattle.vkg_terms.specs.declared.term.Annotation.TheVariants.{Plain, Lang, Typed}
 use Rattle.vkg_lists.proofs.Heads.{tail_same}
 use Rattle.vkg_lists.proofs.Bools.{and_true, and_parts}
+use Rattle.vkg_lists.proofs.Positions.{all_weaken}
 use Rattle.vkg_plain.specs.declared.read_fault.ReadFault.{ReadFault}
 use Rattle.vkg_plain.specs.declared.read_fault.ReadFault.TheVariants.{Memory}
 use Rattle.vkg_plain.specs.Reading.{Gives}
@@ -25,12 +26,10 @@ no_blank xs h i l e = false≢true (sym (list_all_at is_visible xs i 0 l (ap is_
 visible : (b : ℕ) → is_iri_character b ≡ true → is_visible b ≡ true
 visible b h = let low = (and_parts (not (nat_le b 32)) _ h).0 in grind (arith, nat_tests)
 
-visible_iri : (iri : List ℕ) → list_all is_iri_character iri ≡ true → list_all is_visible (iri ++ 62 ∷ []) ≡ true
-visible_iri [] h = refl
-visible_iri (b ∷ bs) h = let parts = and_parts (is_iri_character b) (list_all is_iri_character bs) h in and_true _ _ (visible b parts.0) (visible_iri bs parts.1)
-
 pub visible_bracketed : (iri : List ℕ) → list_all is_iri_character iri ≡ true → list_all is_visible (bracketed iri) ≡ true
-visible_bracketed iri h = visible_iri iri h
+visible_bracketed iri h =
+    list_all-append is_visible iri (62 ∷ [])
+    ∙ and_true (list_all is_visible iri) (list_all is_visible (62 ∷ [])) (all_weaken is_iri_character is_visible iri visible h) refl
 
 pub visible_annotation : (a : Annotation) → IsWritableAnnotation a → list_all is_visible (annotation_text a) ≡ true
 visible_annotation Plain h = refl

@@ -1,5 +1,5 @@
 -- What is read from a text that is written as `dump` writes it (RDF 1.1 N-Quads, 2 to 4).
-use Rattle.std.specs.Prelude.{◌≡◌, ◌≢◌, ℕ, List, ◌∷◌, ◌++◌, codes, Option, Some, None, Result, MatchResult}
+use Rattle.std.specs.Prelude.{◌≡◌, ◌≢◌, ℕ, List, ◌∷◌, ◌++◌, codes, Option, IfSome, Result, MatchResult}
 use Rattle.std.specs.Borrow.{Bor}
 use Rattle.vkg_terms.specs.NQuads.{Quad, term_text, graph_text, line}
 use Rattle.vkg_terms.specs.Vocabulary.{xsd_string}
@@ -23,8 +23,7 @@ IsHeld (Blank label) = Unit {0}
 IsHeld (Lit text annotation) = IsHeldAnnotation annotation
 
 abbrev pub IsHeldIfAny : Option Term → Type 0
-IsHeldIfAny None = Unit {0}
-IsHeldIfAny (Some term) = IsHeld term
+IsHeldIfAny o = IfSome o IsHeld
 
 pub record IsHeldQuad (quad : Quad) : Type 0 where
   pub subject : IsHeld quad.subject

@@ -1,10 +1,10 @@
 -- Kinds of lists of plans, from their first.
-use Rattle.std.proofs.Common.{◌≡◌, true, ◌&&◌, List, [], ◌∷◌, ◌++◌, refl, append_assoc, append-nil, ◌≤◌, ◌∙◌, ap, arith, get_or, length, map, sym}
+use Rattle.std.proofs.Common.{◌≡◌, true, ◌&&◌, List, [], ◌∷◌, ◌++◌, refl, append_assoc, ◌≤◌, ◌∙◌, ap, arith, get_or, length, map, sym}
 use Rattle.std.proofs.Math.Bool.{and-false}
 use Rattle.std.specs.Prelude.{Option, Some, None, is_some, option_map, if◌then◌else◌}
 use Rattle.std.specs.Cmp.Lexicographic.{pointwise}
 use Rattle.vkg_lists.specs.Options.{with_first}
-use Rattle.vkg_lists.proofs.Onto.{onto, onto_none}
+use Rattle.vkg_lists.proofs.Onto.{onto, onto_none, joined_nil}
 use Rattle.vkg_expr.specs.Typing.{same_kind}
 use Rattle.vkg_plan.specs.declared.plan.Plan.{Plan as PlanValue}
 use Rattle.vkg_plan.specs.Kinds.{Kinds, Tables, alike, are_alike, beside_all, is_alike, side_by_side, kinds_of_each, plan_kinds}
@@ -39,7 +39,7 @@ alike_some None e = cc
 alike_some (Some kss) e = refl
 
 pub onto-nil : (ks : Kinds) → onto ks (Some []) ≡ Some ks
-onto-nil ks = rw append-nil
+onto-nil ks = joined_nil (Some ks)
 
 pub onto-more : (ks ls : Kinds) (o : Option (List Kinds)) → onto ks (option_map side_by_side (with_first (Some ls) o)) ≡ onto (ks ++ ls) (option_map side_by_side o)
 onto-more ks ls None = refl

@@ -1,3 +1,5 @@
+pub mod CellLemmas
 pub mod KindLists
+pub mod Pairs
 pub mod RowsFit
 pub mod SeenParts

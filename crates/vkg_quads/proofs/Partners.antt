@@ -5,8 +5,10 @@ use Rattle.std.specs.List.{cons_option}
 use Rattle.std.proofs.lemmas.Slice.Eq.{bytes_eq-Decides}
 use Rattle.std.proofs.lemmas.List.Elements.{filter_map-append, filter-append}
 use Rattle.std.proofs.lemmas.List.{map-append}
+use Rattle.std.proofs.lemmas.Option.{same_Some}
 use Rattle.vkg_lists.proofs.Bools.{is_false}
 use Rattle.vkg_lists.proofs.Members.{filter_drops}
+use Rattle.vkg_lists.proofs.Onto.{map_lacking}
 use Rattle.vkg_lists.proofs.Walks.{filter_absorbs}
 use Rattle.vkg_terms.specs.NQuads.{Quad, line}
 use Rattle.vkg_schema.specs.Rows.{Row, agree}
@@ -20,13 +22,10 @@ no_partner ps r rows e = filter_drops (agree ps r) rows (λ s c. is_false (agree
 pub partners : (ps : List (ℕ × ℕ)) (r : Row) (rows : List Row) (key : List ℕ) → row_key r (map near ps) ≡ Some key → filter (agree ps r) (filter (has_key (map far ps) key) rows) ≡ filter (agree ps r) rows
 partners ps r rows key e = filter_absorbs (agree ps r) (has_key (map far ps) key) has rows
   where
-    some_same : (a b : List ℕ) → Some a ≡ Some b → a ≡ b
-    some_same a b f = cc
-
     has : (s : Row) → agree ps r s ≡ true → has_key (map far ps) key s ≡ true
     has s a =
         let k = one_key ps r s a in
-        let f : key ≡ k.0 = some_same key k.0 (sym e ∙ k.1) in
+        let f : key ≡ k.0 = same_Some key k.0 (sym e ∙ k.1) in
         ap (is_key key) k.2 ∙ (bytes_eq-Decides key k.0).1 f
 
 -- the lines of partners that are looked at one by one
@@ -39,12 +38,8 @@ one_by_one f t rows (n ∷ ns) =
     ∙ ap (λ rs. filter_map f rs) (sym (filter-append t (filter_map (slice_get rows) (n ∷ [])) (filter_map (slice_get rows) ns))
     ∙ ap (λ rs. filter t rs) (sym (filter_map-append (slice_get rows) (n ∷ []) ns)))))
 
-none_is : (o : Option Quad) → None ≡ option_map line o → o ≡ None
-none_is None e = refl
-none_is (Some q) e = cc
-
 pub quad_none : (o : Option Quad) (xs : List (List ℕ)) → None ≡ option_map line o → xs ≡ xs ++ map line (cons_option o [])
-quad_none o xs e = sym (append-nil xs) ∙ ap (λ o. xs ++ map line (cons_option o [])) (sym (none_is o e))
+quad_none o xs e = sym (append-nil xs) ∙ ap (λ o. xs ++ map line (cons_option o [])) (sym (map_lacking line o (sym e)))
 
 pub quad_some : (o : Option Quad) (l : List ℕ) (xs : List (List ℕ)) → Some l ≡ option_map line o → xs ++ l ∷ [] ≡ xs ++ map line (cons_option o [])
 quad_some None l xs e = cc

@@ -3,9 +3,11 @@ use Rattle.std.proofs.Common.{◌≡◌, ℕ, ◌+◌, ◌<◌, ◌≤◌, ◌�
 use Rattle.std.specs.Prelude.{IfErr, IfOk}
 use Rattle.std.specs.List.{Contains, enumerate_from}
 use Rattle.std.proofs.lemmas.Bool.{ltb-true, ltb-false}
+use Rattle.std.proofs.lemmas.Result.{IfErr-weaker, IfOk-weaker}
+use Rattle.vkg_lists.proofs.Numbered.{numbered_from}
 use Rattle.vkg_lists.specs.Results.{unless, in_front}
 use Rattle.vkg_lists.proofs.Members.{Contains-none, Contains-here, Contains-there, Contains-cons_cases}
-use Rattle.vkg_lists.proofs.Results.{ok_err, err_same}
+use Rattle.vkg_lists.proofs.Results.{ok_err, err_same, front_given}
 use Rattle.vkg_turtle.specs.declared.triple.Triple.{Triple}
 use Rattle.vkg_schema.specs.declared.table.Table.{Table}
 use Rattle.vkg_maps.specs.declared.mapping.Mapping.{Mapping}
@@ -22,15 +24,10 @@ use Rattle.vkg_r2rml.specs.Mapping.{fault, map_limit, in_order, of_maps, count_f
 use Rattle.vkg_r2rml.specs.Faults.{OnTriplesMap, Precedes, IsLeastFault, IsFaultless, IsFaultOf, IsLeast, no_map, many_maps, least, many_rules}
 use Rattle.vkg_r2rml.proofs.Least.{AnswersLeast}
 use Rattle.vkg_r2rml.proofs.LeastFault.{on_triples_map}
-use Rattle.vkg_maps.proofs.LeastFault.{at_least}
 
 front_err : (m : TriplesMap) (rest : Result (List TriplesMap) MapFault) (f : MapFault) → in_front m rest ≡ Err f → rest ≡ Err f
 front_err m (Ok ms) f e = absurd (ok_err (m ∷ ms) f e)
 front_err m (Err g) f e = e
-
-front_ok : (m : TriplesMap) (rest : Result (List TriplesMap) MapFault) (all : List TriplesMap) → in_front m rest ≡ Ok all → (ms : List TriplesMap) × (rest ≡ Ok ms)
-front_ok m (Ok ms) all e = (ms, refl)
-front_ok m (Err g) all e = absurd (ok_err all g (sym e))
 
 module _ (P : MapNode → ℕ → Type 0) (read : MapNode → Checked TriplesMap) (answers : (m : MapNode) → AnswersLeast (P m) (read m)) where
   record First (n : ℕ) (maps : List MapNode) (f : MapFault) : Type 0 where
@@ -48,7 +45,7 @@ module _ (P : MapNode → ℕ → Type 0) (read : MapNode → Checked TriplesMap
         (λ i. let r = (answers p.1).least d bad in
         let same : check ≡ r.0 = let both : ◌≡◌ {A = Checked TriplesMap} (Err check) (Err r.0) = sym e ∙ ap (λ q. read q.1) i ∙ r.1 in cc in
         inr (ap (λ q. q.0) i, omega (arith, r.2, same)))
-        (λ c. inl (let l = at_least (n + 1) maps p c in omega (arith, l))) (Contains-cons_cases (n, m) (enumerate_from (n + 1) maps) p h);
+        (λ c. inl (let l = numbered_from (n + 1) maps p c in omega (arith, l))) (Contains-cons_cases (n, m) (enumerate_from (n + 1) maps) p h);
   }
 
   fault_later : (n : ℕ) (m : MapNode) (maps : List MapNode) (f : MapFault) (made : TriplesMap) → read m ≡ Ok made → First (n + 1) maps f → First n (m ∷ maps) f
@@ -77,7 +74,7 @@ module _ (P : MapNode → ℕ → Type 0) (read : MapNode → Checked TriplesMap
     where
       split : ((ms : List TriplesMap) → in_order (n + 1) (map read maps) ≡ Ok ms → Contains (enumerate_from (n + 1) maps) p → ⊥) → (r : Checked TriplesMap) → read m ≡ r → in_order n (r ∷ map read maps) ≡ Ok made → ⊥
       split later (Ok x) i k =
-          let rest = front_ok x (in_order (n + 1) (map read maps)) made k in
+          let rest = front_given x (in_order (n + 1) (map read maps)) made k in
           ⊎_elim (λ j. let r = (answers p.1).least check bad in ok_err x r.0 (sym i ∙ ap (λ q. read q.1) j ∙ r.1)) (λ c. later rest.0 rest.1 c) (Contains-cons_cases (n, m) (enumerate_from (n + 1) maps) p h)
       split later (Err c) i k = ok_err made (fault c n) (sym k)
 
@@ -136,9 +133,7 @@ module _ (triples : List Triple) (schema : List Table) (base : List ℕ) where
   nothing_fails mapping e = let r = read_of (count_fault maps) read mapping e in faultless r.0 r.1
 
   pub errors : (r : Result Mapping MapError) → IfErr r (FailsOf triples schema base) → IfErr r (IsLeast triples schema base)
-  errors (Ok m) h = h
-  errors (Err e) h = fault_of e h
+  errors r h = IfErr-weaker r (FailsOf triples schema base) (IsLeast triples schema base) fault_of h
 
   pub values : (r : Result Mapping MapError) → IfOk r (λ mapping. mapping_of triples schema base ≡ Ok mapping) → IfOk r (λ mapping. IsFaultless triples schema base (triples_maps triples schema))
-  values (Ok m) h = nothing_fails m h
-  values (Err e) h = h
+  values r h = IfOk-weaker r (λ mapping. mapping_of triples schema base ≡ Ok mapping) (λ mapping. IsFaultless triples schema base (triples_maps triples schema)) nothing_fails h

@@ -1,6 +1,6 @@
 -- One more triples map, in the list and in the index.
 use Rattle.std.proofs.Common.{true≢false, ◌≡◌, ℕ, refl, sym, ◌∙◌, ap, subst, List, [], ◌∷◌, ◌++◌, length, Bool, true, false, cond, Option, Some, None, map}
-use Rattle.std.specs.Prelude.{String, is_some, is_none, filter, ◌&&◌, ◌||◌, not}
+use Rattle.std.specs.Prelude.{String, is_some, is_none, filter, ◌&&◌, not}
 use Rattle.std.specs.Option.{option_or}
 use Rattle.std.specs.Str.{bytes_eq}
 use Rattle.std.specs.HashMap.{HashMap, get_by_text}
@@ -10,8 +10,11 @@ use Rattle.std.specs.Bool.{Decides}
 use Rattle.std.specs.List.{list_any, Contains}
 use Rattle.std.proofs.lemmas.List.{map-append, append-nil}
 use Rattle.std.proofs.lemmas.List.Elements.{filter-append}
+use Rattle.vkg_lists.proofs.Positions.{any_at, place_push}
 use Rattle.vkg_lists.specs.Sets.{distinct}
 use Rattle.vkg_lists.proofs.Counts.{Decides-contains_test}
+use Rattle.vkg_lists.proofs.Onto.{or_none}
+use Rattle.vkg_lists.proofs.Walks.{list_any-map}
 use Rattle.vkg_lists.proofs.Distinct.{Contains-distinct, Contains-from_distinct, distinct_push_new, distinct_push_old}
 use Rattle.vkg_terms.specs.declared.term.Term.{Term}
 use Rattle.vkg_terms.specs.Same.{term_eq}
@@ -22,7 +25,6 @@ use Rattle.vkg_turtle.specs.declared.triple.Triple.{Triple}
 use Rattle.vkg_schema.specs.declared.table.Table.{Table}
 use Rattle.vkg_r2rml.specs.TriplesMaps.{shows_triples_map, nodes_of_maps, map_node, place_of}
 use Rattle.vkg_r2rml.specs.Index.{IsIndexOf, with_triple}
-use Rattle.vkg_r2rml.proofs.Positions.{place_push, any_at}
 use Rattle.vkg_terms.proofs.SameLemmas.{terms_apart}
 
 -- what is found under the text of a term, by whether it is that of the new triples map
@@ -36,12 +38,8 @@ step maps m t before true e is_new only u old =
     ∙ ap (λ b. cond b (Some (length maps)) None) itself)
 step maps m t before false e is_new only u old =
     let other : term_eq m.node t ≡ false = apart (term_eq m.node t) refl in
-    old ∙ sym (place_push (λ n. term_eq n.node t) maps m ∙ ap (λ b. option_or (place_of maps t) (cond b (Some (length maps)) None)) other ∙ nothing (place_of maps t))
+    old ∙ sym (place_push (λ n. term_eq n.node t) maps m ∙ ap (λ b. option_or (place_of maps t) (cond b (Some (length maps)) None)) other ∙ or_none (place_of maps t))
   where
-    nothing : (o : Option ℕ) → option_or o None ≡ o
-    nothing None = refl
-    nothing (Some n) = refl
-
     apart : (b : Bool) → term_eq m.node t ≡ b → b ≡ false
     apart false h = refl
     apart true h =
@@ -64,15 +62,11 @@ module _ (triples : List Triple) (schema : List Table) where
   abbrev shown : List Triple → List Term
   shown xs = map (λ t. t.subject) (filter shows_triples_map xs)
 
-  any_made : (s : Term) (nodes : List Term) → list_any (λ n. term_eq n.node s) (map made nodes) ≡ list_any (λ y. term_eq y s) nodes
-  any_made s [] = refl
-  any_made s (n ∷ ns) = ap (λ b. term_eq n s || b) (any_made s ns)
-
   -- whether a triples map is there already
   known : (xs : List Triple) (s : Term) → Decides (is_some (place_of (map made (distinct term_eq (shown xs))) s)) (Contains (shown xs) s)
   known xs s =
       let kept = distinct term_eq (shown xs) in
-      let is : is_some (place_of (map made kept) s) ≡ list_any (λ y. term_eq y s) kept = sym (any_at (λ n. term_eq n.node s) (map made kept)) ∙ any_made s kept in
+      let is : is_some (place_of (map made kept) s) ≡ list_any (λ y. term_eq y s) kept = sym (any_at (λ n. term_eq n.node s) (map made kept)) ∙ list_any-map (λ (n : MapNode). term_eq n.node s) made kept in
       let d = Decides-contains_test terms_apart kept s in
       (λ h. Contains-from_distinct term_eq (shown xs) s (d.0 (sym is ∙ h)), λ c. is ∙ d.1 (Contains-distinct terms_apart (shown xs) s c))
 

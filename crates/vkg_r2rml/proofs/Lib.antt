@@ -5,7 +5,6 @@ pub mod IndexLemmas
 pub mod Least
 pub mod LeastFault
 pub mod MappingLemmas
-pub mod Positions
 pub mod RuleCount
 pub mod Parts
 pub mod Within

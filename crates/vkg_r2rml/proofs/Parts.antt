@@ -1,10 +1,11 @@
 -- What is known of the parts of a part that no check fails of.
 use Rattle.std.proofs.Common.{◌≡◌, ℕ, List, [], ◌∷◌, map, refl, sym, ap, subst}
-use Rattle.std.specs.Prelude.{Option, Some, None, Ok, Err, filter_map, ok_or, fold, min}
+use Rattle.std.specs.Prelude.{Option, Some, None, Ok, Err, filter_map, ok_or}
 use Rattle.std.specs.List.{AllByRecursion, cons_option}
 use Rattle.std.specs.Result.{result_ok, result_err}
+use Rattle.vkg_lists.proofs.Places.{least_of-kept}
 use Rattle.vkg_lists.specs.Results.{unless}
-use Rattle.vkg_lists.specs.Places.{least_of, lesser}
+use Rattle.vkg_lists.specs.Places.{least_of}
 use Rattle.vkg_lists.proofs.Results.{ok_same}
 use Rattle.vkg_r2rml.specs.Checked.{Checked, both, all_of, and_then}
 
@@ -41,15 +42,6 @@ module _ {A : Type 0} where
 
 -- ---- the first of several parts
 
-some_stays : {A : Type 0} (place : A → Option ℕ) (a : ℕ) (xs : List A) → fold (λ best x. lesser best (place x)) (Some a) xs ≡ None → ⊥
-some_stays place a [] e = cc
-some_stays place a (x ∷ xs) e = of (place x) (some_stays place a xs) (λ b. some_stays place (min a b) xs) e
-  where
-    of : (o : Option ℕ) → (fold (λ best x. lesser best (place x)) (Some a) xs ≡ None → ⊥) → ((b : ℕ) → fold (λ best x. lesser best (place x)) (Some (min a b)) xs ≡ None → ⊥) →
-        fold (λ best x. lesser best (place x)) (lesser (Some a) o) xs ≡ None → ⊥
-    of None h g e = h e
-    of (Some b) h g e = g b e
-
 module _ {A B : Type 0} where
   -- where there is a part, there is a value
   pub of_first : (f : A → Checked B) (x : A) (xs : List A) (ys : List B) → all_of (map f (x ∷ xs)) ≡ Ok ys → (y : B) × (zs : List B) × (ys ≡ y ∷ zs)
@@ -67,5 +59,5 @@ module _ {A B : Type 0} where
       of (Err check) e = failed (least_of result_err (parts (Err check))) refl e
         where
           failed : (o : Option ℕ) → least_of result_err (parts (Err check)) ≡ o → unless o (Ok (filter_map result_ok (map f xs))) ≡ Ok ys → (y : B) × (zs : List B) × (ys ≡ y ∷ zs)
-          failed None w e = absurd (some_stays result_err check (map f xs) w)
+          failed None w e = absurd (least_of-kept result_err check (map f xs) w)
           failed (Some least) w e = cc

@@ -1,8 +1,9 @@
 -- How many quad rules a mapping has.
-use Rattle.std.proofs.Common.{◌≡◌, ℕ, suc, ◌+◌, ◌*◌, max, refl, sym, ◌∙◌, ap, List, [], ◌∷◌, ◌++◌, map, flat_map, length, arith, length-append}
+use Rattle.std.proofs.Common.{◌≡◌, ℕ, suc, ◌+◌, ◌*◌, max, refl, ◌∙◌, ap, List, [], ◌∷◌, ◌++◌, map, flat_map, length, arith, length-append}
 use Rattle.std.specs.Prelude.{sum_by, Option, Some}
 use Rattle.std.proofs.lemmas.List.{length-map}
-use Rattle.std.proofs.lemmas.List.Sums.{sum_by-cons}
+use Rattle.std.proofs.lemmas.List.Concat.{length-flat_map}
+use Rattle.vkg_lists.proofs.Walks.{each_as_many}
 use Rattle.vkg_terms.specs.declared.term.Term.TheVariants.{Iri}
 use Rattle.vkg_maps.specs.declared.term_map.TermMap.{TermMap}
 use Rattle.vkg_maps.specs.declared.mapping.TriplesMap.{TriplesMap}
@@ -18,14 +19,6 @@ pub target_count : (gs : List TermMap) → length (targets gs) ≡ max (length g
 target_count [] = refl
 target_count (g ∷ gs) = ap suc (length-map {A = TermMap} {B = Option TermMap} gs (λ g. Some g)) ∙ omega arith
 
--- as many for each element
-each_as_many : {A B : Type 0} (f : A → List B) (n : ℕ) (xs : List A) → ((x : A) → length (f x) ≡ n) → length (flat_map f xs) ≡ length xs * n
-each_as_many f n [] e = omega arith
-each_as_many f n (x ∷ xs) e = length-append (f x) (flat_map f xs) ∙ ap (λ k. k + length (flat_map f xs)) (e x) ∙ ap (λ k. n + k) (each_as_many f n xs e) ∙ more (length xs)
-  where
-    more : (k : ℕ) → n + k * n ≡ suc k * n
-    more k = omega arith
-
 module _ (maps : List TriplesMap) (m : TriplesMap) where
   pub pair_count : (po : PredicateObjectMap) → length (predicate_object_rules maps m po) ≡ rules_of_pair m.graphs po
   pair_count po =
@@ -38,12 +31,7 @@ module _ (maps : List TriplesMap) (m : TriplesMap) where
       regroup a b c = omega arith
 
   pub pairs_count : (pos : List PredicateObjectMap) → length (flat_map (predicate_object_rules maps m) pos) ≡ rules_of_pairs m.graphs pos
-  pairs_count [] = refl
-  pairs_count (po ∷ pos) =
-      length-append (predicate_object_rules maps m po) (flat_map (predicate_object_rules maps m) pos)
-      ∙ ap (λ n. n + length (flat_map (predicate_object_rules maps m) pos)) (pair_count po)
-      ∙ ap (λ n. rules_of_pair m.graphs po + n) (pairs_count pos)
-      ∙ sym (sum_by-cons (rules_of_pair m.graphs) po pos)
+  pairs_count pos = length-flat_map (predicate_object_rules maps m) pos ∙ (λ i. sum_by (λ po. pair_count po i) pos)
 
   pub map_count : length (map_rules maps m) ≡ rules_of_map m
   map_count =
@@ -51,13 +39,5 @@ module _ (maps : List TriplesMap) (m : TriplesMap) where
       ∙ ap (λ n. n + length (flat_map (predicate_object_rules maps m) m.predicate_objects)) (pair_count (class_map m) ∙ ap (λ n. 1 * n * length (targets (m.graphs ++ []))) (length-map m.classes (λ class. object.Term (Constant (Iri class)))))
       ∙ ap (λ n. 1 * length m.classes * length (targets (m.graphs ++ [])) + n) (pairs_count m.predicate_objects)
 
-maps_count : (maps ms : List TriplesMap) → length (flat_map (map_rules maps) ms) ≡ sum_by rules_of_map ms
-maps_count maps [] = refl
-maps_count maps (m ∷ ms) =
-    length-append (map_rules maps m) (flat_map (map_rules maps) ms)
-    ∙ ap (λ n. n + length (flat_map (map_rules maps) ms)) (map_count maps m)
-    ∙ ap (λ n. rules_of_map m + n) (maps_count maps ms)
-    ∙ sym (sum_by-cons rules_of_map m ms)
-
 pub rule_count : (mapping : Mapping) → length (quad_rules mapping) ≡ sum_by rules_of_map mapping.maps
-rule_count mapping = maps_count mapping.maps mapping.maps
+rule_count mapping = length-flat_map (map_rules mapping.maps) mapping.maps ∙ (λ i. sum_by (λ m. map_count mapping.maps m i) mapping.maps)

@@ -4,9 +4,9 @@ use Rattle.std.specs.Prelude.{Option, Some, None, option_map, Result, Ok, Err, I
 use Rattle.std.specs.Option.{option_map_or}
 use Rattle.std.specs.List.{AllByRecursion, AllZip}
 use Rattle.std.proofs.lemmas.Bool.{eqb-true}
-use Rattle.std.proofs.lemmas.List.{length-map}
 use Rattle.std.proofs.lemmas.Option.{slice_get-map, slice_get_within}
 use Rattle.std.specs.Result.{result_ok}
+use Rattle.vkg_lists.proofs.Positions.{place_within}
 use Rattle.vkg_lists.specs.Results.{unless, in_front}
 use Rattle.vkg_lists.proofs.Results.{ok_same}
 use Rattle.vkg_terms.specs.declared.term.Term.{Term}
@@ -44,7 +44,7 @@ use Rattle.vkg_r2rml.specs.TriplesMap.{as_object, assembled, classes, classes_an
 use Rattle.vkg_r2rml.specs.TriplesMaps.{map_node, nodes_of_maps, place_of, table_at, triples_maps}
 use Rattle.vkg_maps.specs.Within.{kinds_at, AreConditions, IsCondition, IsMapWithin, IsObjectWithin, IsOver, IsPairWithin, IsWithin}
 use Rattle.vkg_r2rml.specs.Within.{ReadIsWithin}
-use Rattle.vkg_term_maps.proofs.OverColumns.{over_read, place_within}
+use Rattle.vkg_term_maps.proofs.OverColumns.{column_below as column_below_place, over_read}
 use Rattle.vkg_r2rml.proofs.Parts.{of_all, of_both, of_first, of_option, of_then}
 
 -- ---- columns and kinds
@@ -90,11 +90,8 @@ module _ (triples : List Triple) (schema : List Table) (base : List ℕ) where
   column_below : (table : ℕ) (t : Term) (n : ℕ) → column_if_known schema (Some table) t ≡ Ok n → n < length (kinds_at schema table)
   column_below table t n e = of t (of_option (column_named (columns_of schema table) t) 12 n e)
     where
-      as_kinds : n < length (columns_of schema table) → n < length (kinds_at schema table)
-      as_kinds l = subst (λ m. n < m) (sym (length-map (columns_of schema table) (λ (c : Column). c.kind)) ∙ ap length (kinds_are schema table)) l
-
       named : (text : List ℕ) → column_of (columns_of schema table) text ≡ Some n → n < length (kinds_at schema table)
-      named text w = as_kinds (place_within (λ (c : Column). means text c.name) (columns_of schema table) n w)
+      named text w = subst (λ ks. n < length ks) (kinds_are schema table) (column_below_place (columns_of schema table) text n w)
 
       of : (t : Term) → column_named (columns_of schema table) t ≡ Some n → n < length (kinds_at schema table)
       of (Iri s) w = cc
@@ -176,10 +173,7 @@ module _ (triples : List Triple) (schema : List Table) (base : List ℕ) where
           let above : maps_parent_of ms m place ≡ p.0 = ap (λ o. unwrap_or o m) p.1 in
           let are : AreConditions schema m.table p.0.table r.0.1.1 = are_conditions m.table p.0.table joins r.0.1.1 (ap (λ o. conditions triples schema m.table o joins) (sym table) ∙ c.1) in
           subst (IsObjectWithin schema ms m) (ok_same (object.Parent place r.0.1.1) o r.2)
-          (place_of_some ms place p.0 p.1, subst (λ (a : TriplesMap). AreConditions schema m.table a.table r.0.1.1) (sym above) are)
-        where
-          place_of_some : (ms : List TriplesMap) (k : ℕ) (x : TriplesMap) → slice_get ms k ≡ Some x → k < length ms
-          place_of_some ms k x e = slice_get_within ms k x e
+          (slice_get_within ms place p.0 p.1, subst (λ (a : TriplesMap). AreConditions schema m.table a.table r.0.1.1) (sym above) are)
 
       term_is : (p : Place) (o : ObjectMap) → and_then (term_map triples (columns_of schema m.table) base Object p) as_object ≡ Ok o → IsObjectWithin schema ms m o
       term_is p o e =

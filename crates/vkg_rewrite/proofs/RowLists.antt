@@ -1,9 +1,9 @@
 -- The rows before a place, and the one there.
-use Rattle.std.proofs.Common.{◌≡◌, ℕ, zero, suc, ◌+◌, List, [], ◌∷◌, ◌++◌, map, take, slice_get, Some, ap, arith}
+use Rattle.std.proofs.Common.{◌≡◌, ◌∙◌, ℕ, ◌+◌, List, [], ◌∷◌, ◌++◌, map, take, slice_get, Some, ap}
+use Rattle.std.proofs.lemmas.List.{map_more}
+use Rattle.std.proofs.lemmas.Option.{get_or_from_slice_get, slice_get_within}
 
 pub one_more : {A B : Type 0} (f : A → B) (xs : List A) (i : ℕ) (x : A) → slice_get xs i ≡ Some x → map f (take (i + 1) xs) ≡ map f (take i xs) ++ f x ∷ []
-one_more f [] i x e = cc e
-one_more f (y ∷ xs) zero x e = let same : y ≡ x = cc e in ap (λ z. f z ∷ []) same
-one_more f (y ∷ xs) (suc i) x e =
-    let next : suc i + 1 ≡ suc (i + 1) = omega arith in
-    rw next (ap (λ l. f y ∷ l) (one_more f xs i x e))
+one_more f xs i x e =
+    let h = slice_get_within xs i x e in
+    map_more f xs i x h ∙ ap (λ y. map f (take i xs) ++ f y ∷ []) (get_or_from_slice_get xs i x x e)

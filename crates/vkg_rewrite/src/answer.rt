@@ -8,13 +8,11 @@ ghost use Rattle.vkg_sparql.specs.Seen.{query_seen};
 ghost use Rattle.vkg_algebra.specs.Answer.{answer};
 ghost use Rattle.vkg_plan.specs.Rows.{rows_of};
 ghost use Rattle.vkg_maps.specs.Within.{IsWithin};
-ghost use Rattle.vkg_row_rules.specs.RowRules.{row_rules};
-ghost use Rattle.vkg_fine_rules.specs.Texts.{HoldTexts};
 ghost use Rattle.vkg_rewrite.specs.Lines.{result_lines as lines_of};
 ghost use Rattle.vkg_rewrite.specs.Rewritten.{rewritten};
 
 use crate::lines::result_lines;
-use crate::rewriting::planned;
+use crate::rewriting::rewrite;
 use std::alloc::Global;
 use vkg_base::{Box, Lines, Memory};
 use vkg_engine::{Rows, run};
@@ -46,9 +44,8 @@ pub fn answer_lines(
 /// The rows of the query's plan.
 fn plan_rows(alloc: Global, db: &Database, mapping: &Mapping, query: &Query) -> Result<Rows, Memory>
     requires { IsWithin db.now.schema mapping.now }
-    ensures bag { IfOk result (λ rows. IsPermutation rows (rows_of db.now.schema (rewritten db.now.schema mapping.now (query_seen query.now)) db.now.tables)) }
-    ensures texts { IfOk result (λ _. HoldTexts (row_rules db.now.schema mapping.now)) }
+    ensures { IfOk result (λ rows. IsPermutation rows (rows_of db.now.schema (rewritten db.now.schema mapping.now (query_seen query.now)) db.now.tables)) }
 {
-    let plan = Box::new(alloc, planned(alloc, db.schema(), mapping, query)?)?;
+    let plan = Box::new(alloc, rewrite(alloc, db.schema(), mapping, query)?)?;
     run(alloc, &plan, db)
 }

@@ -5,14 +5,12 @@ ghost use Rattle.vkg_plan.specs.Seen.{plan_seen};
 ghost use Rattle.vkg_sparql.specs.Seen.{query_seen};
 ghost use Rattle.vkg_row_rules.specs.RowRules.{row_rules as rules_over_rows};
 ghost use Rattle.vkg_maps.specs.Within.{IsWithin};
-ghost use Rattle.vkg_fine_rules.specs.Texts.{HoldTexts};
 ghost use Rattle.vkg_unfold.specs.Unfolded.{start_plan as plan_of_query};
 ghost use Rattle.vkg_rewrite.specs.Rewritten.{rewritten};
 
 use std::alloc::Global;
 use vkg_algebra::translate;
 use vkg_base::{Items, Memory};
-use vkg_fine_rules::hold_texts;
 use vkg_maps::Mapping;
 use vkg_plan::{CheckedPlan, Plan};
 use vkg_quads::rules;
@@ -32,21 +30,6 @@ pub fn rewrite(
     ensures plan { IfOk result (λ p. plan_seen p ≡ rewritten schema.now mapping.now (query_seen query.now)) }
     ensures typed { IfOk result (λ p. IsTrue (is_well_typed schema.now (plan_seen p))) }
 {
-    planned(alloc, schema, mapping, query)
-}
-
-/// The plan of a query, and that the constants of the mapping's rules are texts.
-pub(crate) fn planned(
-    alloc: Global,
-    schema: &Schema,
-    mapping: &Mapping,
-    query: &Query,
-) -> Result<CheckedPlan, Memory>
-    requires { IsWithin schema.now mapping.now }
-    ensures plan { IfOk result (λ p. plan_seen p ≡ rewritten schema.now mapping.now (query_seen query.now)) }
-    ensures typed { IfOk result (λ p. IsTrue (is_well_typed schema.now (plan_seen p))) }
-    ensures texts { IfOk result (λ _. HoldTexts (rules_over_rows schema.now mapping.now)) }
-{
     let _tables = schema.tables();
     let rules = rules_of(alloc, schema, mapping)?;
     let plan = plan_of(alloc, schema, rules.as_slice(), query)?;
@@ -55,13 +38,10 @@ pub(crate) fn planned(
 
 /// The rules of the mapping over rows.
 fn rules_of(alloc: Global, schema: &Schema, mapping: &Mapping) -> Result<Items<RowRule>, Memory>
-    ensures rules { IfOk result (λ rs. rs ≡ rules_over_rows schema.now mapping.now) }
-    ensures texts { IfOk result HoldTexts }
+    ensures { IfOk result (λ rs. rs ≡ rules_over_rows schema.now mapping.now) }
 {
     let rules = rules(alloc, mapping)?;
-    let rules = row_rules(alloc, schema.tables(), &mapping.base, rules.as_slice())?;
-    hold_texts(rules.as_slice());
-    Ok(rules)
+    row_rules(alloc, schema.tables(), &mapping.base, rules.as_slice())
 }
 
 fn plan_of(alloc: Global, schema: &Schema, rules: &[RowRule], query: &Query) -> Result<Plan, Memory>

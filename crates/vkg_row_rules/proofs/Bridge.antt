@@ -1,14 +1,15 @@
 -- The rules over rows give the dataset of the mapping.
-use Rattle.std.proofs.Common.{◌≡◌, ◌∙◌, ℕ, zero, suc, List, [], ◌∷◌, map, length, refl, ap}
+use Rattle.std.proofs.Common.{◌≡◌, ◌∙◌, ℕ, [], length, refl, ap}
 use Rattle.std.specs.Prelude.{Contains}
-use Rattle.std.specs.List.{AllZip}
 use Rattle.std.proofs.lemmas.List.{length-map}
 use Rattle.vkg_lists.specs.Sets.{distinct}
-use Rattle.vkg_lists.proofs.Members.{Contains-none, each_from_recursion, flat_map_agree_on, zip_length}
+use Rattle.vkg_lists.proofs.Members.{each_from_recursion, flat_map_agree_on, zip_length}
 use Rattle.vkg_lists.proofs.Walks.{flat_map-map}
 use Rattle.vkg_schema.specs.declared.table.Column.{Column}
-use Rattle.vkg_schema.specs.Meets.{FitsColumn, MeetsSchema, TableMeets}
+use Rattle.vkg_schema.specs.Meets.{FitsColumn, MeetsSchema}
 use Rattle.vkg_schema.specs.Rows.{Database, Row, rows_of}
+use Rattle.vkg_schema.proofs.RowFits.{row_of_table}
+use Rattle.vkg_maps.proofs.Kinds.{kinds_of}
 use Rattle.vkg_maps.specs.declared.mapping.Mapping.{Mapping}
 use Rattle.vkg_maps.specs.declared.quad_rule.QuadRule.{QuadRule}
 use Rattle.vkg_maps.specs.DataFaults.{data_faults}
@@ -25,20 +26,15 @@ use Rattle.vkg_row_rules.proofs.SoundRules.{listed_over, of_rules}
 
 -- ---- how wide rows are
 
-as_wide : (columns : List Column) (row : Row) → AllZip FitsColumn columns row → length (map (λ (c : Column). c.kind) columns) ≡ length row
-as_wide columns row h = length-map columns (λ (c : Column). c.kind) ∙ zip_length FitsColumn columns row h
-
-row_width : (whole : Database) (schema : Tables) (db : Database) → AllZip (TableMeets whole) schema db → (table : ℕ) (row : Row) → Contains (rows_of db table) row → length (kinds_at schema table) ≡ length row
-row_width whole [] [] h table row c = absurd (Contains-none row c)
-row_width whole [] (rs ∷ rss) h table row c = absurd h
-row_width whole (t ∷ ts) [] h table row c = absurd h
-row_width whole (t ∷ ts) (rs ∷ rss) h zero row c = as_wide t.columns row (each_from_recursion (AllZip FitsColumn t.columns) rs h.0.cells row c)
-row_width whole (t ∷ ts) (rs ∷ rss) h (suc table) row c = row_width whole ts rss h.1 table row c
+row_width : (schema : Tables) (db : Database) → MeetsSchema schema db → (table : ℕ) (row : Row) → Contains (rows_of db table) row → length (kinds_at schema table) ≡ length row
+row_width schema db meets table row c =
+    let r = row_of_table db schema db meets table row c in
+    ap length (kinds_of schema table r.0 r.1) ∙ length-map r.0.columns (λ (c : Column). c.kind) ∙ zip_length FitsColumn r.0.columns row r.2
 
 module _ (schema : Tables) (mapping : Mapping) (db : Database) (within : IsWithin schema mapping) (meets : MeetsSchema schema db) (faultless : data_faults mapping db ≡ []) where
   pub rule_sound : (rule : QuadRule) → Contains (quad_rules mapping) rule → IsSound mapping.base schema db rule
   rule_sound rule c = record {
-    width = row_width db schema db meets rule.table;
+    width = row_width schema db meets rule.table;
     terms = of_rules (IsFine mapping.base schema db) schema mapping within
         (λ table iri. record { over = record { columns = tt; narrow = refl }; made = λ row d. refl })
         (λ m is_map t d. record {

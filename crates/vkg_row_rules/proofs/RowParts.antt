@@ -1,9 +1,8 @@
 -- The rows of a rule over rows, and what its terms are there.
-use Rattle.std.proofs.Common.{◌≡◌, ◌∙◌, ℕ, List, [], ◌++◌, map, length, sym, ap, subst, append-nil}
+use Rattle.std.proofs.Common.{◌≡◌, ◌∙◌, ℕ, List, [], ◌++◌, map, sym, ap, subst, append-nil}
 use Rattle.std.specs.Prelude.{Option, Some, None, Contains}
 use Rattle.std.specs.List.{list_all}
 use Rattle.vkg_lists.proofs.Members.{Contains-from_filter, Contains-from_flat_map, Contains-from_map}
-use Rattle.vkg_cells.specs.declared.cell.SqlType.{SqlType}
 use Rattle.vkg_schema.specs.Rows.{Database, Row, rows_of as table_rows}
 use Rattle.vkg_maps.specs.declared.quad_rule.Join.{Join}
 use Rattle.vkg_maps.specs.declared.quad_rule.QuadRule.{QuadRule}
@@ -16,15 +15,11 @@ use Rattle.vkg_row_rules.specs.RowDataset.{conditions, rule_rows, term_at}
 use Rattle.vkg_row_rules.specs.RowRules.{object_term}
 use Rattle.vkg_row_rules.specs.RowTerms.{row_term}
 use Rattle.vkg_row_rules.proofs.RowTermValues.{row_term_value}
-use Rattle.vkg_row_rules.proofs.RuleQuads.{IsFine, IsSound, before, behind, rule}
-use Rattle.vkg_row_rules.proofs.SoundRules.{OfGraph, object_table}
+use Rattle.vkg_row_rules.proofs.RuleQuads.{GraphIs, IsSound, before, behind, graph_before, graph_of, rule}
+use Rattle.vkg_row_rules.proofs.SoundRules.{object_table}
 use Rattle.vkg_maps.specs.Within.{kinds_at}
 
 module _ (base : List ℕ) (schema : Tables) (db : Database) where
-  abbrev pub GraphIs : List SqlType → Option TermMap → Row → Row → Type 0
-  GraphIs ks None row child = Unit {0}
-  GraphIs ks (Some g) row child = term_at (row_term base ks g) row ≡ term_if_any (term_made base g child)
-
   -- of which rows a row is made, and that the terms are theirs
   pub record HasParts (rule : QuadRule) (row : Row) : Type 0 where
     pub child : Row
@@ -36,15 +31,7 @@ module _ (base : List ℕ) (schema : Tables) (db : Database) where
     pub subject : term_at (row_term base (kinds_at schema rule.table) rule.subject) row ≡ term_if_any (term_made base rule.subject child)
     pub predicate : term_at (row_term base (kinds_at schema rule.table) rule.predicate) row ≡ term_if_any (term_made base rule.predicate child)
     pub object : term_at (object_term base schema (kinds_at schema rule.table) rule.join rule.object) row ≡ term_if_any (term_made base rule.object other)
-    pub graph : GraphIs (kinds_at schema rule.table) rule.graph row child
-
-  graph_of : (table : ℕ) (g : Option TermMap) (row : Row) → Contains (table_rows db table) row → OfGraph (IsFine base schema db table) g → GraphIs (kinds_at schema table) g row row
-  graph_of table None row c h = tt
-  graph_of table (Some g) row c h = row_term_value base (kinds_at schema table) g row (h.made row c)
-
-  graph_before : (table : ℕ) (r s : Row) → length (kinds_at schema table) ≡ length r → (g : Option TermMap) → Contains (table_rows db table) r → OfGraph (IsFine base schema db table) g → GraphIs (kinds_at schema table) g (r ++ s) r
-  graph_before table r s width None c h = tt
-  graph_before table r s width (Some g) c h = before base (kinds_at schema table) r s width g h.over (h.made r c)
+    pub graph : GraphIs base (kinds_at schema rule.table) rule.graph row child
 
   module _ (table : ℕ) (subject predicate object : TermMap) (graph : Option TermMap) where
     parts_of : (join : Option Join) → IsSound base schema db (rule base schema db table subject predicate object graph join) → (row : Row) → Contains (rule_rows schema db table join) row
@@ -59,7 +46,7 @@ module _ (base : List ℕ) (schema : Tables) (db : Database) where
       subject = row_term_value base (kinds_at schema table) subject row (h.terms.subject.made row c);
       predicate = row_term_value base (kinds_at schema table) predicate row (h.terms.predicate.made row c);
       object = row_term_value base (kinds_at schema table) object row (h.terms.object.made row c);
-      graph = graph_of table graph row c h.terms.graph;
+      graph = graph_of base schema db table graph row c h.terms.graph;
     }
     parts_of (Some join) h row c =
         let rows = table_rows db table in
@@ -79,7 +66,7 @@ module _ (base : List ℕ) (schema : Tables) (db : Database) where
           subject = ap (term_at (row_term base ks subject)) (sym s.2) ∙ before base ks r.0 s.0 width subject h.terms.subject.over (h.terms.subject.made r.0 r.1);
           predicate = ap (term_at (row_term base ks predicate)) (sym s.2) ∙ before base ks r.0 s.0 width predicate h.terms.predicate.over (h.terms.predicate.made r.0 r.1);
           object = ap (term_at (object_term base schema ks (Some join) object)) (sym s.2) ∙ behind base ks r.0 s.0 width (kinds_at schema join.table) object (h.terms.object.made s.0 s.1);
-          graph = subst (λ w. GraphIs ks graph w r.0) s.2 (graph_before table r.0 s.0 width graph r.1 h.terms.graph);
+          graph = subst (λ w. GraphIs base ks graph w r.0) s.2 (graph_before base schema db table r.0 s.0 width graph r.1 h.terms.graph);
         }
 
   pub row_parts : (rule : QuadRule) → IsSound base schema db rule → (row : Row) → Contains (rule_rows schema db rule.table rule.join) row → HasParts rule row

@@ -1,7 +1,9 @@
 -- Where a term map has no data error, its expression's value is its term.
-use Rattle.std.proofs.Common.{◌≡◌, ◌∙◌, ℕ, Bool, true, false, List, [], ◌∷◌, map, refl, sym, ap, append-nil}
+use Rattle.std.proofs.Common.{◌≡◌, ◌∙◌, ℕ, Bool, true, false, List, [], ◌∷◌, map, refl, sym, ap}
 use Rattle.std.specs.Prelude.{Option, Some, None, option_map, if◌then◌else◌, Ok, Err}
+use Rattle.std.proofs.lemmas.Iterator.Adapters.{option_map_id}
 use Rattle.vkg_lists.specs.Options.{joined}
+use Rattle.vkg_lists.proofs.Onto.{joined_nil}
 use Rattle.vkg_terms.specs.declared.term.Annotation.TheVariants.{Plain, Lang, Typed}
 use Rattle.vkg_terms.specs.declared.term.Term.{Term}
 use Rattle.vkg_terms.specs.declared.term.Term.TheVariants.{Iri, Blank, Lit}
@@ -32,10 +34,6 @@ use Rattle.vkg_row_rules.specs.RowTerms.{piece_of, row_term, sort_of}
 -- no data error
 abbrev pub IsMade : Made → Type 0
 IsMade m = fault_of m ≡ []
-
-same_text : (o : Option (List ℕ)) → o ≡ option_map (λ s. s) o
-same_text None = refl
-same_text (Some s) = refl
 
 -- ---- the term of a text
 
@@ -74,10 +72,6 @@ made_text (sort.Literal a) e row = term_back (option_map (λ s. Lit s a) (text_o
 
 -- ---- the text of a template
 
-joined_last : (a : Option (List ℕ)) → a ≡ joined a (Some [])
-joined_last None = refl
-joined_last (Some s) = ap Some (sym (append-nil s))
-
 module _ (ks : List SqlType) (row : Row) where
   piece_value : (t : TermType) (p : TemplatePiece) → text_of (value_of (piece_expr (sort_of t) (piece_of ks p)) row) ≡ piece_text t row p
   piece_value sort.Iri (piece.Fixed s) = refl
@@ -88,8 +82,8 @@ module _ (ks : List SqlType) (row : Row) where
       of : (o : Option (List ℕ)) → text_of (text_cell (option_map safe (text_of (text_cell o)))) ≡ option_map safe o
       of None = refl
       of (Some s) = refl
-  piece_value sort.Blank (piece.Column c) = text_back (lexical_form (cell_at row c)) ∙ same_text (lexical_form (cell_at row c))
-  piece_value (sort.Literal a) (piece.Column c) = text_back (lexical_form (cell_at row c)) ∙ same_text (lexical_form (cell_at row c))
+  piece_value sort.Blank (piece.Column c) = text_back (lexical_form (cell_at row c)) ∙ sym (option_map_id (lexical_form (cell_at row c)))
+  piece_value (sort.Literal a) (piece.Column c) = text_back (lexical_form (cell_at row c)) ∙ sym (option_map_id (lexical_form (cell_at row c)))
 
   concat_value : (t : TermType) (ps : List TemplatePiece) → concat_of (values_of (exprs (map (piece_expr (sort_of t)) (map (piece_of ks) ps))) row) ≡ template_value t row ps
   concat_value t [] = refl
@@ -99,7 +93,7 @@ module _ (ks : List SqlType) (row : Row) where
 
   pieces_value : (t : TermType) (ps : List TemplatePiece) → text_of (value_of (pieces_expr (sort_of t) (map (piece_of ks) ps)) row) ≡ template_value t row ps
   pieces_value t [] = refl
-  pieces_value t (p ∷ []) = piece_value t p ∙ joined_last (piece_text t row p)
+  pieces_value t (p ∷ []) = piece_value t p ∙ sym (joined_nil (piece_text t row p))
   pieces_value t (p ∷ q ∷ ps) =
       text_back (concat_of (values_of (exprs (map (piece_expr (sort_of t)) (map (piece_of ks) (p ∷ q ∷ ps)))) row)) ∙ concat_value t (p ∷ q ∷ ps)
 
@@ -117,12 +111,12 @@ row_term_value base ks (from.Column c sort.Iri) row h =
 row_term_value base ks (from.Column c sort.Blank) row h =
     let form = lexical_form (cell_at row c) in
     made_text sort.Blank (Lex (Col c)) row
-    ∙ ap (option_map (of_text sort.Blank)) (text_back form ∙ same_text form)
+    ∙ ap (option_map (of_text sort.Blank)) (text_back form ∙ sym (option_map_id form))
     ∙ sym (where_text sort.Blank (option_map (maps.against base sort.Blank) form) h)
 row_term_value base ks (from.Column c (sort.Literal a)) row h =
     let form = lexical_form (cell_at row c) in
     made_text (sort.Literal a) (Lex (Col c)) row
-    ∙ ap (option_map (of_text (sort.Literal a))) (text_back form ∙ same_text form)
+    ∙ ap (option_map (of_text (sort.Literal a))) (text_back form ∙ sym (option_map_id form))
     ∙ sym (where_text (sort.Literal a) (option_map (maps.against base (sort.Literal a)) form) h)
 row_term_value base ks (from.Template ps t) row h =
     made_text t (pieces_expr (sort_of t) (map (piece_of ks) ps)) row

@@ -1,12 +1,12 @@
 -- The quads of a rule over rows are those of the quad rule, where its term maps make no data error.
-use Rattle.std.proofs.Common.{◌≡◌, ◌∙◌, ℕ, ◌<◌, Bool, List, [], ◌∷◌, ◌++◌, map, length, refl, sym, ap, subst}
-use Rattle.std.specs.Prelude.{Option, Some, None, option_map, filter, flat_map, filter_map, Contains}
+use Rattle.std.proofs.Common.{◌≡◌, ◌∙◌, ℕ, ◌<◌, Bool, List, [], ◌++◌, map, length, refl, sym, ap, subst}
+use Rattle.std.specs.Prelude.{Option, Some, None, IfSome, option_map, filter, filter_map, Contains}
 use Rattle.std.specs.Option.{option_to_list}
 use Rattle.std.specs.List.{list_all, cons_option, AllByRecursion}
-use Rattle.std.proofs.lemmas.List.Elements.{filter_map-append}
 use Rattle.vkg_lists.specs.Lists.{AllBelow}
-use Rattle.vkg_lists.proofs.Members.{Contains-here, Contains-there, Contains-from_filter, flat_map_agree_on}
-use Rattle.vkg_lists.proofs.Walks.{filter_map_is_flat_map, filter-flat_map, filter-map, filter_map-map}
+use Rattle.vkg_lists.proofs.Each.{recursion_weaken}
+use Rattle.vkg_lists.proofs.Members.{Contains-from_filter, flat_map_agree_on, filter_map_agree_on}
+use Rattle.vkg_lists.proofs.Walks.{filter_map_is_flat_map, filter-flat_map, filter-map, filter_map-map, filter_map-flat_map}
 use Rattle.vkg_terms.specs.NQuads.{Quad}
 use Rattle.vkg_cells.specs.declared.cell.SqlType.{SqlType}
 use Rattle.vkg_schema.specs.Rows.{Database, Row, rows_of as table_rows, agree}
@@ -28,16 +28,6 @@ use Rattle.vkg_row_rules.proofs.SoundRules.{OfGraph, OfRule}
 
 -- ---- walks
 
-module _ {A B C : Type 0} where
-  filter_map-flat_map : (f : B → Option C) (g : A → List B) (xs : List A) → filter_map f (flat_map g xs) ≡ flat_map (λ x. filter_map f (g x)) xs
-  filter_map-flat_map f g [] = refl
-  filter_map-flat_map f g (x ∷ xs) = filter_map-append f (g x) (flat_map g xs) ∙ ap (λ l. filter_map f (g x) ++ l) (filter_map-flat_map f g xs)
-
-module _ {A B : Type 0} where
-  filter_map_agree_on : (f g : A → Option B) (xs : List A) → ((x : A) → Contains xs x → f x ≡ g x) → filter_map f xs ≡ filter_map g xs
-  filter_map_agree_on f g [] h = refl
-  filter_map_agree_on f g (x ∷ xs) h = λ i. cons_option (h x (Contains-here x xs) i) (filter_map_agree_on f g xs (λ y c. h y (Contains-there x xs y c)) i)
-
 list_of : {B : Type 0} (o : Option B) → option_to_list o ≡ cons_option o []
 list_of None = refl
 list_of (Some b) = refl
@@ -54,10 +44,6 @@ module _ (base : List ℕ) (schema : Tables) (db : Database) where
     pub width : (row : Row) → Contains (table_rows db rule.table) row → length (kinds_at schema rule.table) ≡ length row
     pub terms : OfRule IsFine schema rule
 
-  graph_value : (table : ℕ) (g : Option TermMap) (row : Row) → Contains (table_rows db table) row → OfGraph (IsFine table) g → graph_at (option_map (row_term base (kinds_at schema table)) g) row ≡ target base g row
-  graph_value table None row c h = refl
-  graph_value table (Some g) row c h = ap (option_map graph_name) (row_term_value base (kinds_at schema table) g row (h.made row c))
-
 -- ---- the terms of the child, in a row with another behind it
 
 module _ (base : List ℕ) (ks : List SqlType) (r s : Row) (width : length ks ≡ length r) where
@@ -69,10 +55,25 @@ module _ (base : List ℕ) (ks : List SqlType) (r s : Row) (width : length ks �
   pub behind : (ls : List SqlType) (t : TermMap) → IsMade (term_made base t s) → term_at (moved_term (length ks) (row_term base ls t)) (r ++ s) ≡ term_if_any (term_made base t s)
   behind ls t m = ap term_of (term_behind r s (length ks) width (row_term base ls t)) ∙ row_term_value base ls t s m
 
-graph_before : (base : List ℕ) (schema : Tables) (db : Database) (table : ℕ) (r s : Row) → length (kinds_at schema table) ≡ length r → (g : Option TermMap) → Contains (table_rows db table) r → OfGraph (IsFine base schema db table) g →
-    graph_at (option_map (row_term base (kinds_at schema table)) g) (r ++ s) ≡ target base g r
-graph_before base schema db table r s width None c h = refl
-graph_before base schema db table r s width (Some g) c h = ap (option_map graph_name) (before base (kinds_at schema table) r s width g h.over (h.made r c))
+-- ---- the term of the graph, if there is one
+
+module _ (base : List ℕ) (ks : List SqlType) where
+  -- what it is on a row is what it is on the child's
+  abbrev pub GraphIs : Option TermMap → Row → Row → Type 0
+  GraphIs o row child = IfSome o (λ g. term_at (row_term base ks g) row ≡ term_if_any (term_made base g child))
+
+  graph_same : (g : Option TermMap) (row child : Row) → GraphIs g row child → graph_at (option_map (row_term base ks) g) row ≡ target base g child
+  graph_same None row child h = refl
+  graph_same (Some g) row child h = ap (option_map graph_name) h
+
+module _ (base : List ℕ) (schema : Tables) (db : Database) (table : ℕ) where
+  pub graph_of : (g : Option TermMap) (row : Row) → Contains (table_rows db table) row → OfGraph (IsFine base schema db table) g → GraphIs base (kinds_at schema table) g row row
+  graph_of None row c h = tt
+  graph_of (Some g) row c h = row_term_value base (kinds_at schema table) g row (h.made row c)
+
+  pub graph_before : (r s : Row) → length (kinds_at schema table) ≡ length r → (g : Option TermMap) → Contains (table_rows db table) r → OfGraph (IsFine base schema db table) g → GraphIs base (kinds_at schema table) g (r ++ s) r
+  graph_before r s width None c h = tt
+  graph_before r s width (Some g) c h = before base (kinds_at schema table) r s width g h.over (h.made r c)
 
 module _ (base : List ℕ) (schema : Tables) (db : Database) (table : ℕ) (subject predicate object : TermMap) (graph : Option TermMap) where
   abbrev pub rule : Option Join → QuadRule
@@ -101,7 +102,7 @@ module _ (base : List ℕ) (schema : Tables) (db : Database) (table : ℕ) (subj
           (row_term_value base ks subject row (h.terms.subject.made row c) i)
           (row_term_value base ks predicate row (h.terms.predicate.made row c) i)
           (row_term_value base ks object row (h.terms.object.made row c) i)
-          (graph_value base schema db table graph row c h.terms.graph i)) [])
+          (graph_same base ks graph row row (graph_of base schema db table graph row c h.terms.graph) i)) [])
 
   -- of the pairs of rows that agree
   module _ (join : Join) (h : IsSound base schema db (rule (Some join))) where
@@ -118,15 +119,14 @@ module _ (base : List ℕ) (schema : Tables) (db : Database) (table : ℕ) (subj
         ∙ ap (filter_map (λ s. quad (Some join) (r ++ s))) (λ i. filter (λ s. agreed s i) others)
         ∙ filter_map_agree_on (λ s. quad (Some join) (r ++ s)) (quad_of base (rule (Some join)) r) (filter (agree join.conditions r) others) each
       where
-        children : (cs : List (ℕ × ℕ)) → AllByRecursion (IsCondition ks (kinds_at schema join.table)) cs → AllByRecursion (λ (c : ℕ × ℕ). c.0 < length ks) cs
-        children [] h = tt
-        children (c ∷ cs) h = (h.0.of_child, children cs h.1)
+        children : AllByRecursion (λ (c : ℕ × ℕ). c.0 < length ks) join.conditions
+        children = recursion_weaken (IsCondition ks (kinds_at schema join.table)) (λ (c : ℕ × ℕ). c.0 < length ks) join.conditions (λ c k. k.of_child) h.terms.joined.1
 
         width : length ks ≡ length r
         width = h.width r c
 
         agreed : (s : Row) → agrees (r ++ s) ≡ agree join.conditions r s
-        agreed s = conditions_hold r s (length ks) width join.conditions (subst (λ n. AllByRecursion (λ (c : ℕ × ℕ). c.0 < n) join.conditions) width (children join.conditions h.terms.joined.1))
+        agreed s = conditions_hold r s (length ks) width join.conditions (subst (λ n. AllByRecursion (λ (c : ℕ × ℕ). c.0 < n) join.conditions) width children)
 
         each : (s : Row) → Contains (filter (agree join.conditions r) others) s → quad (Some join) (r ++ s) ≡ quad_of base (rule (Some join)) r s
         each s d =
@@ -135,7 +135,7 @@ module _ (base : List ℕ) (schema : Tables) (db : Database) (table : ℕ) (subj
             (before base ks r s width subject h.terms.subject.over (h.terms.subject.made r c) i)
             (before base ks r s width predicate h.terms.predicate.over (h.terms.predicate.made r c) i)
             (behind base ks r s width (kinds_at schema join.table) object (h.terms.object.made s of_parent) i)
-            (graph_before base schema db table r s width graph c h.terms.graph i)
+            (graph_same base ks graph (r ++ s) r (graph_before base schema db table r s width graph c h.terms.graph) i)
 
     paired : quads_of schema db (row_rule base schema (rule (Some join))) ≡ quads_of_rule base db (rule (Some join))
     paired =

@@ -1,8 +1,9 @@
 -- What is known of the quad rules of a mapping that is within its schema.
 use Rattle.std.proofs.Common.{◌≡◌, ℕ, ◌<◌, ◌⊎◌, inl, inr, ⊎_elim, List, [], ◌∷◌, ◌++◌, map, length, refl, sym, subst}
-use Rattle.std.specs.Prelude.{Option, Some, None, Contains, flat_map, slice_get, unwrap_or}
+use Rattle.std.specs.Prelude.{Option, Some, None, IfSome, Contains, flat_map, slice_get, unwrap_or}
 use Rattle.std.specs.List.{AllByRecursion}
 use Rattle.std.proofs.lemmas.List.Elements.{Contains-append_cases, Contains-append_left, Contains-append_right}
+use Rattle.vkg_lists.proofs.Positions.{get_member}
 use Rattle.vkg_lists.proofs.Members.{Contains-none, Contains-here, Contains-there, Contains-cons_cases, Contains-map, Contains-from_map, Contains-flat_map, Contains-from_flat_map, each_from_recursion}
 use Rattle.vkg_terms.specs.declared.term.Term.TheVariants.{Iri}
 use Rattle.vkg_terms.specs.Vocabulary.{rdf_type}
@@ -19,7 +20,6 @@ use Rattle.vkg_maps.specs.DataFaults.{asked, term_maps, pair_maps}
 use Rattle.vkg_maps.specs.QuadRules.{class_map, map_rules, object_rule, parent_of, predicate_object_rules, quad_rules, targets}
 use Rattle.vkg_plan.specs.Kinds.{Tables}
 use Rattle.vkg_maps.specs.Within.{AreConditions, IsCondition, IsMapWithin, IsObjectWithin, IsOver, IsPairWithin, IsWithin, kinds_at}
-use Rattle.vkg_maps.proofs.Members.{in_list}
 
 -- the table whose rows give the object
 abbrev pub object_table : ℕ → Option Join → ℕ
@@ -28,13 +28,11 @@ object_table table (Some join) = join.table
 
 -- what holds of the graph's term map, if there is one
 abbrev pub OfGraph : (TermMap → Type 0) → Option TermMap → Type 0
-OfGraph P None = Unit {0}
-OfGraph P (Some g) = P g
+OfGraph P o = IfSome o P
 
 -- the parent's table and the columns of the conditions are there
 abbrev pub AreJoined : Tables → ℕ → Option Join → Type 0
-AreJoined schema table None = Unit {0}
-AreJoined schema table (Some join) = (join.table < length schema) × AllByRecursion (IsCondition (kinds_at schema table) (kinds_at schema join.table)) join.conditions
+AreJoined schema table o = IfSome o (λ join. (join.table < length schema) × AllByRecursion (IsCondition (kinds_at schema table) (kinds_at schema join.table)) join.conditions)
 
 -- what holds of the term maps of a rule, each over its table
 pub record OfRule (P : ℕ → TermMap → Type 0) (schema : Tables) (rule : QuadRule) : Type 0 where
@@ -52,7 +50,7 @@ parent_is maps m k c = of (slice_get maps k) refl
   where
     of : (o : Option TriplesMap) → slice_get maps k ≡ o → Contains maps (unwrap_or o m)
     of None e = c
-    of (Some p) e = in_list maps k p e
+    of (Some p) e = get_member maps k p e
 
 target_is : (gs : List TermMap) (t : Option TermMap) → Contains (targets gs) t → (t ≡ None) ⊎ ((g : TermMap) × Contains gs g × (t ≡ Some g))
 target_is [] t c = ⊎_elim (λ e. inl (sym e)) (λ d. absurd (Contains-none t d)) (Contains-cons_cases None [] t c)

@@ -34,10 +34,12 @@ abbrev pub graph_at : Option TermExpr → Row → Option (Option Term)
 graph_at None row = Some None
 graph_at (Some e) row = option_map graph_name (term_at e row)
 
+-- the quad of a row, if it has one
+abbrev pub quad_at : RowRule → Row → Option Quad
+quad_at rule row = quad_from (term_at rule.subject row) (term_at rule.predicate row) (term_at rule.object row) (graph_at rule.graph row)
+
 abbrev pub quads_of : Tables → Database → RowRule → List Quad
-quads_of schema db rule =
-    filter_map (λ row. quad_from (term_at rule.subject row) (term_at rule.predicate row) (term_at rule.object row) (graph_at rule.graph row))
-    (rule_rows schema db rule.table rule.join)
+quads_of schema db rule = filter_map (quad_at rule) (rule_rows schema db rule.table rule.join)
 
 -- the quads of all rules, one after another
 abbrev pub all_quads : Tables → List RowRule → Database → List Quad

@@ -1,18 +1,17 @@
 -- What no check finds, where the first fault is none.
-use Rattle.std.proofs.Common.{◌≡◌, ℕ, Bool, true, false, not, Option, Some, None, List, [], ◌∷◌, refl}
-use Rattle.std.specs.Prelude.{fold}
+use Rattle.std.proofs.Common.{◌≡◌, ℕ, Bool, true, false, not, Option, Some, None, List, refl}
 use Rattle.std.specs.List.{AllByRecursion}
-use Rattle.vkg_lists.proofs.Places.{lesser-both_none}
+use Rattle.vkg_lists.proofs.Each.{recursion_weaken}
+use Rattle.vkg_lists.proofs.Places.{least_of-each}
 use Rattle.vkg_lists.proofs.Bools.{not_false}
 use Rattle.vkg_ddl.specs.declared.name.Name.{Name}
 use Rattle.vkg_ddl.specs.declared.written.WrittenColumn.{WrittenColumn}
 use Rattle.vkg_ddl.specs.declared.written.WrittenTable.{WrittenTable}
-use Rattle.vkg_lists.specs.Places.{lesser, least_of, place_if}
+use Rattle.vkg_lists.specs.Places.{place_if}
 use Rattle.vkg_ddl.specs.NameChecks.{table_twice, column_twice, key_column_unknown, key_column_twice, primary_twice, table_unknown, names_column, unknown_column, unknown_columns}
 use Rattle.vkg_ddl.specs.TypeChecks.{type_unknown, precision_wrong}
 use Rattle.vkg_ddl.specs.ReferenceChecks.{columns_wrong, no_key, families_differ}
 use Rattle.vkg_ddl.specs.FirstFault.{failed, first_fault}
-use Rattle.vkg_schema.proofs.Found.{all_weaken}
 
 -- the checks on which the form and the names of a schema rest
 pub record IsFaultless (tables : List WrittenTable) : Type 0 where
@@ -42,16 +41,6 @@ faultless tables e =
     let r13 = passed 13 (families_differ tables) _ r12.1 in
     record { names_once = r3.0; columns_known = r7.0; tables_known = r10.0; columns_right = r11.0; to_keys = r12.0; comparable = r13.0 }
 
-none_from : {A : Type 0} (place : A → Option ℕ) (xs : List A) (best : Option ℕ) → fold (λ b x. lesser b (place x)) best xs ≡ None → (best ≡ None) × AllByRecursion (λ x. place x ≡ None) xs
-none_from place [] best e = (e, tt)
-none_from place (x ∷ xs) best e =
-    let r = none_from place xs (lesser best (place x)) e in
-    let l = lesser-both_none best (place x) r.0 in
-    (l.0, (l.1, r.1))
-
-pub none_of : {A : Type 0} (place : A → Option ℕ) (xs : List A) → least_of place xs ≡ None → AllByRecursion (λ x. place x ≡ None) xs
-none_of place xs e = (none_from place xs None e).1
-
 pub nowhere : (fails : Bool) (at : ℕ) → place_if fails at ≡ None → fails ≡ false
 nowhere true at e = absurd (cc)
 nowhere false at e = refl
@@ -61,4 +50,4 @@ abbrev pub AreKnown : List WrittenColumn → List Name → Type 0
 AreKnown columns names = AllByRecursion (λ n. names_column columns n ≡ true) names
 
 pub known : (columns : List WrittenColumn) (names : List Name) → unknown_columns columns names ≡ None → AreKnown columns names
-known columns names e = all_weaken (λ n. unknown_column columns n ≡ None) (λ n. names_column columns n ≡ true) names (λ n q. not_false (names_column columns n) (nowhere (not (names_column columns n)) n.at q)) (none_of (unknown_column columns) names e)
+known columns names e = recursion_weaken (λ n. unknown_column columns n ≡ None) (λ n. names_column columns n ≡ true) names (λ n q. not_false (names_column columns n) (nowhere (not (names_column columns n)) n.at q)) (least_of-each (unknown_column columns) names e)

@@ -4,6 +4,9 @@ use Rattle.std.specs.Prelude.{find, slice_get, unwrap_or, option_map, IfSome, Is
 use Rattle.std.specs.List.{list_any, AllByRecursion, Contains}
 use Rattle.std.proofs.lemmas.List.{length-map}
 use Rattle.std.proofs.lemmas.Option.{slice_get-map}
+use Rattle.vkg_lists.proofs.Nothing.{map_nothing}
+use Rattle.vkg_lists.proofs.Each.{recursion_weaken, recursion_map}
+use Rattle.vkg_lists.proofs.Positions.{Found, found, any_from_member}
 use Rattle.vkg_lists.proofs.Bools.{or_right, and_true}
 use Rattle.vkg_cells.specs.declared.cell.SqlType.TheVariants as kind
 use Rattle.vkg_ddl.specs.declared.name.Name.{Name}
@@ -17,7 +20,6 @@ use Rattle.vkg_lists.proofs.Members.{each_from_recursion, recursion_from_each}
 use Rattle.vkg_schema.specs.Meets.{IsColumn, IsKey}
 use Rattle.vkg_schema.specs.Resolve.{is_primary, column_at, columns_at, place_of, key_at, table_at}
 use Rattle.vkg_schema.proofs.Faultless.{AreKnown}
-use Rattle.vkg_schema.proofs.Found.{Found, found, any_from_member, all_weaken, all_map, map_none}
 
 kinds : (a b c d e f g : Bool) → unwrap_or (cond a (Some kind.Text) (cond b (Some kind.Int) (cond c (Some kind.Dec) (cond d (Some kind.Bool) (cond e (Some kind.Date) (cond f (Some kind.Stamp) (cond g (Some kind.Bin) None))))))) kind.Text ≢ kind.Term
 kinds true b c d e f g = λ q. cc
@@ -63,8 +65,8 @@ if_some P o x e p = subst (λ y. IfSome y P) (sym e) p
 
 module _ (tables : List WrittenTable) (t : WrittenTable) where
   places_inside : (names : List Name) → AreKnown t.columns names → AllByRecursion (λ k. k < length (columns_at t.keys t.columns)) (map (place_of t.columns) names)
-  places_inside names known = all_map (λ k. k < length (columns_at t.keys t.columns)) (place_of t.columns) names
-      (all_weaken (λ n. names_column t.columns n ≡ true) (λ n. place_of t.columns n < length (columns_at t.keys t.columns)) names (λ n e. let m : Means t.keys t.columns n (meant t.keys t.columns n e).0 = (meant t.keys t.columns n e).1 in m.inside) known)
+  places_inside names known = recursion_map (λ k. k < length (columns_at t.keys t.columns)) (place_of t.columns) names
+      (recursion_weaken (λ n. names_column t.columns n ≡ true) (λ n. place_of t.columns n < length (columns_at t.keys t.columns)) names (λ n e. let m : Means t.keys t.columns n (meant t.keys t.columns n e).0 = (meant t.keys t.columns n e).1 in m.inside) known)
 
   primary_kept : (k : WrittenKey) (n : Name) (c : WrittenColumn) → Contains t.keys k → Contains k.columns n → k.primary ≡ true → matches n c.name ≡ true → (c.not_null || is_primary t.keys c) ≡ true
   primary_kept k n c km nm p e =
@@ -73,9 +75,9 @@ module _ (tables : List WrittenTable) (t : WrittenTable) where
 
   pub key_form : (k : WrittenKey) → AreKnown t.columns k.columns → HasColumns k → Contains t.keys k → IsKey (table_at tables t) (key_at t.columns k)
   key_form k known some km = record {
-    some = λ e. some (map_none (place_of t.columns) k.columns e);
+    some = λ e. some (map_nothing (place_of t.columns) k.columns e);
     columns = places_inside k.columns known;
-    primary = λ p. all_map (λ i. IfSome (slice_get (columns_at t.keys t.columns) i) (λ c. IsTrue c.not_null)) (place_of t.columns) k.columns
+    primary = λ p. recursion_map (λ i. IfSome (slice_get (columns_at t.keys t.columns) i) (λ c. IsTrue c.not_null)) (place_of t.columns) k.columns
         (recursion_from_each (λ n. IfSome (slice_get (columns_at t.keys t.columns) (place_of t.columns n)) (λ c. IsTrue c.not_null)) k.columns (λ n nm.
         let e : names_column t.columns n ≡ true = each_from_recursion (λ m. names_column t.columns m ≡ true) k.columns known n nm in
         let c : WrittenColumn = (meant t.keys t.columns n e).0 in

@@ -2,10 +2,10 @@ pub mod Failing
 pub mod Faultless
 pub mod Fitting
 pub mod Forms
-pub mod Found
 pub mod One
 pub mod OwnNames
 pub mod Ranges
 pub mod RowCells
+pub mod RowFits
 pub mod Targets
 pub mod WellFormed

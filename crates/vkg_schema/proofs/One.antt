@@ -1,8 +1,7 @@
 -- There is one answer.
 use Rattle.std.proofs.Common.{◌≡◌, ℕ, List, [], ◌∷◌, Option, Some, None, ap, sym, ◌∙◌, subst}
 use Rattle.vkg_grammar.specs.Grammar.{Derives}
-use Rattle.vkg_grammar.specs.Parsing.{NoTextAt}
-use Rattle.vkg_grammar.proofs.Outcomes.{same_tokens, same_place, not_tokens, no_text as no_text_at, one_place}
+use Rattle.vkg_grammar.proofs.Outcomes.{same_tokens, same_place, not_tokens, derived_no_text, no_text_once}
 use Rattle.vkg_ddl.specs.declared.grammar_table.TheConstants.{DDL}
 use Rattle.vkg_ddl.specs.declared.written.WrittenTable.{WrittenTable}
 use Rattle.vkg_ddl.specs.FirstFault.{first_fault}
@@ -22,13 +21,10 @@ one_text {text = text} a b =
     a.said ∙ (λ i. written_of (sym n i) (names_of text (sym t i)) []) ∙ sym b.said
 
 no_said : {text : List ℕ} {d : List WrittenTable} {at : ℕ} → Says text d → IsNoText text at → ⊥
-no_said a b =
-    let t : b.tokens ≡ a.tokens = same_tokens b.cut a.cut in
-    let d : Derives DDL (0 ∷ []) (kinds_of b.tokens) a.notes = subst (λ ts. Derives DDL (0 ∷ []) (kinds_of ts) a.notes) (sym t) a.derived.derives in
-    no_text_at DDL _ b.tokens a.notes _ d b.place
+no_said {text = text} a b = derived_no_text DDL text a.cut b.cut a.derived.derives b.place
 
 one_no_text : {text : List ℕ} {a b : ℕ} → IsNoText text a → IsNoText text b → a ≡ b
-one_no_text {text = text} {a = a} {b = b} x y = one_place DDL text x.tokens a b x.place (subst (λ ts. NoTextAt DDL text ts b) (same_tokens y.cut x.cut) y.place)
+one_no_text {text = text} x y = no_text_once DDL text x.cut y.cut x.place y.place
 
 one_check : {o : Option (ℕ × ℕ)} {c d : ℕ} {a b : ℕ} → o ≡ Some (c, a) → o ≡ Some (d, b) → fault c a ≡ fault d b
 one_check {c = c} {d = d} {a = a} {b = b} e f = let same : ◌≡◌ {A = ℕ × ℕ} (c, a) (d, b) = cc in ap (λ p. fault p.0 p.1) same

@@ -12,6 +12,7 @@ use Rattle.std.proofs.lemmas.List.FromFn.{get_or-range_with_len, length-range_wi
 use Rattle.std.proofs.lemmas.Option.{slice_get-get_or, slice_get-map, slice_get_cases}
 use Rattle.std.proofs.lemmas.Str.{IsUtf8-nil}
 use Rattle.std.proofs.lemmas.Slice.Eq.{bytes_eq-Decides}
+use Rattle.vkg_lists.proofs.Places.{least_of-each}
 use Rattle.vkg_lists.proofs.Members.{each_from_recursion}
 use Rattle.vkg_ddl.specs.declared.written.WrittenTable.{WrittenTable}
 use Rattle.vkg_ddl.specs.FirstFault.{first_fault}
@@ -20,7 +21,7 @@ use Rattle.vkg_schema.specs.declared.table.Table.{Table}
 use Rattle.vkg_schema.specs.Meets.{IsTable, IsWellFormed}
 use Rattle.vkg_schema.specs.Names.{HasOwnNames, table_name}
 use Rattle.vkg_schema.specs.Resolve.{schema_of, table_at}
-use Rattle.vkg_schema.proofs.Faultless.{IsFaultless, faultless, none_of, nowhere}
+use Rattle.vkg_schema.proofs.Faultless.{IsFaultless, faultless, nowhere}
 
 module _ (tables : List WrittenTable) (d : WrittenTable) (once : table_twice tables ≡ None) where
   abbrev named : ℕ → List ℕ
@@ -32,7 +33,7 @@ module _ (tables : List WrittenTable) (d : WrittenTable) (once : table_twice tab
       let places = range_with_len 0 (length tables) in
       let from_zero : 0 + j ≡ j = omega arith in
       let there : Contains places j = subst (Contains places) (get_or-range_with_len 0 (length tables) j 0 h ∙ from_zero) (Contains-get_or places j 0 (subst (λ n. j < n) (sym (length-range_with_len 0 (length tables))) h)) in
-      let fine = each_from_recursion (λ i. table_again tables (slice_get tables i) i ≡ None) places (none_of (λ i. table_again tables (slice_get tables i) i) places once) j there in
+      let fine = each_from_recursion (λ i. table_again tables (slice_get tables i) i ≡ None) places (least_of-each (λ i. table_again tables (slice_get tables i) i) places once) j there in
       nowhere (list_any (λ u. same_name (get_or tables j d).name u.name) (take j tables)) (get_or tables j d).name.at (subst (λ o. table_again tables o j ≡ None) (slice_get-get_or tables j d h) fine)
 
   not_before : (i j : ℕ) → i < j → j < length tables → named i ≡ named j → ⊥

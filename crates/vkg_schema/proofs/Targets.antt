@@ -6,6 +6,9 @@ use Rattle.std.proofs.lemmas.Bool.{eqb-true}
 use Rattle.std.proofs.lemmas.List.{length-map, nil_from_length}
 use Rattle.std.proofs.lemmas.List.FromFn.{length-range_with_len}
 use Rattle.std.proofs.lemmas.Option.{slice_get-map}
+use Rattle.vkg_lists.proofs.Nothing.{map_nothing}
+use Rattle.vkg_lists.proofs.Each.{recursion_map, each_below, below_range, recursion_fails}
+use Rattle.vkg_lists.proofs.Positions.{Found, found, any_mapped, all_mapped, get_below}
 use Rattle.vkg_lists.proofs.Bools.{not_false, and_parts}
 use Rattle.vkg_cells.specs.Order.{family}
 use Rattle.vkg_ddl.specs.declared.name.Name.{Name}
@@ -24,7 +27,6 @@ use Rattle.vkg_schema.specs.Meets.{same_columns as same_places, child_columns, p
 use Rattle.vkg_schema.specs.Resolve.{column_at, columns_at, place_of, places_of, key_at, keys_at, table_place, place_at, pair_at, pairs_at, pairs_to, reference_at, table_at, schema_of}
 use Rattle.vkg_schema.proofs.Faultless.{AreKnown, known, nowhere}
 use Rattle.vkg_schema.proofs.Forms.{Means, meant, if_some}
-use Rattle.vkg_schema.proofs.Found.{Found, found, all_map, map_none, each_below, below_range, any_false, any_placed, all_placed, get_below}
 
 -- what a list says by its places
 by_place : {A B : Type 0} (g : ℕ → B) (h : A → B) (a : ℕ) (xs : List A) → ((k : ℕ) (x : A) → slice_get xs k ≡ Some x → g (a + k) ≡ h x) → map g (range_with_len a (length xs)) ≡ map h xs
@@ -46,8 +48,8 @@ one_same columns a b e = go (column_place columns a) (column_place columns b) e
 same_placed : (columns : List WrittenColumn) (xs ys : List Name) → same_columns columns xs ys ≡ true → same_places (places_of columns xs) (places_of columns ys) ≡ true
 same_placed columns xs ys e =
     let r = and_parts (list_all (λ x. list_any (one_column columns x) ys) xs) (list_all (λ y. list_any (one_column columns y) xs) ys) e in
-    let left : list_all (λ i. list_any (nat_eq i) (places_of columns ys)) (places_of columns xs) ≡ true = all_placed (λ x. list_any (one_column columns x) ys) (λ i. list_any (nat_eq i) (places_of columns ys)) (place_of columns) xs (λ x q. any_placed (one_column columns x) (nat_eq (place_of columns x)) (place_of columns) ys (one_same columns x) q) r.0 in
-    let right : list_all (λ i. list_any (nat_eq i) (places_of columns xs)) (places_of columns ys) ≡ true = all_placed (λ y. list_any (one_column columns y) xs) (λ i. list_any (nat_eq i) (places_of columns xs)) (place_of columns) ys (λ y q. any_placed (one_column columns y) (nat_eq (place_of columns y)) (place_of columns) xs (one_same columns y) q) r.1 in
+    let left : list_all (λ i. list_any (nat_eq i) (places_of columns ys)) (places_of columns xs) ≡ true = all_mapped (λ x. list_any (one_column columns x) ys) (λ i. list_any (nat_eq i) (places_of columns ys)) (place_of columns) xs (λ x q. any_mapped (one_column columns x) (nat_eq (place_of columns x)) (place_of columns) ys (one_same columns x) q) r.0 in
+    let right : list_all (λ i. list_any (nat_eq i) (places_of columns xs)) (places_of columns ys) ≡ true = all_mapped (λ y. list_any (one_column columns y) xs) (λ i. list_any (nat_eq i) (places_of columns xs)) (place_of columns) ys (λ y q. any_mapped (one_column columns y) (nat_eq (place_of columns y)) (place_of columns) xs (one_same columns y) q) r.1 in
     (λ i. left i && right i)
 
 -- the right side of a foreign key without a fault
@@ -106,15 +108,15 @@ module _ (tables : List WrittenTable) (t u : WrittenTable) (r : WrittenReference
       (g.0, g.1, m.0, m.1)
 
   children : AllByRecursion (λ k. k < length (columns_at t.keys t.columns)) (child_columns plain)
-  children = all_map (λ k. k < length (columns_at t.keys t.columns)) (λ p. p.0) pairs
-      (all_map (λ p. p.0 < length (columns_at t.keys t.columns)) (pair_at t.columns u.columns r.columns right) (range_with_len 0 (length r.columns))
+  children = recursion_map (λ k. k < length (columns_at t.keys t.columns)) (λ p. p.0) pairs
+      (recursion_map (λ p. p.0 < length (columns_at t.keys t.columns)) (pair_at t.columns u.columns r.columns right) (range_with_len 0 (length r.columns))
       (each_below (λ k. place_at t.columns (slice_get r.columns k) < length (columns_at t.keys t.columns)) (length r.columns) (λ k h.
       let l = left_at k h in let m : Means t.keys t.columns l.0 l.2 = l.3 in
       subst (λ o. place_at t.columns o < length (columns_at t.keys t.columns)) (sym l.1) m.inside)))
 
   parents_inside : AllByRecursion (λ k. k < length (columns_at u.keys u.columns)) (parent_columns plain)
-  parents_inside = all_map (λ k. k < length (columns_at u.keys u.columns)) (λ p. p.1) pairs
-      (all_map (λ p. p.1 < length (columns_at u.keys u.columns)) (pair_at t.columns u.columns r.columns right) (range_with_len 0 (length r.columns))
+  parents_inside = recursion_map (λ k. k < length (columns_at u.keys u.columns)) (λ p. p.1) pairs
+      (recursion_map (λ p. p.1 < length (columns_at u.keys u.columns)) (pair_at t.columns u.columns r.columns right) (range_with_len 0 (length r.columns))
       (each_below (λ k. place_at u.columns (slice_get right k) < length (columns_at u.keys u.columns)) (length r.columns) (λ k h.
       let l = right_at k h in let m : Means u.keys u.columns l.0 l.2 = l.3 in
       subst (λ o. place_at u.columns o < length (columns_at u.keys u.columns)) (sym l.1) m.inside)))
@@ -129,18 +131,18 @@ module _ (tables : List WrittenTable) (t u : WrittenTable) (r : WrittenReference
   has_pairs e = no_key_of_none u.columns u.keys some_keys (subst (λ names. are_key u names ≡ true) (nil_from_length right empty) is_right.keyed)
     where
       empty : length right ≡ 0
-      empty = is_right.size ∙ sym (length-range_with_len 0 (length r.columns)) ∙ ap length (map_none (pair_at t.columns u.columns r.columns right) (range_with_len 0 (length r.columns)) e)
+      empty = is_right.size ∙ sym (length-range_with_len 0 (length r.columns)) ∙ ap length (map_nothing (pair_at t.columns u.columns r.columns right) (range_with_len 0 (length r.columns)) e)
 
   keyed : IsTrue (list_any (λ k. same_places (parent_columns plain) k.columns) (keys_at u.columns u.keys))
   keyed = subst (λ ps. list_any (λ k. same_places ps k.columns) (keys_at u.columns u.keys) ≡ true) (sym parents_are)
-      (any_placed (λ k. same_columns u.columns right k.columns) (λ k. same_places (places_of u.columns right) k.columns) (key_at u.columns) u.keys (λ k e. same_placed u.columns right k.columns e) is_right.keyed)
+      (any_mapped (λ k. same_columns u.columns right k.columns) (λ k. same_places (places_of u.columns right) k.columns) (key_at u.columns) u.keys (λ k e. same_placed u.columns right k.columns e) is_right.keyed)
 
   compared : AllByRecursion (Comparable (table_at tables t) (table_at tables u)) pairs
-  compared = all_map (Comparable (table_at tables t) (table_at tables u)) (pair_at t.columns u.columns r.columns right) (range_with_len 0 (length r.columns))
+  compared = recursion_map (Comparable (table_at tables t) (table_at tables u)) (pair_at t.columns u.columns r.columns right) (range_with_len 0 (length r.columns))
       (each_below (λ k. Comparable (table_at tables t) (table_at tables u) (pair_at t.columns u.columns r.columns right k)) (length r.columns) (λ k h.
       let l = left_at k h in let lm : Means t.keys t.columns l.0 l.2 = l.3 in
       let g = right_at k h in let gm : Means u.keys u.columns g.0 g.2 = g.3 in
-      let equal : (family_named t.columns (slice_get r.columns k) == family_named u.columns (slice_get right k)) ≡ true = not_false _ (below_range (λ j. not (family_named t.columns (slice_get r.columns j) == family_named u.columns (slice_get right j)) ≡ false) (length r.columns) (any_false (λ j. not (family_named t.columns (slice_get r.columns j) == family_named u.columns (slice_get right j))) (range_with_len 0 (length r.columns)) families) k h) in
+      let equal : (family_named t.columns (slice_get r.columns k) == family_named u.columns (slice_get right k)) ≡ true = not_false _ (below_range (λ j. not (family_named t.columns (slice_get r.columns j) == family_named u.columns (slice_get right j)) ≡ false) (length r.columns) (recursion_fails (λ j. not (family_named t.columns (slice_get r.columns j) == family_named u.columns (slice_get right j))) (range_with_len 0 (length r.columns)) families) k h) in
       let left_family : family_named t.columns (slice_get r.columns k) ≡ family (column_kind l.2) = ap (family_named t.columns) l.1 ∙ ap family_of lm.found in
       let right_family : family_named u.columns (slice_get right k) ≡ family (column_kind g.2) = ap (family_named u.columns) g.1 ∙ ap family_of gm.found in
       let one : family (column_kind l.2) ≡ family (column_kind g.2) = sym left_family ∙ eqb-true _ _ equal ∙ right_family in

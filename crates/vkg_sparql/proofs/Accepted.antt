@@ -1,6 +1,9 @@
 -- A query that is read is lawful.
-use Rattle.std.proofs.Common.{◌≡◌, ◌∙◌, ℕ, ◌+◌, ◌<◌, Bool, true, false, not, IsTrue, List, [], ◌∷◌, Result, Ok, Err, Option, Some, None, length, zero, suc, refl, sym, ap, subst, arith}
-use Rattle.std.specs.Prelude.{IfOk}
+use Rattle.std.proofs.Common.{◌≡◌, ◌∙◌, ℕ, ◌+◌, ◌<◌, Bool, true, false, List, Result, Ok, Err, Option, Some, None, length, refl, sym, ap, subst, arith, map, true≢false}
+use Rattle.std.specs.Prelude.{IfOk, slice_get}
+use Rattle.std.proofs.lemmas.Bool.{not_from_false}
+use Rattle.std.proofs.lemmas.List.{length-map}
+use Rattle.std.proofs.lemmas.Option.{same_Some, slice_get-map, slice_get_within}
 use Rattle.vkg_grammar.specs.Kinds.{kinds_of}
 use Rattle.vkg_grammar.specs.OneTree.{IsTree}
 use Rattle.vkg_grammar.proofs.Shapes.{made}
@@ -23,27 +26,23 @@ use Rattle.vkg_sparql.specs.Reading.{Read, IsQueryText, Says, fault_if, fault_of
 use Rattle.vkg_sparql.specs.Seen.{query_seen}
 use Rattle.vkg_sparql.proofs.LawfulParts.{Fits, Good, good_query}
 use Rattle.vkg_sparql.proofs.Made.{Has, has}
-use Rattle.vkg_sparql.proofs.Numbering.{Marked, as_many}
+use Rattle.vkg_sparql.proofs.Numbering.{Marked, as_many, is_variable_key}
 use Rattle.vkg_sparql.proofs.Standing.{all_meanings, node_at, operand_at, variable_at}
 
 -- ---- nodes whose keys are of their kinds are lawful
 
 marked_below : (keys : List (List ℕ)) (v : ℕ) (b : Bool) → Marked keys v b → v < length keys
-marked_below [] zero b h = absurd (cc)
-marked_below [] (suc v) b h = absurd (cc)
-marked_below (k ∷ keys) zero b h = omega arith
-marked_below (k ∷ keys) (suc v) b h = let l = marked_below keys v b h in omega (arith, l)
-
-narrow : (b : Bool) → b ≡ false → IsTrue (not b)
-narrow b e = ap not e
+marked_below keys v b h =
+    let there : slice_get (map is_variable_key keys) v ≡ Some b = slice_get-map is_variable_key keys v ∙ h in
+    omega (arith, slice_get_within (map is_variable_key keys) v b there, length-map keys is_variable_key)
 
 within : (keys : List (List ℕ)) (n : ℕ) → length keys ≡ n → (x : Node) → Fits keys x → IsWithin n x
 within keys n e (node.Variable v) h = subst (λ m. v < m) e (marked_below keys v true h)
 within keys n e (node.Label v) h = subst (λ m. v < m) e (marked_below keys v false h)
-within keys n e (node.Fixed t) h = narrow _ h
+within keys n e (node.Fixed t) h = not_from_false _ h
 
 not_both : (o : Option Bool) → o ≡ Some true → o ≡ Some false → ⊥
-not_both o e f = absurd (let g : ◌≡◌ {A = Option Bool} (Some true) (Some false) = sym e ∙ f in cc)
+not_both o e f = true≢false (same_Some true false (sym e ∙ f))
 
 lawful_nodes : (keys : List (List ℕ)) (n : ℕ) (xs : List Node) → length keys ≡ n → Good keys xs → IsLawful n xs
 lawful_nodes keys n xs e g = record {

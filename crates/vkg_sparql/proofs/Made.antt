@@ -1,6 +1,7 @@
 -- Trees by the rules of a grammar, as a type that computes: what a symbol of a known rule is made of can be read off.
-use Rattle.std.proofs.Common.{◌≡◌, ℕ, ◌+◌, ◌≤◌, Bool, true, false, if◌then◌else◌, List, Some, zero, suc, refl, arith}
+use Rattle.std.proofs.Common.{◌≡◌, ℕ, ◌+◌, ◌≤◌, Bool, true, false, List, Some, zero, suc, arith, ◌&&◌}
 use Rattle.std.specs.Prelude.{slice_get}
+use Rattle.vkg_lists.proofs.Bools.{and_parts}
 use Rattle.vkg_grammar.specs.declared.rule.Rule.{Rule}
 use Rattle.vkg_grammar.specs.declared.rule.Rule.TheVariants.{Token, Empty, Then, Either, Optional, Repeated}
 use Rattle.vkg_grammar.specs.OneTree.{rule, IsTree}
@@ -88,7 +89,7 @@ module _ (g : List Rule) (ks : List ℕ) (start : ℕ) where
   abbrev led : Rule → (ℕ → Bool) → (ℕ → Bool) → Bool
   led (Token k) p go = p k
   led (Then a b) p go = go a
-  led (Either a b) p go = if go a then go b else false
+  led (Either a b) p go = go a && go b
   led r p go = false
 
   -- every tree of the symbol begins with a token whose kind passes the test, as so many steps through the rules show
@@ -101,10 +102,6 @@ module _ (g : List Rule) (ks : List ℕ) (start : ℕ) where
     pub kind : ℕ
     pub passes : p kind ≡ true
     pub token : IsToken kind (first_token t)
-
-  both : (a b : Bool) → (if a then b else false) ≡ true → (a ≡ true) × (b ≡ true)
-  both true b e = (refl, e)
-  both false b e = absurd (cc)
 
   lead_leaf : (r : Rule) (p go : ℕ → Bool) (i : ℕ) → led r p go ≡ true → HasLeaf r i → Leads p (leaf i)
   lead_leaf (Token k) p go i e h = record { kind = k; passes = e; token = h }
@@ -122,12 +119,12 @@ module _ (g : List Rule) (ks : List ℕ) (start : ℕ) where
   lead_pair r n p go X Y e h = absurd (h)
 
   lead_first : (r : Rule) (p go : ℕ → Bool) (X : ℕ → Type 0) → led r p go ≡ true → HasFirst r X → (a : ℕ) × (go a ≡ true) × X a
-  lead_first (Either a b) p go X e h = (a, (both (go a) (go b) e).0, h)
+  lead_first (Either a b) p go X e h = (a, (and_parts (go a) (go b) e).0, h)
   lead_first (Optional a) p go X e h = absurd (cc)
   lead_first r p go X e h = absurd (h)
 
   lead_second : (r : Rule) (p go : ℕ → Bool) (X : ℕ → Type 0) → led r p go ≡ true → HasSecond r X → (a : ℕ) × (go a ≡ true) × X a
-  lead_second (Either a b) p go X e h = (b, (both (go a) (go b) e).1, h)
+  lead_second (Either a b) p go X e h = (b, (and_parts (go a) (go b) e).1, h)
   lead_second r p go X e h = absurd (h)
 
   pub lead : (m : ℕ) (p : ℕ → Bool) (t : Tree) (n : ℕ) → leads m p n ≡ true → Has t n → Leads p t

@@ -1,12 +1,12 @@
 -- Each variable and each blank node of a query has a number, that of its key among the keys.
-use Rattle.std.proofs.Common.{◌≡◌, ◌∙◌, ℕ, ◌+◌, ◌<◌, ◌||◌, ◌==◌, Bool, true, false, cond, not, if◌then◌else◌, zero, suc, List, [], ◌∷◌, ◌++◌, fold, length, Option, Some, None, option_map, unwrap_or, position, refl, sym, ap, arith, length-append}
+use Rattle.std.proofs.Common.{◌≡◌, ◌∙◌, ℕ, ◌+◌, ◌||◌, ◌==◌, Bool, true, false, if◌then◌else◌, zero, suc, List, [], ◌∷◌, ◌++◌, fold, length, Option, Some, None, option_map, unwrap_or, refl, sym, ap, length-append}
 use Rattle.std.specs.Prelude.{slice_get}
-use Rattle.std.specs.List.{list_any, position_or_len}
+use Rattle.std.specs.List.{list_any}
 use Rattle.std.specs.Str.{bytes_eq}
-use Rattle.std.proofs.lemmas.Bool.{lt-ltb}
 use Rattle.std.proofs.lemmas.List.Folds.{list_any-append}
 use Rattle.std.proofs.lemmas.Slice.Eq.{bytes_eq-Decides}
 use Rattle.std.proofs.Math.Bool.{or-true}
+use Rattle.vkg_lists.proofs.Positions.{first_found}
 use Rattle.vkg_sparql.specs.declared.lexeme.Lexeme.{Lexeme}
 use Rattle.vkg_sparql.specs.declared.names.Named.{Named}
 use Rattle.vkg_sparql.specs.Lexemes.{key_of, name_of, named_of, number_in, with_key, with_new_key}
@@ -22,37 +22,10 @@ Marked keys n b = option_map is_variable_key (slice_get keys n) ≡ Some b
 
 -- ---- where a key stands
 
-record Stands {X : Type 0} (p : X → Bool) (xs : List X) (i : ℕ) : Type 0 where
-  item : X
-  at : slice_get xs i ≡ Some item
-  passes : p item ≡ true
-  inside : i < length xs
-
-module _ {X : Type 0} (p : X → Bool) where
-  stands_here : (x : X) (xs : List X) → p x ≡ true → Stands p (x ∷ xs) 0
-  stands_here x xs e = record { item = x; at = refl; passes = e; inside = omega arith }
-
-  stands_suc : (x : X) (xs : List X) (i : ℕ) → Stands p xs i → Stands p (x ∷ xs) (suc i)
-  stands_suc x xs i s = record { item = s.item; at = s.at; passes = s.passes; inside = omega (arith, s.inside) }
-
-  stands_there : (x : X) (xs : List X) (i j : ℕ) → j ≡ suc i → Stands p xs i → Stands p (x ∷ xs) j
-  stands_there x xs i j e s = rw e (stands_suc x xs i s)
-
-  stands_by : (x : X) (xs : List X) (b : Bool) → p x ≡ b → (b || list_any p xs) ≡ true → (list_any p xs ≡ true → Stands p xs (position_or_len p xs)) → Stands p (x ∷ xs) (cond (not b) (1 + position_or_len p xs) 0)
-  stands_by x xs true e h go = stands_here x xs e
-  stands_by x xs false e h go = stands_there x xs (position_or_len p xs) (1 + position_or_len p xs) (omega arith) (go h)
-
-  stands : (xs : List X) → list_any p xs ≡ true → Stands p xs (position_or_len p xs)
-  stands [] h = absurd (cc)
-  stands (x ∷ xs) h = stands_by x xs (p x) refl h (stands xs)
-
-  number_is : (xs : List X) → list_any p xs ≡ true → unwrap_or (position p xs) 0 ≡ position_or_len p xs
-  number_is xs h = ap (λ b. unwrap_or (cond b (Some (position_or_len p xs)) None) 0) (lt-ltb (position_or_len p xs) (length xs) (stands xs h).inside)
-
 pub number_at : (key : List ℕ) (keys : List (List ℕ)) → list_any (bytes_eq key) keys ≡ true → slice_get keys (number_in keys (Some key)) ≡ Some key
 number_at key keys h =
-    let s = stands (bytes_eq key) keys h in
-    ap (slice_get keys) (number_is (bytes_eq key) keys h) ∙ s.at ∙ ap Some (sym ((bytes_eq-Decides key s.item).0 s.passes))
+    let s = first_found (bytes_eq key) keys h in
+    ap (λ o. slice_get keys (unwrap_or o 0)) s.1.place ∙ s.1.at ∙ ap Some (sym ((bytes_eq-Decides key s.0).0 s.1.passes))
 
 -- ---- the keys of tokens
 

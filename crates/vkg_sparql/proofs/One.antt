@@ -1,18 +1,16 @@
 -- There is one answer.
-use Rattle.std.proofs.Common.{◌≡◌, ℕ, List, [], Ok, Option, Some, None, ap, sym, ◌∙◌, subst}
+use Rattle.std.proofs.Common.{◌≡◌, ℕ, List, Option, Some, None, ap, sym, ◌∙◌, subst}
 use Rattle.std.proofs.lemmas.Option.{same_Some}
-use Rattle.vkg_grammar.specs.Form.{IsTooDeep, IsShallow}
 use Rattle.vkg_grammar.specs.Kinds.{kinds_of, start_at}
 use Rattle.vkg_grammar.specs.OneTree.{IsTheTree}
 use Rattle.vkg_grammar.specs.Parsing.{IsFirstDead, IsCutOff}
-use Rattle.vkg_grammar.proofs.Outcomes.{same_tokens, same_place, not_tokens, alive_text, not_cut, not_deep, one_dead, one_deep}
+use Rattle.vkg_grammar.proofs.Outcomes.{same_tokens, same_place, not_tokens, alive_text, not_cut, one_dead, too_deep_once, deep_not_shallow}
 use Rattle.vkg_grammar.proofs.Same.{tree_derives}
-use Rattle.vkg_tokens.specs.declared.cutting.Token.{Token}
 use Rattle.vkg_tokens.specs.Mark.{without_mark}
 use Rattle.vkg_sparql.specs.declared.fault.QueryFault.{QueryFault}
 use Rattle.vkg_sparql.specs.declared.grammar_table.TheConstants.{SPARQL}
 use Rattle.vkg_sparql.specs.declared.query.Query.{Query}
-use Rattle.vkg_sparql.specs.Reading.{sparql, sparql_tokens, kind_at, dead_check, fault, fault_of, query_of, read, Read, Says, IsTooDeepText, IsDeadText, IsCutOffText, IsQueryText, IsFaultOf, no_utf8, no_token, too_deep, dead, cut_off, checked, IsDetermined}
+use Rattle.vkg_sparql.specs.Reading.{sparql, kind_at, dead_check, fault, fault_of, query_of, read, Read, Says, IsTooDeepText, IsDeadText, IsCutOffText, IsQueryText, IsFaultOf, no_utf8, no_token, too_deep, dead, cut_off, checked, IsDetermined}
 
 -- what was read of a text
 one_said : {text base : List ℕ} {r s : Read} → Says text base r → Says text base s → r ≡ s
@@ -24,9 +22,7 @@ one_said {text = text} {base = base} a b =
 -- ---- a text of the grammar has no fault of the grammar
 
 said_deep : {text base : List ℕ} {r : Read} {at : ℕ} → Says text base r → IsTooDeepText text at → ⊥
-said_deep a x =
-    let t : x.tokens ≡ a.tokens = same_tokens x.cut a.cut in
-    not_deep sparql (kinds_of a.tokens) x.bracket a.shallow (subst (λ ts. IsTooDeep sparql (kinds_of ts) x.bracket) t x.deep)
+said_deep a x = deep_not_shallow sparql x.cut a.cut x.deep a.shallow
 
 said_dead : {text base : List ℕ} {r : Read} {f : QueryFault} → Says text base r → IsDeadText text f → ⊥
 said_dead a x =
@@ -43,15 +39,7 @@ said_short a x =
 -- ---- and else one
 
 one_too_deep : {text : List ℕ} {a b : ℕ} → IsTooDeepText text a → IsTooDeepText text b → a ≡ b
-one_too_deep {text = text} x y =
-    let t : y.tokens ≡ x.tokens = same_tokens y.cut x.cut in
-    let d : IsTooDeep sparql (kinds_of x.tokens) y.bracket = subst (λ ts. IsTooDeep sparql (kinds_of ts) y.bracket) t y.deep in
-    x.place ∙ (λ i. start_at (sym t i) (one_deep sparql (kinds_of x.tokens) x.bracket y.bracket x.deep d i)) ∙ sym y.place
-
-deep_or_shallow : {text : List ℕ} {a : ℕ} (ts : List Token) → IsTooDeepText text a → sparql_tokens text ≡ Ok ts → IsShallow sparql (kinds_of ts) → ⊥
-deep_or_shallow ts x cut s =
-    let t : x.tokens ≡ ts = same_tokens x.cut cut in
-    not_deep sparql (kinds_of ts) x.bracket s (subst (λ us. IsTooDeep sparql (kinds_of us) x.bracket) t x.deep)
+one_too_deep x y = too_deep_once sparql x.cut y.cut x.deep y.deep x.place y.place
 
 one_dead_text : {text : List ℕ} {f g : QueryFault} → IsDeadText text f → IsDeadText text g → f ≡ g
 one_dead_text x y =
@@ -94,18 +82,18 @@ one_fault text base f g (no_token u e) (checked r v d p) = absurd (not_tokens d.
 one_fault text base f g (too_deep u e) (no_utf8 m d) = absurd (m u)
 one_fault text base f g (too_deep u e) (no_token v d) = absurd (not_tokens e.cut d)
 one_fault text base f g (too_deep u e) (too_deep v d) = ap (fault 3) (one_too_deep e d)
-one_fault text base f g (too_deep u e) (dead v d) = absurd (deep_or_shallow d.tokens e d.cut d.shallow)
-one_fault text base f g (too_deep u e) (cut_off v d p) = absurd (deep_or_shallow d.tokens e d.cut d.shallow)
+one_fault text base f g (too_deep u e) (dead v d) = absurd (deep_not_shallow sparql e.cut d.cut e.deep d.shallow)
+one_fault text base f g (too_deep u e) (cut_off v d p) = absurd (deep_not_shallow sparql e.cut d.cut e.deep d.shallow)
 one_fault text base f g (too_deep u e) (checked r v d p) = absurd (said_deep d e)
 one_fault text base f g (dead u e) (no_utf8 m d) = absurd (m u)
 one_fault text base f g (dead u e) (no_token v d) = absurd (not_tokens e.cut d)
-one_fault text base f g (dead u e) (too_deep v d) = absurd (deep_or_shallow e.tokens d e.cut e.shallow)
+one_fault text base f g (dead u e) (too_deep v d) = absurd (deep_not_shallow sparql d.cut e.cut d.deep e.shallow)
 one_fault text base f g (dead u e) (dead v d) = one_dead_text e d
 one_fault text base f g (dead u e) (cut_off v d p) = absurd (dead_or_short e d)
 one_fault text base f g (dead u e) (checked r v d p) = absurd (said_dead d e)
 one_fault text base f g (cut_off u e q) (no_utf8 m d) = absurd (m u)
 one_fault text base f g (cut_off u e q) (no_token v d) = absurd (not_tokens e.cut d)
-one_fault text base f g (cut_off u e q) (too_deep v d) = absurd (deep_or_shallow e.tokens d e.cut e.shallow)
+one_fault text base f g (cut_off u e q) (too_deep v d) = absurd (deep_not_shallow sparql d.cut e.cut d.deep e.shallow)
 one_fault text base f g (cut_off u e q) (dead v d) = absurd (dead_or_short d e)
 one_fault text base f g (cut_off u e q) (cut_off v d p) = ap (fault 2) (q ∙ sym p)
 one_fault text base f g (cut_off u e q) (checked r v d p) = absurd (said_short d e)

@@ -25,9 +25,7 @@ use Rattle.vkg_sparql.proofs.Numbering.{Marked, is_variable_key, numbered}
 
 -- what stands behind the place i
 abbrev behind : {X : Type 0} → List X → ℕ → List X
-behind [] i = []
-behind (x ∷ xs) zero = xs
-behind (x ∷ xs) (suc i) = behind xs i
+behind xs i = drop (suc i) xs
 
 record Dropped {X : Type 0} (start : ℕ) (xs : List X) (i : ℕ) (x : X) : Type 0 where
   place : ℕ

@@ -4,7 +4,7 @@ use Rattle.std.specs.Prelude.{IsUtf8, chars, decimal}
 use Rattle.std.specs.Char.{is_ascii_digit}
 use Rattle.std.specs.List.{list_all}
 use Rattle.std.proofs.Math.Utf8.{encode}
-use Rattle.std.proofs.lemmas.Bool.{eq-eqb, eqb-false}
+use Rattle.std.proofs.lemmas.Bool.{eq-eqb, eqb-false, both_ways, not-true}
 use Rattle.std.proofs.lemmas.Fmt.{decimal_is_IsNumeral}
 use Rattle.std.proofs.lemmas.Str.{encode_same}
 use Rattle.vkg_lists.proofs.Runs.{stops}
@@ -61,15 +61,11 @@ module _ (sign : ℕ) (small : sign < 128) where
   one_same c d v w x y (inr (n, p)) (inr (m, r)) same =
       encode_same c d x y (sym (ap (λ (l : List ℕ). l ++ x) p) ∙ same ∙ ap (λ (l : List ℕ). l ++ y) r)
 
-  no_sign : (b : Bool) → b ≡ true → not b ≡ true → ⊥
-  no_sign true e h = absurd (cc)
-  no_sign false e h = absurd (cc)
-
   -- no sign that is doubled closes the text
   not_closed : (c : ℕ) (v x y : List ℕ) → Written c v → v ++ x ≡ sign ∷ y → stops is_sign y ≡ true → ⊥
   not_closed c v x y (inl (e, p)) same s =
       let joined : c ∷ c ∷ x ≡ sign ∷ y = sym (ap (λ (l : List ℕ). l ++ x) p) ∙ same in
-      no_sign (c == sign) (eq-eqb c sign e) (subst (λ z. stops is_sign z ≡ true) (sym (tail_same c sign (c ∷ x) y joined)) s)
+      both_ways (c == sign) (not-true (c == sign) (subst (λ z. stops is_sign z ≡ true) (sym (tail_same c sign (c ∷ x) y joined)) s)) (eq-eqb c sign e)
   not_closed c v x y (inr (n, p)) same s = n (starts c sign x y small (sym same ∙ ap (λ (l : List ℕ). l ++ x) p))
 
   body_same : (cs ds x y : List ℕ) → stops is_sign x ≡ true → stops is_sign y ≡ true → flat_map (doubled sign) cs ++ sign ∷ x ≡ flat_map (doubled sign) ds ++ sign ∷ y → (cs ≡ ds) × (x ≡ y)

@@ -387,7 +387,7 @@ pub data Ends : List ℕ → Type 0 where
   at_comma : (x : List ℕ) → Ends (44 ∷ x)
   at_space : (x : List ℕ) → Ends (32 ∷ x)
 
-ends_letters : {x : List ℕ} → Ends x → stops is_letter x ≡ true
+pub ends_letters : {x : List ℕ} → Ends x → stops is_letter x ≡ true
 ends_letters at_end = refl
 ends_letters (at_bracket x) = refl
 ends_letters (at_comma x) = refl

@@ -15,7 +15,7 @@ use Rattle.vkg_plan.specs.Plan.{Plan, Plans, Unit as Once, Empty, Scan, Select, 
 use Rattle.vkg_sqltext.specs.Laws.{HaveOwnTexts}
 use Rattle.vkg_sqltext.specs.Text.{column_text, commas, doubled, expr_text, in_brackets, kind_text, outputs, outputs_text, separated, sources, sql_text, sql_texts}
 use Rattle.vkg_sqltext.proofs.Cutting.{decimal_opens, within_same}
-use Rattle.vkg_sqltext.proofs.Heads.{Begins, Ends, SoundExprs, at_bracket, at_end, at_space, begins, class, expr_one, is_letter, kind_same, not_begun}
+use Rattle.vkg_sqltext.proofs.Heads.{Begins, Ends, SoundExprs, at_bracket, at_end, at_space, begins, class, expr_one, is_letter, kind_same, not_begun, ends_letters}
 use Rattle.vkg_sqltext.proofs.Sound.{SoundPlan, SoundPlans, sound_plan}
 
 -- what may stand behind a plan
@@ -26,10 +26,6 @@ data Closes : List ℕ → Type 0 where
 closes_ends : {x : List ℕ} → Closes x → Ends x
 closes_ends closes_end = at_end
 closes_ends (closes_bracket x) = at_bracket x
-
-closes_letters : {x : List ℕ} → Closes x → stops is_letter x ≡ true
-closes_letters closes_end = refl
-closes_letters (closes_bracket x) = refl
 
 closes_names : {x : List ℕ} → Closes x → stops (λ b. b == 34) x ≡ true
 closes_names closes_end = refl
@@ -207,7 +203,7 @@ module _ (schema : Tables) (names : HasOwnNames schema) where
   plan_stops : (p : Plan) (x : List ℕ) → Closes x → stops is_letter (plan_rest p ++ x) ≡ true
   plan_stops (Join Nil c) x u = refl
   plan_stops (Join (More p ps) c) x u = refl
-  plan_stops (UnionAll Nil) x u = closes_letters u
+  plan_stops (UnionAll Nil) x u = ends_letters (closes_ends u)
   plan_stops (UnionAll (More p ps)) x u = refl
   plan_stops p x u = refl
 

@@ -1,47 +1,48 @@
 -- What the typing of a plan says of its parts.
-use Rattle.std.proofs.Common.{◌≡◌, ℕ, ◌<◌, ◌==◌, ◌&&◌, Bool, true, false, if◌then◌else◌, zero, suc, List, [], ◌∷◌, length, Option, Some, None, option_map, option_and_then, is_some, refl, ap, arith}
+use Rattle.std.proofs.Common.{◌≡◌, ◌<◌, ◌==◌, ◌&&◌, Bool, true, List, length, Option, Some, option_map, is_some, ap}
 use Rattle.std.specs.Prelude.{slice_get}
-use Rattle.vkg_lists.proofs.Onto.{first_some, both_some}
+use Rattle.std.proofs.lemmas.Option.{slice_get_within}
+use Rattle.vkg_lists.proofs.Onto.{first_some, both_some, map_given}
 use Rattle.vkg_lists.specs.Options.{joined}
 use Rattle.vkg_lists.proofs.Bools.{and_parts}
+use Rattle.vkg_lists.proofs.Results.{some_if, some_of, some_then}
 use Rattle.vkg_cells.specs.declared.cell.SqlType.{SqlType}
 use Rattle.vkg_cells.specs.declared.cell.SqlType.TheVariants as kind
 use Rattle.vkg_expr.specs.Expr.{Expr, Exprs, Col, Const, MakeIri, IriOf, MakeBlank, MakeLit, Lex, IriSafe, Concat, Same, IsNull, Not, And, Or, Coalesce, Sparql, Ebv, each, exprs}
 use Rattle.vkg_expr.specs.Expr as expr
 use Rattle.vkg_expr.specs.Typing.{are_all, arity, common, equality_kind, fits, giving, is_one, kind_of, kinds_of, lexical_kind, no_column}
-use Rattle.vkg_plan.specs.Kinds.{Kinds, Tables, beside_all, checked, kinds_of_each, plan_kinds}
+use Rattle.vkg_expr.proofs.TypedParts.{all_is, equality_given, lexical_given, one_is}
+use Rattle.vkg_expr.proofs.ValueFits.{common_given}
+use Rattle.vkg_plan.specs.Kinds.{Tables, beside_all, kinds_of_each, plan_kinds}
 use Rattle.vkg_plan.specs.Plan.{Plan, Plans, Unit as Once, Empty, Scan, Select, Project, Join, Left, UnionAll, Distinct, Nil, More}
 use Rattle.vkg_plan.proofs.KindLists.{alike_some, beside_some}
+use Rattle.vkg_plan.proofs.RowsFit.{checked_parts}
 use Rattle.vkg_sqltext.specs.Laws.{HoldsExpr, HoldsExprs, HoldsPlan, HoldsPlans}
 use Rattle.vkg_sqltext.proofs.Heads.{SoundExpr, SoundExprs}
 
 giving_some : (k : SqlType) (b : Bool) → is_some (giving k b) ≡ true → b ≡ true
-giving_some k true h = refl
-giving_some k false h = absurd (cc)
+giving_some k b h = (some_if b (Some k) h).0
 
 one_some : (k : SqlType) (o : Option SqlType) → is_one k o ≡ true → is_some o ≡ true
-one_some k None h = absurd (cc)
-one_some k (Some l) h = refl
+one_some k o h = ap is_some (one_is k o h)
 
 all_some : (k : SqlType) (o : Option (List SqlType)) → are_all k o ≡ true → is_some o ≡ true
-all_some k None h = absurd (cc)
-all_some k (Some ls) h = refl
+all_some k o h = ap is_some (all_is k o h).1
 
 lexical_some : (o : Option SqlType) → is_some (lexical_kind o) ≡ true → is_some o ≡ true
-lexical_some None h = absurd (cc)
-lexical_some (Some k) h = refl
+lexical_some o h = let s = some_of (lexical_kind o) h in ap is_some (lexical_given o s.0 s.1).1
 
 equality_some : (o p : Option SqlType) → is_some (equality_kind o p) ≡ true → (is_some o ≡ true) × (is_some p ≡ true)
-equality_some (Some k) (Some l) h = (refl, refl)
-equality_some o p h = absurd (cc)
+equality_some o p h =
+    let s = some_of (equality_kind o p) h in
+    let g = equality_given o p s.0 s.1 in
+    (ap is_some g.0.1, ap is_some g.1.1)
 
 mapped_some : {A B : Type 0} (f : A → B) (o : Option A) → is_some (option_map f o) ≡ true → is_some o ≡ true
-mapped_some f None h = absurd (cc)
-mapped_some f (Some a) h = refl
+mapped_some f o h = let s = some_of (option_map f o) h in ap is_some (map_given f o s.0 s.1).1
 
 common_some : (o : Option (List SqlType)) → is_some (common o) ≡ true → is_some o ≡ true
-common_some None h = absurd (cc)
-common_some (Some ks) h = refl
+common_some o h = let s = some_of (common o) h in ap is_some (common_given o s.0 s.1).1
 
 mutual
   pub sound_expr : (e : Expr) (ks : List SqlType) → is_some (kind_of e ks) ≡ true → HoldsExpr e → SoundExpr e
@@ -91,54 +92,28 @@ abbrev mutual
   SoundPlans schema Nil = Unit {0}
   SoundPlans schema (More p ps) = SoundPlan schema p × SoundPlans schema ps
 
-record Checked (c : Expr) (o : Option Kinds) : Type 0 where
-  kinds : Kinds
-  is : o ≡ Some kinds
-  truth : is_some (kind_of c kinds) ≡ true
-
-kept_some : (b : Bool) (ks : Kinds) → is_some (if b then Some ks else None) ≡ true → b ≡ true
-kept_some true ks h = refl
-kept_some false ks h = absurd (cc)
-
-checked_some : (c : Expr) (o : Option Kinds) → is_some (checked c o) ≡ true → Checked c o
-checked_some c None h = absurd (cc)
-checked_some c (Some ks) h = record { kinds = ks; is = refl; truth = one_some kind.Bool (kind_of c ks) (kept_some (is_one kind.Bool (kind_of c ks)) ks h) }
-
-record Followed {A B : Type 0} (f : A → Option B) (o : Option A) : Type 0 where
-  value : A
-  is : o ≡ Some value
-  some : is_some (f value) ≡ true
-
-followed : {A B : Type 0} (f : A → Option B) (o : Option A) → is_some (option_and_then f o) ≡ true → Followed f o
-followed f None h = absurd (cc)
-followed f (Some a) h = record { value = a; is = refl; some = h }
-
-got_below : {A : Type 0} (xs : List A) (i : ℕ) → is_some (slice_get xs i) ≡ true → i < length xs
-got_below [] zero h = absurd (cc)
-got_below [] (suc i) h = absurd (cc)
-got_below (x ∷ xs) zero h = omega arith
-got_below (x ∷ xs) (suc i) h = let l = got_below xs i h in omega (arith, l)
-
 mutual
   pub sound_plan : (schema : Tables) (p : Plan) → is_some (plan_kinds schema p) ≡ true → HoldsPlan p → SoundPlan schema p
   sound_plan schema Once h w = tt
   sound_plan schema (Empty ks) h w = tt
-  sound_plan schema (Scan table) h w = got_below schema table (mapped_some _ (slice_get schema table) h)
+  sound_plan schema (Scan table) h w =
+      let s = some_of (slice_get schema table) (mapped_some _ (slice_get schema table) h) in
+      slice_get_within schema table s.0 s.1
   sound_plan schema (Select c p) h w =
-      let s = checked_some c (plan_kinds schema p) h in
-      (sound_expr c s.kinds s.truth w.0, sound_plan schema p (ap is_some s.is) w.1)
+      let s = checked_parts c (plan_kinds schema p) h in
+      (sound_expr c s.0 (ap is_some s.2) w.0, sound_plan schema p (ap is_some s.1) w.1)
   sound_plan schema (Project es p) h w =
-      let s = followed (kinds_of (exprs es)) (plan_kinds schema p) h in
-      (sound_exprs (exprs es) s.value s.some w.0, sound_plan schema p (ap is_some s.is) w.1)
+      let s = some_then (kinds_of (exprs es)) (plan_kinds schema p) h in
+      (sound_exprs (exprs es) s.0 s.2 w.0, sound_plan schema p (ap is_some s.1) w.1)
   sound_plan schema (Join Nil c) h w = absurd (cc)
   sound_plan schema (Join (More p ps) c) h w =
-      let s = checked_some c (beside_all (kinds_of_each schema (More p ps))) h in
-      let parts = first_some (plan_kinds schema p) (kinds_of_each schema ps) (beside_some (kinds_of_each schema (More p ps)) (ap is_some s.is)) in
-      (sound_plan schema p parts.0 w.0.0, sound_plans schema ps parts.1 w.0.1, sound_expr c s.kinds s.truth w.1)
+      let s = checked_parts c (beside_all (kinds_of_each schema (More p ps))) h in
+      let parts = first_some (plan_kinds schema p) (kinds_of_each schema ps) (beside_some (kinds_of_each schema (More p ps)) (ap is_some s.1)) in
+      (sound_plan schema p parts.0 w.0.0, sound_plans schema ps parts.1 w.0.1, sound_expr c s.0 (ap is_some s.2) w.1)
   sound_plan schema (Left p q c) h w =
-      let s = checked_some c (joined (plan_kinds schema p) (plan_kinds schema q)) h in
-      let parts = both_some (plan_kinds schema p) (plan_kinds schema q) (ap is_some s.is) in
-      (sound_plan schema p parts.0 w.0, sound_plan schema q parts.1 w.1, sound_expr c s.kinds s.truth w.2)
+      let s = checked_parts c (joined (plan_kinds schema p) (plan_kinds schema q)) h in
+      let parts = both_some (plan_kinds schema p) (plan_kinds schema q) (ap is_some s.1) in
+      (sound_plan schema p parts.0 w.0, sound_plan schema q parts.1 w.1, sound_expr c s.0 (ap is_some s.2) w.2)
   sound_plan schema (UnionAll Nil) h w = absurd (cc)
   sound_plan schema (UnionAll (More p ps)) h w =
       let parts = first_some (plan_kinds schema p) (kinds_of_each schema ps) (alike_some (kinds_of_each schema (More p ps)) h) in

@@ -1,10 +1,14 @@
 -- The cells that are read fit their columns.
 use Rattle.std.proofs.Common.{◌≡◌, ◌≢◌, ◌∙◌, ◌+◌, ◌<◌, ◌&&◌, ◌==◌, ◌⊎◌, inl, inr, ℕ, zero, suc, Bool, true, false, List, [], ◌∷◌, Option, Some, None, if◌then◌else◌, refl, sym, ap, subst, arith, length, get_or, nat_lt, map, IsUtf8}
 use Rattle.std.specs.Prelude.{Result, Ok, Err, OnErr, OnOk, ◌++◌, slice_get, slice_set, unwrap_or}
+use Rattle.std.proofs.lemmas.List.{set-get_or}
+use Rattle.std.proofs.lemmas.Option.{slice_get-get_or, unwrap_or-slice_get}
+use Rattle.std.proofs.lemmas.Slice.Zip.{AllZip-long}
 use Rattle.std.proofs.lemmas.Str.{IsUtf8-nil, IsUtf8-from_is_utf8}
 use Rattle.std.specs.List.{AllByRecursion, AllZip}
 use Rattle.std.specs.Str.{is_utf8}
-use Rattle.vkg_lists.proofs.Members.{zip_length, recursion_push}
+use Rattle.vkg_lists.proofs.Each.{recursion_weaken}
+use Rattle.vkg_lists.proofs.Members.{recursion_at, recursion_push}
 use Rattle.vkg_lists.specs.Results.{unless}
 use Rattle.csv.specs.Reading.{default_config, records, strip_bom}
 use Rattle.csv.specs.Records.{AllText, field_at}
@@ -15,14 +19,10 @@ use Rattle.vkg_cells.specs.declared.cell.Cell.TheVariants as cell
 use Rattle.vkg_cells.specs.declared.cell.SqlType.{SqlType}
 use Rattle.vkg_cells.specs.declared.cell.SqlType.TheVariants as kind
 use Rattle.vkg_cells.specs.declared.cell.FieldFault.{FieldFault}
-use Rattle.vkg_cells.specs.declared.cell.FieldFault.TheVariants.{TooWide}
-use Rattle.hex.specs.Hex.{decode_of}
-use Rattle.hex.specs.declared.error.FromHexError.{FromHexError}
-use Rattle.vkg_cells.specs.Field.{cell_of_field, where_field, where_number, where_octets, where_stamp}
+use Rattle.vkg_cells.specs.Field.{cell_of_field}
 use Rattle.vkg_cells.specs.Form.{IsOfKind}
-use Rattle.vkg_cells.specs.Moment.{is_date, stamp_form}
-use Rattle.vkg_cells.specs.Number.{is_decimal, is_integer, width}
 use Rattle.vkg_cells.specs.Order.{family_of}
+use Rattle.vkg_cells.proofs.FieldLemmas.{family_is}
 use Rattle.vkg_schema.specs.declared.table.Column.{Column}
 use Rattle.vkg_schema.specs.declared.table.Table.{Table}
 use Rattle.vkg_schema.specs.Meets.{FitsColumn, IsColumn, IsTable, IsWellFormed}
@@ -34,61 +34,18 @@ use Rattle.vkg_tables.specs.TableFile.{fault}
 use Rattle.vkg_tables.specs.TableFile.{table_of_bytes}
 use Rattle.vkg_tables.specs.Parts.{HasNoTerm, IsNoTerm}
 use Rattle.vkg_tables.proofs.FileFaults.{file_from-settled}
-use Rattle.vkg_tables.specs.Seen.{HoldsCells, HoldsRows, columns_of}
+use Rattle.vkg_tables.specs.Seen.{HoldsCells, HoldsRows, columns_at, columns_of}
 use Rattle.vkg_tables.specs.declared.fault.FileFault.{FileFault}
 
 -- ---- a field is read as no term
-fam : Result Cell FieldFault → ℕ
-fam (Ok c) = family_of c
-fam (Err e) = 0
-
-fam-number : (b : Bool) (text : List ℕ) (x : Cell) → family_of x ≢ 7 → fam (where_number b text x) ≢ 7
-unfolding fam
-fam-number false text x h = λ e. cc e
-fam-number true text x h = by (nat_lt 38 (width text))
-  where
-    by : (w : Bool) → fam (if w then Err TooWide else Ok x) ≢ 7
-    by true = λ e. cc e
-    by false = h
-
-fam-field : (b : Bool) (x : Cell) → family_of x ≢ 7 → fam (where_field b x) ≢ 7
-unfolding fam
-fam-field false x h = λ e. cc e
-fam-field true x h = h
-
-fam-stamp : (o : Option (List ℕ)) → fam (where_stamp o) ≢ 7
-unfolding fam
-fam-stamp None = λ e. cc e
-fam-stamp (Some t) = λ e. cc e
-
-fam-octets : (r : Result (List ℕ) FromHexError) → fam (where_octets r) ≢ 7
-unfolding fam
-fam-octets (Ok octets) = λ e. cc e
-fam-octets (Err e) = λ h. cc h
-
-fam-read : (k : SqlType) (text : List ℕ) → fam (cell_of_field k text) ≢ 7
-unfolding fam
-fam-read kind.Text text = λ e. cc e
-fam-read kind.Int text = fam-number (is_integer text) text _ (λ e. cc e)
-fam-read kind.Dec text = fam-number (is_decimal text) text _ (λ e. cc e)
-fam-read kind.Bool text = fam-field _ _ (λ e. cc e)
-fam-read kind.Date text = fam-field (is_date text) _ (λ e. cc e)
-fam-read kind.Stamp text = fam-stamp (stamp_form text)
-fam-read kind.Bin text = fam-octets (decode_of text)
-fam-read kind.Term text = λ e. cc e
-
-read-NoTerm : (k : SqlType) (text : List ℕ) (c : Cell) → cell_of_field k text ≡ Ok c → IsNoTerm c
-unfolding fam
-read-NoTerm k text c e = λ h. fam-read k text (ap fam e ∙ h)
-
 kind-NoTerm : (k : SqlType) (c : Cell) → k ≢ kind.Term → IsOfKind k c → IsNoTerm c
-kind-NoTerm kind.Text c h (text, u, e) = read-NoTerm kind.Text text c e
-kind-NoTerm kind.Int c h (text, u, e) = read-NoTerm kind.Int text c e
-kind-NoTerm kind.Dec c h (text, u, e) = read-NoTerm kind.Dec text c e
-kind-NoTerm kind.Bool c h (text, u, e) = read-NoTerm kind.Bool text c e
-kind-NoTerm kind.Date c h (text, u, e) = read-NoTerm kind.Date text c e
-kind-NoTerm kind.Stamp c h (text, u, e) = read-NoTerm kind.Stamp text c e
-kind-NoTerm kind.Bin c h (text, u, e) = read-NoTerm kind.Bin text c e
+kind-NoTerm kind.Text c h (text, u, e) = λ s. cc (sym (family_is kind.Text c text e) ∙ s)
+kind-NoTerm kind.Int c h (text, u, e) = λ s. cc (sym (family_is kind.Int c text e) ∙ s)
+kind-NoTerm kind.Dec c h (text, u, e) = λ s. cc (sym (family_is kind.Dec c text e) ∙ s)
+kind-NoTerm kind.Bool c h (text, u, e) = λ s. cc (sym (family_is kind.Bool c text e) ∙ s)
+kind-NoTerm kind.Date c h (text, u, e) = λ s. cc (sym (family_is kind.Date c text e) ∙ s)
+kind-NoTerm kind.Stamp c h (text, u, e) = λ s. cc (sym (family_is kind.Stamp c text e) ∙ s)
+kind-NoTerm kind.Bin c h (text, u, e) = λ s. cc (sym (family_is kind.Bin c text e) ∙ s)
 kind-NoTerm kind.Term c h i = absurd (h refl)
 
 fits-NoTerm : (column : Column) (c : Cell) → IsColumn column → FitsColumn column c → IsNoTerm c
@@ -105,8 +62,7 @@ row-NoTerm (k ∷ ks) [] h f = tt
 row-NoTerm (k ∷ ks) (c ∷ cs) h f = (fits-NoTerm k c h.0 f.0, row-NoTerm ks cs h.1 f.1)
 
 rows-NoTerm : (columns : List Column) (rows : List Row) → AllByRecursion IsColumn columns → AllByRecursion (AllZip FitsColumn columns) rows → AllByRecursion HasNoTerm rows
-rows-NoTerm columns [] h f = tt
-rows-NoTerm columns (r ∷ rs) h f = (row-NoTerm columns r h f.0, rows-NoTerm columns rs h f.1)
+rows-NoTerm columns rows h f = recursion_weaken (AllZip FitsColumn columns) HasNoTerm rows (λ row fits. row-NoTerm columns row h fits) f
 
 tables-NoTerm : (all tables : List Table) (db : List (List Row)) → AllByRecursion (IsTable all) tables → HoldsCells tables db → AllByRecursion (AllByRecursion HasNoTerm) db
 tables-NoTerm all tables [] h f = tt
@@ -117,7 +73,7 @@ pub database-NoTerm : (tables : List Table) (db : List (List Row)) → IsWellFor
 database-NoTerm tables db h f = tables-NoTerm tables tables db h f
 
 pub same-length : (tables : List Table) (db : List (List Row)) → HoldsCells tables db → length db ≡ length tables
-same-length tables db h = sym (zip_length HoldsRows tables db h)
+same-length tables db h = AllZip-long HoldsRows tables db h
 
 -- ---- what is read fits
 of-kind : (k : SqlType) (text : List ℕ) (c : Cell) → IsUtf8 text → cell_of_field k text ≡ Ok c → IsOfKind k c
@@ -216,28 +172,19 @@ empty-holds [] = tt
 empty-holds (t ∷ ts) = (tt, empty-holds ts)
 
 pub columns-there : (tables : List Table) (i : ℕ) (d : Table) → i < length tables → columns_of tables i ≡ (get_or tables i d).columns
-columns-there [] i d l = absurd (omega (arith, l))
-columns-there (t ∷ ts) zero d l = refl
-columns-there (t ∷ ts) (suc i) d l = columns-there ts i d (omega (arith, l))
-
-row-width : (columns : List Column) (rows : List Row) (row : ℕ) (d : Row) → AllByRecursion (AllZip FitsColumn columns) rows → row < length rows → length (get_or rows row d) ≡ length columns
-row-width columns [] row d h l = absurd (omega (arith, l))
-row-width columns (r ∷ rs) zero d h l = sym (zip_length FitsColumn columns r h.0)
-row-width columns (r ∷ rs) (suc row) d h l = row-width columns rs row d h.1 (omega (arith, l))
+columns-there tables i d l = ap columns_at (slice_get-get_or tables i d l)
 
 -- a row has a cell for each column of its table
 pub table-width : (tables : List Table) (db : List (List Row)) (i row : ℕ) (d : Row) → HoldsCells tables db → row < length (rows_of db i) → length (get_or (rows_of db i) row d) ≡ length (columns_of tables i)
 table-width [] [] i row d h l = absurd (omega (arith, l))
 table-width [] (rows ∷ db) i row d h l = absurd h
 table-width (t ∷ ts) [] i row d h l = absurd h
-table-width (t ∷ ts) (rows ∷ db) zero row d h l = row-width t.columns rows row d h.0 l
+table-width (t ∷ ts) (rows ∷ db) zero row d h l = AllZip-long FitsColumn t.columns (get_or rows row d) (recursion_at (AllZip FitsColumn t.columns) rows row d h.0 l)
 table-width (t ∷ ts) (rows ∷ db) (suc i) row d h l = table-width ts db i row d h.1 l
 
 -- the list at a place of a list of lists
 pub list-there : {A : Type 0} (xs : List (List A)) (i : ℕ) (d : List A) → i < length xs → get_or xs i d ≡ unwrap_or (slice_get xs i) []
-list-there [] i d l = absurd (omega (arith, l))
-list-there (x ∷ xs) zero d l = refl
-list-there (x ∷ xs) (suc i) d l = list-there xs i d (omega (arith, l))
+list-there xs i d l = sym (ap (λ o. unwrap_or o []) (slice_get-get_or xs i d l))
 
 pub pushed-holds : (tables : List Table) (db : List (List Row)) (i : ℕ) (row : Row) → i < length tables → HoldsCells tables db → AllZip FitsColumn (columns_of tables i) row → HoldsCells tables (slice_set db i (rows_of db i ++ row ∷ []))
 pushed-holds [] db i row l h f = absurd (omega (arith, l))
@@ -246,9 +193,7 @@ pushed-holds (t ∷ ts) (rows ∷ db) zero row l h f = (recursion_push (AllZip F
 pushed-holds (t ∷ ts) (rows ∷ db) (suc i) row l h f = (h.0, pushed-holds ts db i row (omega (arith, l)) h.1 f)
 
 pub set-same : (db : List (List Row)) (i : ℕ) → slice_set db i (rows_of db i) ≡ db
-set-same [] i = refl
-set-same (rows ∷ db) zero = refl
-set-same (rows ∷ db) (suc i) = ap (λ l. rows ∷ l) (set-same db i)
+set-same db i = ap (slice_set db i) (unwrap_or-slice_get db i []) ∙ set-get_or db i []
 
 -- a push gives the row behind the others, or changes nothing
 pub pushed-or-not : {A E : Type 0} (r : Result A E) (old new : List Row) (row : Row) → OnOk r (new ≡ old ++ row ∷ []) → OnErr r (new ≡ old) → (new ≡ old ++ row ∷ []) ⊎ (new ≡ old)

@@ -1,8 +1,7 @@
 -- Walks over columns and over records.
-use Rattle.std.proofs.Common.{◌≡◌, ◌∙◌, ◌+◌, ◌<◌, ◌≤◌, ◌++◌, ℕ, zero, suc, Bool, true, false, List, [], ◌∷◌, Option, Some, None, if◌then◌else◌, refl, sym, ap, arith, length, get_or, drop, add-one, drop-cons, nat_lt, map, position, IsUtf8, le-ltb}
+use Rattle.std.proofs.Common.{◌≡◌, ◌∙◌, ◌+◌, ◌<◌, ◌≤◌, ◌++◌, ℕ, zero, suc, Bool, true, false, List, [], ◌∷◌, refl, sym, ap, length, get_or, drop, add-one, drop-cons, nat_lt, map, IsUtf8, le-ltb}
 use Rattle.std.proofs.lemmas.List.{append-nil, get_or-map}
 use Rattle.std.specs.Prelude.{Result, Ok, Err}
-use Rattle.std.specs.List.{position_or_len}
 use Rattle.vkg_lists.proofs.Results.{followed_first}
 use Rattle.vkg_lists.specs.Results.{followed_by, in_front}
 use Rattle.vkg_tables.specs.declared.fault.FileFault.{FileFault}
@@ -16,25 +15,6 @@ use Rattle.vkg_schema.specs.declared.table.Column.{Column}
 use Rattle.vkg_tables.specs.Field.{field_of}
 use Rattle.vkg_tables.specs.Steps.{FailsAs, cells_from, field_cell, file_records, onto, place_in, row_from, rows_from}
 use Rattle.vkg_tables.specs.TableFile.{fault}
-
-module _ {A : Type 0} (p : A → Bool) where
-  place-le : (xs : List A) → position_or_len p xs ≤ length xs
-  place-le [] = omega arith
-  place-le (x ∷ xs) = grind (arith, place-le xs)
-
-  pub place-some : (xs : List A) (n : ℕ) → ◌≡◌ {A = Option ℕ} (Some n) (position p xs) → n ≡ position_or_len p xs
-  place-some xs n e = by (nat_lt (position_or_len p xs) (length xs)) e
-    where
-      by : (b : Bool) → ◌≡◌ {A = Option ℕ} (Some n) (if b then Some (position_or_len p xs) else None) → n ≡ position_or_len p xs
-      by true e = cc e
-      by false e = cc e
-
-  pub place-none : (xs : List A) → ◌≡◌ {A = Option ℕ} None (position p xs) → length xs ≡ position_or_len p xs
-  place-none xs e = by (nat_lt (position_or_len p xs) (length xs)) refl e
-    where
-      by : (b : Bool) → nat_lt (position_or_len p xs) (length xs) ≡ b → ◌≡◌ {A = Option ℕ} None (if b then Some (position_or_len p xs) else None) → length xs ≡ position_or_len p xs
-      by true h e = cc e
-      by false h e = grind (arith, h, place-le xs)
 
 module _ {A : Type 0} where
   onto-in_front : (x : A) (r : Result (List A) FileFault) → onto (Ok x) r ≡ in_front x r

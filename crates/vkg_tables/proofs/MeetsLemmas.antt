@@ -3,8 +3,10 @@ use Rattle.std.proofs.Common.{◌≡◌, ◌∙◌, ◌+◌, ◌++◌, ◌&&◌,
 use Rattle.std.specs.Prelude.{IsFalse, IsTrue, slice_get}
 use Rattle.std.specs.List.{AllByRecursion, AllZip, list_any}
 use Rattle.std.specs.Option.{option_or}
+use Rattle.vkg_lists.proofs.Each.{recursion_weaken}
 use Rattle.vkg_lists.proofs.Heads.{any_more}
 use Rattle.vkg_lists.proofs.Bools.{neither}
+use Rattle.vkg_lists.proofs.Onto.{map_lacking}
 use Rattle.vkg_schema.specs.declared.table.Key.{Key}
 use Rattle.vkg_schema.specs.declared.table.Reference.{Reference}
 use Rattle.vkg_schema.specs.declared.table.Table.{Table}
@@ -15,7 +17,6 @@ use Rattle.vkg_tables.specs.Firsts.{earlier, first_after, first_orphan, first_re
 use Rattle.vkg_tables.proofs.Places.{first_table, first_table-first, least_place, least_place-first}
 use Rattle.vkg_tables.specs.Seen.{HoldsCells}
 use Rattle.vkg_tables.specs.declared.fault.TableFault.{TableFault}
-use Rattle.vkg_schema.proofs.Found.{all_weaken}
 
 -- no element passes
 none-step : {A : Type 0} (p : List A → A → Bool) (before : List A) (x : A) (xs : List A) → first_after p before (x ∷ xs) ≡ None → (p before x ≡ false) × (first_after p (before ++ x ∷ []) xs ≡ None)
@@ -68,13 +69,9 @@ no-earlier (Some a) (Some b) e = by (nat_lt b.0 a.0) e
     by true h = cc h
     by false h = cc h
 
-no-map : {A B : Type 0} (f : A → B) (o : Option A) → option_map f o ≡ None → o ≡ None
-no-map f None e = refl
-no-map f (Some x) e = cc e
-
 no-place : {X : Type 0} (f : X → Option ℕ) (n : ℕ) (xs : List X) → least_place f n xs ≡ None → AllByRecursion (λ x. f x ≡ None) xs
 no-place f n [] e = tt
-no-place f n (x ∷ xs) e = let two = no-earlier (option_map (λ r. (r, n)) (f x)) (least_place f (n + 1) xs) e in (no-map (λ r. (r, n)) (f x) two.0, no-place f (n + 1) xs two.1)
+no-place f n (x ∷ xs) e = let two = no-earlier (option_map (λ r. (r, n)) (f x)) (least_place f (n + 1) xs) e in (map_lacking (λ r. (r, n)) (f x) two.0, no-place f (n + 1) xs two.1)
 
 no-first : (a b : Option TableFault) → option_or a b ≡ None → (a ≡ None) × (b ≡ None)
 no-first None b e = (refl, e)
@@ -88,12 +85,12 @@ meets all n (t ∷ ts) [] h k r = absurd h
 meets all n (t ∷ ts) (rows ∷ dbs) h k r =
     let keys = no-first (option_map (table_fault 9 n) (slice_get (repeated_keys t rows) 0)) (first_table 9 (λ t rows. slice_get (repeated_keys t rows) 0) (n + 1) ts dbs) k in
     let refs = no-first (option_map (table_fault 10 n) (slice_get (broken_references all t rows) 0)) (first_table 10 (λ t rows. slice_get (broken_references all t rows) 0) (n + 1) ts dbs) r in
-    let key_none = least_place-first (λ key before row. repeats key.columns before row) t.keys rows ∙ no-map (table_fault 9 n) (slice_get (repeated_keys t rows) 0) keys.0 in
-    let ref_none = least_place-first (λ reference before row. is_orphan reference.pairs (rows_of all reference.table) row) t.references rows ∙ no-map (table_fault 10 n) (slice_get (broken_references all t rows) 0) refs.0 in (
+    let key_none = least_place-first (λ key before row. repeats key.columns before row) t.keys rows ∙ map_lacking (table_fault 9 n) (slice_get (repeated_keys t rows) 0) keys.0 in
+    let ref_none = least_place-first (λ reference before row. is_orphan reference.pairs (rows_of all reference.table) row) t.references rows ∙ map_lacking (table_fault 10 n) (slice_get (broken_references all t rows) 0) refs.0 in (
       record {
         cells = h.0;
-        keys = all_weaken _ (λ key. KeyHolds key rows) t.keys (λ key e. key-holds key rows e) (no-place (λ key. first_repeat key.columns rows) 1 t.keys key_none);
-        references = all_weaken _ (ReferenceHolds all rows) t.references (λ ref e. reference-holds all rows ref e) (no-place (λ ref. first_orphan ref.pairs (rows_of all ref.table) rows) 1 t.references ref_none);
+        keys = recursion_weaken _ (λ key. KeyHolds key rows) t.keys (λ key e. key-holds key rows e) (no-place (λ key. first_repeat key.columns rows) 1 t.keys key_none);
+        references = recursion_weaken _ (ReferenceHolds all rows) t.references (λ ref e. reference-holds all rows ref e) (no-place (λ ref. first_orphan ref.pairs (rows_of all ref.table) rows) 1 t.references ref_none);
       },
       meets all (n + 1) ts dbs h.1 keys.1 refs.1,
     )

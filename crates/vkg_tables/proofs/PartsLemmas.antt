@@ -1,16 +1,19 @@
 -- Rows agree where their parts are equal.
-use Rattle.std.proofs.Common.{◌≡◌, ◌∙◌, ◌&&◌, ◌||◌, ◌++◌, ℕ, zero, suc, Bool, true, false, not, List, [], ◌∷◌, Option, Some, None, map, option_map, if◌then◌else◌, refl, sym, ap, ap₂, arith, string_bytes, append_assoc, append-nil, length, get_or, ◌<◌, ◌≤◌}
+use Rattle.std.proofs.Common.{◌≡◌, ◌∙◌, ◌&&◌, ◌||◌, ◌++◌, ℕ, zero, suc, Bool, true, false, not, List, [], ◌∷◌, Option, Some, None, map, option_map, if◌then◌else◌, refl, sym, ap, ap₂, string_bytes, length, get_or, ◌<◌, ◌≤◌}
 use Rattle.std.specs.List.{list_any}
 use Rattle.std.specs.Cmp.Lexicographic.{bytes_decides, pointwise, pointwise_decides}
-use Rattle.std.proofs.lemmas.List.{map-append}
+use Rattle.std.proofs.lemmas.List.{get_or_past, map-append, map-id}
+use Rattle.std.proofs.lemmas.Option.{slice_get-get_or, unwrap_or-slice_get}
 use Rattle.std.proofs.Math.Bool.{and-false, or-false}
 use Rattle.std.specs.Str.{bytes_eq}
-use Rattle.std.specs.Prelude.{String, is_some}
+use Rattle.std.specs.Prelude.{String, is_some, unwrap_or}
 use Rattle.std.specs.String.{string_eq}
 use Rattle.std.specs.Prelude.{Vec}
 use Rattle.std.specs.Option.{option_to_list}
 use Rattle.vkg_lists.specs.Options.{with_first}
 use Rattle.vkg_lists.proofs.Heads.{any_more}
+use Rattle.vkg_lists.proofs.Onto.{is_some-first, onto_first}
+use Rattle.vkg_lists.proofs.Walks.{map-map}
 use Rattle.vkg_cells.specs.declared.cell.Cell.{Cell}
 use Rattle.vkg_cells.specs.declared.cell.Cell.TheVariants as cell
 use Rattle.vkg_cells.specs.Order.{same, same_form}
@@ -112,12 +115,10 @@ agree-parts (p ∷ ps) r s h =
     ∙ sym (both-onto (part (cell_at r p.0)) (part (cell_at s p.1)) (parts (map (λ p. p.0) ps) r) (parts (map (λ p. p.1) ps) s))
 
 first-itself : (key : List ℕ) → map (λ (p : ℕ × ℕ). p.0) (with_itself key) ≡ key
-first-itself [] = refl
-first-itself (k ∷ ks) = ap (λ (l : List ℕ). k ∷ l) (first-itself ks)
+first-itself key = map-map (λ (p : ℕ × ℕ). p.0) (λ c. (c, c)) key ∙ map-id key
 
 second-itself : (key : List ℕ) → map (λ (p : ℕ × ℕ). p.1) (with_itself key) ≡ key
-second-itself [] = refl
-second-itself (k ∷ ks) = ap (λ (l : List ℕ). k ∷ l) (second-itself ks)
+second-itself key = map-map (λ (p : ℕ × ℕ). p.1) (λ c. (c, c)) key ∙ map-id key
 
 -- the parts are there, and are some of these
 abbrev pub found : Option (List (List ℕ)) → List (List (List ℕ)) → Bool
@@ -160,15 +161,10 @@ known-part (cell.Stamp a) h = refl
 known-part (cell.Bin a) h = refl
 known-part (cell.Term s) h = absurd (h refl)
 
-there-onto : (x : Option (List ℕ)) (xs : Option (List (List ℕ))) → is_some (with_first x xs) ≡ is_some x && is_some xs
-there-onto None xs = refl
-there-onto (Some a) None = refl
-there-onto (Some a) (Some us) = refl
-
 known-parts : (columns : List ℕ) (r : Row) → HasNoTerm r → has_no_null columns r ≡ is_some (parts columns r)
 unfolding is_known
 known-parts [] r h = refl
-known-parts (c ∷ cs) r h = ap₂ (λ a b. a && b) (known-part (cell_at r c) (cell-NoTerm r c h)) (known-parts cs r h) ∙ sym (there-onto (part (cell_at r c)) (parts cs r))
+known-parts (c ∷ cs) r h = ap₂ (λ a b. a && b) (known-part (cell_at r c) (cell-NoTerm r c h)) (known-parts cs r h) ∙ sym (is_some-first (part (cell_at r c)) (parts cs r))
 
 missing : (o : Option (List (List ℕ))) (known : List (List (List ℕ))) → is_some o && not (found o known) ≡ is_missing o known
 missing None known = refl
@@ -192,38 +188,22 @@ pub any-texts : {Y Z : Type 0} (xs : List (String Y)) (vs : List (Vec (String Y)
 any-texts xs [] = refl
 any-texts xs (v ∷ vs) = ap₂ (λ a b. a || b) (strings-eq xs v.items) (any-texts xs vs)
 
-all_parts-append : (columns : List ℕ) (xs ys : List Row) → all_parts columns (xs ++ ys) ≡ all_parts columns xs ++ all_parts columns ys
-all_parts-append columns [] ys = refl
-all_parts-append columns (x ∷ xs) ys = ap (λ l. option_to_list (parts columns x) ++ l) (all_parts-append columns xs ys) ∙ sym (append_assoc (option_to_list (parts columns x)) (all_parts columns xs) (all_parts columns ys))
-
--- the parts of one more row
-pub all_parts-more : (columns : List ℕ) (rows : List Row) (row : Row) → all_parts columns (rows ++ row ∷ []) ≡ all_parts columns rows ++ option_to_list (parts columns row)
-all_parts-more columns rows row = all_parts-append columns rows (row ∷ []) ∙ ap (λ l. all_parts columns rows ++ l) (append-nil (option_to_list (parts columns row)))
-
 -- the walk over the columns
 pub parts-stop : (done : List (List ℕ)) (cs : List ℕ) (c : ℕ) (rest : List ℕ) (row : Row) (whole : Option (List (List ℕ))) → cs ≡ c ∷ rest → part (cell_at row c) ≡ None
     → option_map (λ ps. done ++ ps) (parts cs row) ≡ whole → None ≡ whole
 parts-stop done cs c rest row whole e n w = ap (λ x. option_map (λ ps. done ++ ps) (with_first x (parts rest row))) (sym n) ∙ ap (λ l. option_map (λ ps. done ++ ps) (parts l row)) (sym e) ∙ w
 
-onto-done : (done : List (List ℕ)) (t : List ℕ) (o : Option (List (List ℕ))) → option_map (λ ps. (done ++ t ∷ []) ++ ps) o ≡ option_map (λ ps. done ++ ps) (with_first (Some t) o)
-onto-done done t None = refl
-onto-done done t (Some ps) = ap Some (append_assoc done (t ∷ []) ps)
-
 pub parts-step : (done : List (List ℕ)) (cs : List ℕ) (c : ℕ) (rest : List ℕ) (row : Row) (whole : Option (List (List ℕ))) (t : List ℕ) → cs ≡ c ∷ rest → part (cell_at row c) ≡ Some t
     → option_map (λ ps. done ++ ps) (parts cs row) ≡ whole → option_map (λ ps. (done ++ t ∷ []) ++ ps) (parts rest row) ≡ whole
 parts-step done cs c rest row whole t e n w =
-    onto-done done t (parts rest row) ∙ ap (λ x. option_map (λ ps. done ++ ps) (with_first x (parts rest row))) (sym n) ∙ ap (λ l. option_map (λ ps. done ++ ps) (parts l row)) (sym e) ∙ w
+    sym (onto_first done t (parts rest row)) ∙ ap (λ x. option_map (λ ps. done ++ ps) (with_first x (parts rest row))) (sym n) ∙ ap (λ l. option_map (λ ps. done ++ ps) (parts l row)) (sym e) ∙ w
 
 -- the cell at a place past the end, and at one within
 pub cell_at-past : (row : Row) (k : ℕ) → length row ≤ k → cell_at row k ≡ cell.Null
-cell_at-past [] k h = refl
-cell_at-past (c ∷ row) zero h = absurd (omega (arith, h))
-cell_at-past (c ∷ row) (suc k) h = cell_at-past row k (omega (arith, h))
+cell_at-past row k h = unwrap_or-slice_get row k cell.Null ∙ get_or_past row k cell.Null h
 
 pub cell_at-in : (row : Row) (k : ℕ) (d : Cell) → k < length row → cell_at row k ≡ get_or row k d
-cell_at-in [] k d h = absurd (omega (arith, h))
-cell_at-in (c ∷ row) zero d h = refl
-cell_at-in (c ∷ row) (suc k) d h = cell_at-in row k d (omega (arith, h))
+cell_at-in row k d h = ap (λ o. unwrap_or o cell.Null) (slice_get-get_or row k d h)
 
 texts-same : (f t : List (List ℕ)) → texts_eq f t ≡ true → f ≡ t
 texts-same f t e = (pointwise_decides bytes_decides f t).0 e
@@ -247,6 +227,3 @@ inserted f false vs v e = ap (list_any (texts_eq f)) (map-append (λ w. map stri
 pub any-inserted : {Y Z : Type 0} (f : List (List ℕ)) (vs : List (Vec (String Y) Z)) (v : Vec (String Y) Z)
     → list_any (texts_eq f) (texts_of (if list_any (λ y. pointwise string_eq v.items y.items) vs then vs else vs ++ v ∷ [])) ≡ list_any (texts_eq f) (texts_of vs) || texts_eq f (map string_bytes v.items)
 any-inserted f vs v = inserted f (list_any (λ y. pointwise string_eq v.items y.items) vs) vs v (sym (any-texts v.items vs)) ∙ any_more (texts_eq f) (texts_of vs) (map string_bytes v.items)
-
-pub any-parts-more : (f : List (List ℕ)) (ks : List (List (List ℕ))) (t : List (List ℕ)) → list_any (texts_eq f) (ks ++ t ∷ []) ≡ list_any (texts_eq f) ks || texts_eq f t
-any-parts-more f ks t = any_more (texts_eq f) ks t

@@ -1,6 +1,6 @@
 -- The least place over things that are looked at one by one is the first place row by row.
 use Rattle.std.proofs.Common.{◌≡◌, ◌∙◌, ◌+◌, ◌<◌, ◌≤◌, ◌++◌, ℕ, Bool, true, false, List, [], ◌∷◌, Option, Some, None, option_map, if◌then◌else◌, refl, ap, subst, arith, length, length-append, nat_lt, le-ltb, lt-ltb, map}
-use Rattle.std.specs.Prelude.{⊤, slice_get}
+use Rattle.std.specs.Prelude.{IfSome, slice_get}
 use Rattle.std.specs.List.{enumerate_from, flat_map, position_from, zip}
 use Rattle.std.specs.Option.{option_or}
 use Rattle.vkg_schema.specs.declared.table.Table.{Table}
@@ -30,12 +30,10 @@ row_major p xs before [] = None
 row_major p xs before (r ∷ rs) = or_later (position_from (λ x. p x before r) 1 xs) (length before + 1) (row_major p xs (before ++ r ∷ []) rs)
 
 abbrev AtLeast : ℕ → Option ℕ → Type 0
-AtLeast m None = ⊤
-AtLeast m (Some n) = m ≤ n
+AtLeast m o = IfSome o (λ n. m ≤ n)
 
 abbrev FromRow : ℕ → Option (ℕ × ℕ) → Type 0
-FromRow m None = ⊤
-FromRow m (Some p) = m ≤ p.0
+FromRow m o = IfSome o (λ p. m ≤ p.0)
 
 module _ {A : Type 0} (p : List A → A → Bool) where
   after-least : (before rows : List A) → AtLeast (length before + 1) (first_after p before rows)

@@ -1,6 +1,7 @@
 -- The fields of a text are text.
-use Rattle.std.proofs.Common.{◌≡◌, ◌<◌, ◌≤◌, ◌+◌, ◌++◌, ◌&&◌, ◌==◌, ℕ, zero, suc, List, [], ◌∷◌, Bool, true, false, Option, Some, None, cond, if◌then◌else◌, length, nat_lt, sym, ap, subst, ◌∙◌, refl, arith, ne_eqb, IsUtf8, append_assoc, le-ltb, eqb-true, true≢false}
-use Rattle.std.specs.Prelude.{⊤}
+use Rattle.std.proofs.Common.{◌≡◌, ◌<◌, ◌≤◌, ◌+◌, ◌++◌, ◌&&◌, ◌==◌, ℕ, zero, suc, List, [], ◌∷◌, Bool, true, false, Option, Some, None, cond, if◌then◌else◌, length, nat_lt, sym, ap, subst, ◌∙◌, refl, arith, ne_eqb, IsUtf8, append_assoc, le-ltb, eqb-true}
+use Rattle.std.specs.Prelude.{IfSome}
+use Rattle.std.specs.List.{AllByRecursion}
 use Rattle.std.proofs.lemmas.Str.{IsUtf8-append, IsUtf8-encode, IsUtf8-nil, encode_ascii, encode_same, len_utf8_bounds, length-encode}
 use native.Mathlib.Decide.{dec_lt}
 use Rattle.std.proofs.Math.Utf8.{encode, encodes, scalars, scalar}
@@ -18,8 +19,7 @@ use Rattle.vkg_tables.specs.Texts.{AreTexts}
 
 -- each byte lies past ASCII
 abbrev High : List ℕ → Type 0
-High [] = ⊤
-High (b ∷ bs) = (128 ≤ b) × High bs
+High bs = AllByRecursion (λ b. 128 ≤ b) bs
 
 pick : (P : List ℕ → Type 0) (a b c d : List ℕ) (x y z : Bool) → x ≡ false → P b → P c → P d → P (cond x a (cond y b (cond z c d)))
 pick P a b c d true y z e pb pc pd = cc e
@@ -105,8 +105,7 @@ char-high st.AfterCr (b ∷ bs) h u n fields field rest uf = copies-high st.Afte
 
 -- a read gave text, and left text
 abbrev Textual : Option Read → Type 0
-Textual None = ⊤
-Textual (Some p) = AllText p.0 × IsUtf8 p.2
+Textual o = IfSome o (λ p. AllText p.0 × IsUtf8 p.2)
 
 either : (b : Bool) (x y : Option Read) → Textual x → Textual y → Textual (if b then x else y)
 either true x y tx ty = tx

@@ -1,9 +1,10 @@
 -- Triples are found by the texts of their subjects.
-use Rattle.std.proofs.Common.{◌≡◌, ℕ, suc, ◌+◌, ◌<◌, refl, sym, ◌∙◌, ap, List, [], ◌∷◌, ◌++◌, drop, length, get_or, Bool, true, false, Option, Some, None, arith, append_assoc, drop-cons, add-one}
+use Rattle.std.proofs.Common.{◌≡◌, ℕ, suc, ◌+◌, ◌<◌, refl, sym, ◌∙◌, ap, List, [], ◌∷◌, ◌++◌, drop, length, get_or, Bool, true, false, Option, Some, None, arith, append_assoc}
 use Rattle.std.specs.Prelude.{◌&&◌, filter_map, slice_get, if◌then◌else◌, option_and_then}
 use Rattle.std.specs.List.{cons_option, enumerate_from}
 use Rattle.std.specs.Str.{bytes_eq}
 use Rattle.std.proofs.lemmas.Bool.{and_left}
+use Rattle.vkg_lists.proofs.Firsts.{opened}
 use Rattle.vkg_terms.specs.declared.term.Term.{Term}
 use Rattle.vkg_terms.specs.declared.term.Term.TheVariants.{Iri, Blank, Lit}
 use Rattle.vkg_terms.specs.Same.{term_eq, term_name, annotation_eq}
@@ -21,10 +22,9 @@ one_more false i g rest = append_assoc g [] rest
 pub numbers_more : (xs : List Triple) (i : ℕ) (x : Triple) (q : List ℕ) (g g' all : List ℕ) → i < length xs → x ≡ get_or xs i x → g' ≡ g ++ (if bytes_eq q (term_name x.subject) then i ∷ [] else []) → g ++ numbers_named q (enumerate_from i (drop i xs)) ≡ all → g' ++ numbers_named q (enumerate_from (i + 1) (drop (i + 1) xs)) ≡ all
 numbers_more xs i x q g g' all h e n was =
     let rest = numbers_named q (enumerate_from (i + 1) (drop (i + 1) xs)) in
-    let opened : drop i xs ≡ x ∷ drop (i + 1) xs = drop-cons xs i x h ∙ (ap (λ z. z ∷ drop (suc i) xs) (sym e) ∙ ap (λ j. x ∷ drop j xs) (sym (add-one i))) in
     ap (λ g. g ++ rest) n
     ∙ (one_more (bytes_eq q (term_name x.subject)) i g rest
-    ∙ (ap (λ ys. g ++ numbers_named q (enumerate_from i ys)) (sym opened) ∙ was))
+    ∙ (ap (λ ys. g ++ numbers_named q (enumerate_from i ys)) (sym (opened xs i x h e)) ∙ was))
 
 -- ---- what the triples under a text give
 

@@ -1,8 +1,8 @@
 -- The term maps of a mapping graph are over the columns that they are read over.
-use Rattle.std.proofs.Common.{◌≡◌, ℕ, ◌<◌, Bool, true, false, cond, List, [], ◌∷◌, map, length, nat_lt, refl, sym, subst, arith}
-use Rattle.std.specs.Prelude.{Option, Some, None, option_map, Result, Ok, Err, flat_map, position}
-use Rattle.std.specs.List.{position_or_len}
+use Rattle.std.proofs.Common.{◌≡◌, ℕ, ◌<◌, Bool, true, false, cond, List, [], ◌∷◌, map, length, refl, sym, subst}
+use Rattle.std.specs.Prelude.{Option, Some, None, option_map, Result, Ok, Err, flat_map}
 use Rattle.std.proofs.lemmas.List.{length-map}
+use Rattle.vkg_lists.proofs.Positions.{place_within}
 use Rattle.vkg_lists.specs.Lists.{AllBelow}
 use Rattle.vkg_lists.specs.Results.{mapped}
 use Rattle.vkg_lists.specs.Options.{with_first}
@@ -37,15 +37,6 @@ use Rattle.vkg_term_maps.specs.TermMaps.{by_standing, column_map, constant, cons
 use Rattle.vkg_maps.specs.Within.{IsOver, piece_columns}
 use Rattle.vkg_cells.specs.WellTyped.{is_wide_number}
 
-module _ {A : Type 0} where
-  -- a place is within the list
-  pub place_within : (p : A → Bool) (xs : List A) (i : ℕ) → position p xs ≡ Some i → i < length xs
-  place_within p xs i e = of (nat_lt (position_or_len p xs) (length xs)) refl e
-    where
-      of : (b : Bool) → nat_lt (position_or_len p xs) (length xs) ≡ b → cond b (Some (position_or_len p xs)) None ≡ Some i → i < length xs
-      of true t e = let l : position_or_len p xs < length xs = grind arith in let s : position_or_len p xs ≡ i = cc in subst (λ n. n < length xs) s l
-      of false t e = cc
-
 abbrev Read : Type 0
 Read = Result TermMap TermMapFault
 
@@ -73,7 +64,7 @@ module _ (columns : List Column) where
   over_typed made h (Ok y) t e = let same : made y ≡ t = cc in subst Over same (h y)
   over_typed made h (Err f) t e = cc
 
-  column_below : (text : List ℕ) (at : ℕ) → column_of columns text ≡ Some at → at < length (kinds columns)
+  pub column_below : (text : List ℕ) (at : ℕ) → column_of columns text ≡ Some at → at < length (kinds columns)
   column_below text at e = as_kinds at (place_within (λ (c : Column). means text c.name) columns at e)
 
   over_column : (role : Role) (p : Properties) (text : List ℕ) (t : TermMap) → column_map role p columns (column_of columns text) ≡ Ok t → Over t

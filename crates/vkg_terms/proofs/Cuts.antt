@@ -1,29 +1,16 @@
 -- Where a text is cut.
-use Rattle.std.proofs.Common.{get_or, append_assoc, ◌++◌, ◌≡◌, ℕ, zero, suc, ◌-◌, ◌+◌, ◌<◌, ◌≤◌, ◌==◌, ◌||◌, refl, sym, ◌∙◌, ap, List, [], ◌∷◌, length, Bool, true, false, cond, Option, Some, None, arith, not, take, drop, codes}
+use Rattle.std.proofs.Common.{append_assoc, ◌++◌, ◌≡◌, ℕ, ◌-◌, ◌+◌, ◌<◌, ◌≤◌, ◌==◌, ◌||◌, refl, sym, ◌∙◌, ap, List, [], ◌∷◌, length, Bool, true, false, cond, Option, Some, None, arith, not, take, drop, codes}
 use Rattle.std.specs.Prelude.{MatchOption, if◌then◌else◌}
 use Rattle.std.specs.List.{position_or_len, before_first, after_first, list_any, suffix_len, before_last}
 use Rattle.std.specs.Str.{IsCharBoundary}
 use Rattle.std.specs.Str.Pattern.{RFindsChar, FindsChar}
 use Rattle.std.proofs.lemmas.Bool.Decides.{nat_tests}
+use Rattle.std.proofs.lemmas.List.Folds.{list_any_at}
 use Rattle.std.proofs.lemmas.List.Sums.{position_or_len_is, suffix_len_is}
 use Rattle.std.proofs.lemmas.Str.Pattern.{find_char, rfind_char}
+use Rattle.vkg_lists.proofs.Positions.{first_here, first_later, lacks}
 use Rattle.vkg_terms.specs.Iri.{is_one_of}
 use Rattle.vkg_terms.specs.Resolve.{up_to_last_slash, after, from_slash}
-
-first_here : {X : Type 0} (p : X → Bool) (x : X) (xs : List X) → p x ≡ true → position_or_len p (x ∷ xs) ≡ 0
-first_here p x xs e = ap (λ b. cond (not b) (1 + position_or_len p xs) 0) e
-
-first_later : {X : Type 0} (p : X → Bool) (x : X) (xs : List X) → p x ≡ false → position_or_len p (x ∷ xs) ≡ suc (position_or_len p xs)
-first_later p x xs e = ap (λ b. cond (not b) (1 + position_or_len p xs) 0) e ∙ omega arith
-
-lacks_by : (p : ℕ → Bool) (x : ℕ) (xs : List ℕ) → (position_or_len p xs ≡ length xs → list_any p xs ≡ false) → position_or_len p (x ∷ xs) ≡ length (x ∷ xs) → (b : Bool) → p x ≡ b → (p x || list_any p xs) ≡ false
-lacks_by p x xs rest e true h = let k = first_here p x xs h in absurd (omega (arith, k, e))
-lacks_by p x xs rest e false h = let k = first_later p x xs h in let more = rest (omega (arith, k, e)) in cc
-
--- the first place is the end where nothing passes
-pub lacks : (p : ℕ → Bool) (xs : List ℕ) → position_or_len p xs ≡ length xs → list_any p xs ≡ false
-lacks p [] e = refl
-lacks p (x ∷ xs) e = lacks_by p x xs (lacks p xs) e (p x) refl
 
 pub after_lacks : (c : ℕ) (text : List ℕ) → position_or_len (λ b. b == c) text ≡ length text → after c text ≡ None
 after_lacks c text e = ap (λ b. if b then Some (after_first (λ b. b == c) text) else None) (lacks (λ b. b == c) text e)
@@ -81,15 +68,6 @@ found_none c s r h low is =
     let none = rw is at (find_char c s r h low) in
     position_or_len_is (λ b. b == c) s (length s) 0 (omega arith) (λ k l. let other = none k l in grind (arith, nat_tests)) (λ l. absurd (omega arith))
 
-holds_at : (p : ℕ → Bool) (xs : List ℕ) (k : ℕ) → k < length xs → p (get_or xs k 0) ≡ true → list_any p xs ≡ true
-holds_at p [] k inside e = absurd (omega arith)
-holds_at p (x ∷ xs) zero inside e = ap (λ b. b || list_any p xs) e
-holds_at p (x ∷ xs) (suc k) inside e = later (p x) (holds_at p xs k (omega arith) e)
-  where
-    later : (b : Bool) → list_any p xs ≡ true → (b || list_any p xs) ≡ true
-    later true h = refl
-    later false h = h
-
 -- the clause of `rfind`
 abbrev pub FindsLast : ℕ → List ℕ → Option ℕ → Type 0
 FindsLast c s r = MatchOption r (RFindsChar c s None) (λ i. (j : ℕ) × RFindsChar c s (Some (i, j)) × (i ≤ j) × IsCharBoundary s i × IsCharBoundary s j)
@@ -97,7 +75,7 @@ FindsLast c s r = MatchOption r (RFindsChar c s None) (λ i. (j : ℕ) × RFinds
 pub last_slash : (s : List ℕ) (r : Option ℕ) (i : ℕ) → FindsLast 47 s r → r ≡ Some i → up_to_last_slash s ≡ take i s ++ codes "/"
 last_slash s r i h is =
     let (inside, here, later) = rw is at (rfind_char 47 s r h (omega arith)) in
-    let any : list_any (λ b. b == 47) s ≡ true = holds_at (λ b. b == 47) s i inside (grind (arith, nat_tests)) in
+    let any : list_any (λ b. b == 47) s ≡ true = list_any_at (λ b. b == 47) s i 0 inside (grind (arith, nat_tests)) in
     let after_it : suffix_len (λ b. not (b == 47)) s ≡ length s - (i + 1) =
     suffix_len_is (λ b. not (b == 47)) s (i + 1) 0 (omega arith) (λ k low l. let other = later k (omega arith) l in grind (arith, nat_tests)) (λ _. let at : i + 1 - 1 ≡ i = omega arith in rw at (grind (arith, nat_tests))) in
     let place : length s - suffix_len (λ b. not (b == 47)) s - 1 ≡ i = omega (arith, after_it) in

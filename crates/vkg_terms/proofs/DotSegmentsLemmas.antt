@@ -4,6 +4,8 @@ use Rattle.std.specs.Prelude.{option_to_list, if◌then◌else◌, MatchOption}
 use Rattle.std.specs.List.{concat}
 use Rattle.std.proofs.lemmas.Bool.Decides.{nat_tests}
 use Rattle.std.proofs.lemmas.List.{append-nil, length-map}
+use Rattle.std.proofs.lemmas.List.Concat.{concat_is}
+use Rattle.std.proofs.lemmas.List.Folds.{flat_map-map}
 use Rattle.vkg_terms.specs.Resolve.{is_dot, is_dots, kept, without_last}
 use Rattle.vkg_terms.specs.DotSegments.{going, with_segment}
 
@@ -52,5 +54,4 @@ kept_step started done new segs i d all begun inside before now =
     ∙ before
 
 pub flat_concat : {A : Type 0} (f : A → List ℕ) (xs : List A) → flat_map f xs ≡ concat (map f xs)
-flat_concat f [] = refl
-flat_concat f (x ∷ xs) = ap (λ (l : List ℕ). f x ++ l) (flat_concat f xs)
+flat_concat f xs = sym (concat_is (map f xs) ∙ flat_map-map (λ x. x) f xs)

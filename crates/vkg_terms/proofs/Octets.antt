@@ -1,26 +1,32 @@
 -- Octets of a text, and tests of each.
-use Rattle.std.proofs.Common.{◌≡◌, ℕ, zero, suc, ◌+◌, ◌/◌, ◌<◌, ◌≤◌, refl, ◌∙◌, ap, [], ◌∷◌, Bool, true, false, not, cond, ◌&&◌, ◌||◌, ltb, arith, ◌⊎◌, ⊎_elim}
+use Rattle.std.proofs.Common.{◌≡◌, ℕ, ◌+◌, ◌/◌, ◌<◌, ◌≤◌, refl, ap, List, [], ◌∷◌, ◌++◌, length, length-append, Bool, true, false, cond, ltb, nat_lt, get_or, arith}
 use Rattle.std.specs.List.{list_all}
-use Rattle.std.proofs.lemmas.Bool.{ltb-true}
-use Rattle.vkg_lists.proofs.Bools.{and_true, and_parts}
+use Rattle.std.specs.Str.{IsAscii}
+use Rattle.std.proofs.lemmas.Bool.{agree_below, agree_below_at, ltb-true}
+use Rattle.std.proofs.lemmas.List.Sums.{AllPass-from_list_all}
+use Rattle.std.proofs.lemmas.Str.{length-encode, len_utf8_bounds}
+use Rattle.std.proofs.lemmas.Str.Ascii.{IsAscii-from_all}
+use Rattle.vkg_lists.proofs.Bools.{and_true}
 use lib.Utf8.{encode, next, scalar}
 
 -- a test that was made of every number below n
-abbrev pub passes_below : ℕ → (ℕ → Bool) → Bool
-passes_below zero p = true
-passes_below (suc n) p = p n && passes_below n p
-
-last_or_below : (k n : ℕ) → k < suc n → (k < n) ⊎ (k ≡ n)
-last_or_below k n h = grind arith
-
-pub use_below : (n : ℕ) (p : ℕ → Bool) → passes_below n p ≡ true → (k : ℕ) → k < n → p k ≡ true
-use_below zero p e k h = absurd (let x : ⊥ = omega (arith, h) in x)
-use_below (suc n) p e k h =
-    let b = and_parts (p n) (passes_below n p) e in
-    ⊎_elim (λ (l : k < n). use_below n p b.1 k l) (λ (s : k ≡ n). ap p s ∙ b.0) (last_or_below k n h)
+pub use_below : (n : ℕ) (p : ℕ → Bool) → agree_below p (λ k. true) n ≡ true → (k : ℕ) → k < n → p k ≡ true
+use_below n p e k h = agree_below_at p (λ k. true) n k e h
 
 pub scalar_below : (c : ℕ) → scalar c ≡ true → c < 1114112
 scalar_below c e = grind arith
+
+pub ascii_small : (text : List ℕ) → list_all (λ b. nat_lt b 128) text ≡ true → IsAscii text
+ascii_small text e = IsAscii-from_all text (λ k d l. ltb-true (get_or text k d) 128 (AllPass-from_list_all (λ b. nat_lt b 128) text e k d l))
+
+-- a character has an octet
+pub not_nothing : (c : ℕ) (u : List ℕ) → [] ≡ encode c ++ u → ⊥
+not_nothing c u e =
+    let h : 0 ≡ length (encode c ++ u) = ap length e in
+    let k : length (encode c ++ u) ≡ length (encode c) + length u = length-append (encode c) u in
+    let n = length-encode c in
+    let m = (len_utf8_bounds c).0 in
+    omega (arith, h, k, n, m)
 
 -- the octets of a character are itself, or all at least 128
 pub encode_all : (p : ℕ → Bool) (c : ℕ) → c < 1114112 → ((b : ℕ) → 128 ≤ b → b < 256 → p b ≡ true) → (c < 128 → p c ≡ true) → list_all p (encode c) ≡ true

@@ -1,5 +1,5 @@
 -- The IRI-safe form: its escapes give the text back, and it holds only iunreserved characters and `%`.
-use Rattle.std.proofs.Common.{◌≡◌, ◌≢◌, ◌<◌, ◌≤◌, ◌++◌, ◌&&◌, ◌||◌, ◌==◌, ◌/◌, ◌%◌, ℕ, List, [], ◌∷◌, Bool, true, false, if◌then◌else◌, nat_lt, sym, ap, ◌∙◌, refl, arith, append_assoc, ltb-true, IsAscii, not, zero, suc}
+use Rattle.std.proofs.Common.{◌≡◌, ◌≢◌, ◌<◌, ◌≤◌, ◌++◌, ◌&&◌, ◌||◌, ◌==◌, ◌/◌, ◌%◌, ℕ, List, [], ◌∷◌, Bool, true, false, if◌then◌else◌, nat_lt, sym, ap, ◌∙◌, refl, arith, append_assoc, ltb-true, not}
 use Rattle.std.specs.Prelude.{flat_map, chars, IsUtf8}
 use Rattle.std.specs.List.{list_all}
 use Rattle.std.proofs.lemmas.Str.{encodes-chars, scalars-chars, chars-append, chars-encodes, chars-IsAscii, IsUtf8-from_ascii, IsUtf8-encode, chars-nil}
@@ -10,7 +10,9 @@ use Rattle.std.proofs.Math.Utf8.{encode, encodes, scalar, scalars}
 use Rattle.percent_encoding.specs.Percent.{percent_decode, percent_encode_byte}
 use Rattle.percent_encoding.proofs.PercentLemmas.{percent_decode-nil, percent_decode-percent_encode_byte, percent_decode_not_percent}
 use Rattle.vkg_lists.proofs.Bools.{and_true, and_parts, implied}
-use Rattle.vkg_terms.proofs.Octets.{use_below, encode_all, scalar_below}
+use Rattle.vkg_lists.proofs.Positions.{all_weaken}
+use Rattle.vkg_lists.proofs.Walks.{list_all-flat_map}
+use Rattle.vkg_terms.proofs.Octets.{ascii_small, use_below, encode_all, scalar_below}
 use Rattle.vkg_terms.specs.Safe.{safe, safe_character, percent, is_unreserved, is_safe_character}
 
 -- the escape of an octet is that of the kit
@@ -80,22 +82,15 @@ pub plain_percent : (b : ℕ) → b < 256 → list_all plain (percent b) ≡ tru
 plain_percent = use_below 256 (λ b. list_all plain (percent b)) refl
 
 plain_percents : (bs : List ℕ) → list_all (λ b. nat_lt b 256) bs ≡ true → list_all plain (flat_map percent bs) ≡ true
-plain_percents [] e = refl
-plain_percents (b ∷ bs) e =
-    let parts = and_parts (nat_lt b 256) (list_all (λ b. nat_lt b 256) bs) e in
-    list_all-append plain (percent b) (flat_map percent bs) ∙ and_true _ _ (plain_percent b (ltb-true b 256 parts.0)) (plain_percents bs parts.1)
-
-ascii_from_plain : (xs : List ℕ) → list_all plain xs ≡ true → IsAscii xs
-ascii_from_plain [] e i = omega arith
-ascii_from_plain (x ∷ xs) e zero = ltb-true x 128 (and_parts _ _ (and_parts (plain x) (list_all plain xs) e).0).1
-ascii_from_plain (x ∷ xs) e (suc i) = ascii_from_plain xs (and_parts (plain x) (list_all plain xs) e).1 i
-
-safe_from_plain : (xs : List ℕ) → list_all plain xs ≡ true → list_all is_safe_character xs ≡ true
-safe_from_plain [] e = refl
-safe_from_plain (x ∷ xs) e = let h = and_parts (plain x) (list_all plain xs) e in and_true _ _ (and_parts _ _ h.0).0 (safe_from_plain xs h.1)
+plain_percents bs e =
+    list_all-flat_map plain percent bs
+    ∙ all_weaken (λ b. nat_lt b 256) (λ b. list_all plain (percent b)) bs (λ b h. plain_percent b (ltb-true b 256 h)) e
 
 plain_ascii : (xs : List ℕ) → list_all plain xs ≡ true → IsUtf8 xs × (list_all is_safe_character (chars xs) ≡ true)
-plain_ascii xs e = let ascii = ascii_from_plain xs e in (IsUtf8-from_ascii xs ascii, ap (list_all is_safe_character) (chars-IsAscii xs ascii) ∙ safe_from_plain xs e)
+plain_ascii xs e =
+    let ascii = ascii_small xs (all_weaken plain (λ b. nat_lt b 128) xs (λ b h. (and_parts (is_safe_character b) (nat_lt b 128) h).1) e) in
+    let safes = all_weaken plain is_safe_character xs (λ b h. (and_parts (is_safe_character b) (nat_lt b 128) h).0) e in
+    (IsUtf8-from_ascii xs ascii, ap (list_all is_safe_character) (chars-IsAscii xs ascii) ∙ safes)
 
 stays : (c : ℕ) → is_unreserved c ≡ true → is_safe_character c ≡ true
 stays c k = ap (λ b. b || c == 37) k

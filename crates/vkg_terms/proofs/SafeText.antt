@@ -3,17 +3,13 @@ use Rattle.std.proofs.Common.{◌≡◌, ℕ, suc, ◌+◌, ◌<◌, ◌≤◌, 
 use Rattle.std.specs.Prelude.{chars, encode_utf8}
 use Rattle.std.specs.List.{list_all, list_any, before_first, position_or_len}
 use Rattle.std.proofs.lemmas.List.Folds.{list_all-append, list_any-append}
-use lib.Utf8.{encode, scalar, scalars}
+use lib.Utf8.{scalar, scalars}
 use Rattle.vkg_terms.specs.Iri.{is_iri_character, is_absolute, has_scheme, is_scheme}
 use Rattle.vkg_terms.specs.Safe.{safe, safe_character, is_unreserved, percent}
 use Rattle.vkg_lists.proofs.Bools.{and_true, and_parts, implied}
+use Rattle.vkg_lists.proofs.Positions.{all_weaken}
+use Rattle.vkg_lists.proofs.Walks.{list_all-flat_map}
 use Rattle.vkg_terms.proofs.Octets.{use_below, encode_all, scalar_below}
-
-all_percent : (bs : List ℕ) → list_all (λ b. list_all is_iri_character (percent b)) bs ≡ true → list_all is_iri_character (flat_map percent bs) ≡ true
-all_percent [] e = refl
-all_percent (b ∷ bs) e =
-    let h = and_parts (list_all is_iri_character (percent b)) (list_all (λ b. list_all is_iri_character (percent b)) bs) e in
-    list_all-append is_iri_character (percent b) (flat_map percent bs) ∙ and_true (list_all is_iri_character (percent b)) _ h.0 (all_percent bs h.1)
 
 percents : (b : ℕ) → b < 256 → list_all is_iri_character (percent b) ≡ true
 percents = use_below 256 (λ b. list_all is_iri_character (percent b)) refl
@@ -27,18 +23,14 @@ low b u l = implied (is_unreserved b) (is_iri_character b) (use_below 128 (λ b.
 safe_one : (c : ℕ) → c < 1114112 → list_all is_iri_character (safe_character c) ≡ true
 safe_one c s = elim (is_unreserved c) as (λ b. is_unreserved c ≡ b → list_all is_iri_character (cond b (encode_utf8 c) (flat_map percent (encode_utf8 c))) ≡ true) [
   | true ↦ λ e. encode_all is_iri_character c s high (low c e)
-  | false ↦ λ e. all_percent (encode_utf8 c) (encode_all (λ b. list_all is_iri_character (percent b)) c s (λ b h l. percents b l) (λ l. percents c (omega (arith, l))))
+  | false ↦ λ e. list_all-flat_map is_iri_character percent (encode_utf8 c) ∙ encode_all (λ b. list_all is_iri_character (percent b)) c s (λ b h l. percents b l) (λ l. percents c (omega (arith, l)))
 ] refl
-
-all_safe : (cs : List ℕ) → scalars cs ≡ true → list_all is_iri_character (flat_map safe_character cs) ≡ true
-all_safe [] e = refl
-all_safe (c ∷ cs) e =
-    let h = and_parts (scalar c) (scalars cs) e in
-    list_all-append is_iri_character (safe_character c) (flat_map safe_character cs) ∙ and_true (list_all is_iri_character (safe_character c)) _ (safe_one c (scalar_below c h.0)) (all_safe cs h.1)
 
 -- what is put in IRI-safe holds only characters of IRIs
 pub safe_all : (text : List ℕ) → scalars (chars text) ≡ true → list_all is_iri_character (safe text) ≡ true
-safe_all text e = all_safe (chars text) e
+safe_all text e =
+    list_all-flat_map is_iri_character safe_character (chars text)
+    ∙ all_weaken scalar (λ c. list_all is_iri_character (safe_character c)) (chars text) (λ c s. safe_one c (scalar_below c s)) e
 
 before_more : (p : ℕ → Bool) (xs ys : List ℕ) → list_any p xs ≡ true → before_first p (xs ++ ys) ≡ before_first p xs
 before_more p [] ys e = cc

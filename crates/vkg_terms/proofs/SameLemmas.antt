@@ -3,8 +3,9 @@ use Rattle.std.proofs.Common.{◌≡◌, ◌∙◌, refl, sym, ap, ℕ, List, tr
 use Rattle.std.specs.Bool.{Decides}
 use Rattle.std.specs.Cmp.{first_so, second_so}
 use Rattle.std.specs.Str.{bytes_eq}
-use Rattle.std.proofs.lemmas.Slice.Eq.{bytes_eq-Decides}
 use Rattle.vkg_lists.specs.Sets.{IsEqualityTest}
+use Rattle.vkg_lists.proofs.Counts.{eq_itself, eq_same}
+use Rattle.vkg_lists.proofs.Texts.{bytes_test}
 use Rattle.vkg_terms.specs.declared.term.Term.{Term}
 use Rattle.vkg_terms.specs.declared.term.Term.TheVariants.{Iri, Blank, Lit}
 use Rattle.vkg_terms.specs.declared.term.Annotation.{Annotation}
@@ -12,12 +13,12 @@ use Rattle.vkg_terms.specs.declared.term.Annotation.TheVariants.{Plain, Lang, Ty
 use Rattle.vkg_terms.specs.Same.{annotation_eq, term_eq}
 
 pub same_bytes : (xs ys : List ℕ) → bytes_eq xs ys ≡ true → xs ≡ ys
-same_bytes xs ys = (bytes_eq-Decides xs ys).0
+same_bytes xs ys e = eq_same bytes_test xs ys e
 
 pub bytes_itself : (xs : List ℕ) → bytes_eq xs xs ≡ true
-bytes_itself xs = (bytes_eq-Decides xs xs).1 refl
+bytes_itself xs = eq_itself bytes_test xs
 
-same_annotation : (a b : Annotation) → annotation_eq a b ≡ true → a ≡ b
+pub same_annotation : (a b : Annotation) → annotation_eq a b ≡ true → a ≡ b
 same_annotation Plain Plain e = refl
 same_annotation Plain (Lang b) e = cc
 same_annotation Plain (Typed b) e = cc
@@ -28,7 +29,7 @@ same_annotation (Typed a) Plain e = cc
 same_annotation (Typed a) (Lang b) e = cc
 same_annotation (Typed a) (Typed b) e = ap Typed (same_bytes a b e)
 
-annotation_itself : (a : Annotation) → annotation_eq a a ≡ true
+pub annotation_itself : (a : Annotation) → annotation_eq a a ≡ true
 annotation_itself Plain = refl
 annotation_itself (Lang a) = bytes_itself a
 annotation_itself (Typed a) = bytes_itself a

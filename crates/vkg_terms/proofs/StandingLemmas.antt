@@ -3,6 +3,7 @@ use Rattle.std.proofs.Common.{◌≡◌, refl, sym, ◌∙◌, ap, ℕ, suc, Lis
 use Rattle.std.specs.Prelude.{fold, filter_map, take_while, take, if◌then◌else◌, ◌==◌, is_none}
 use Rattle.std.specs.List.{list_any, list_all, prefix_len}
 use Rattle.std.proofs.lemmas.Bool.Decides.{eqb_tells}
+use Rattle.std.proofs.lemmas.List.Folds.{fold_stays}
 use Rattle.std.proofs.lemmas.List.Sums.{fold-append}
 use Rattle.std.specs.Char.{is_ascii_alphabetic}
 use Rattle.std.specs.Cmp.{first_so, second_so}
@@ -133,19 +134,13 @@ front_goes (Some c ∷ ps) e =
 -- ---- what ends the front decides
 
 stays_absolute : (ps : List (Option ℕ)) → fold after_place Absolute ps ≡ Absolute
-stays_absolute [] = refl
-stays_absolute (None ∷ ps) = stays_absolute ps
-stays_absolute (Some c ∷ ps) = stays_absolute ps
+stays_absolute ps = fold_stays after_place Absolute (λ p. elim p as (λ q. after_place Absolute q ≡ Absolute) [ None ↦ refl | Some c ↦ refl ]) ps
 
 stays_relative : (ps : List (Option ℕ)) → fold after_place Relative ps ≡ Relative
-stays_relative [] = refl
-stays_relative (None ∷ ps) = stays_relative ps
-stays_relative (Some c ∷ ps) = stays_relative ps
+stays_relative ps = fold_stays after_place Relative (λ p. elim p as (λ q. after_place Relative q ≡ Relative) [ None ↦ refl | Some c ↦ refl ]) ps
 
 stays_doubtful : (ps : List (Option ℕ)) → fold after_place Doubtful ps ≡ Doubtful
-stays_doubtful [] = refl
-stays_doubtful (None ∷ ps) = stays_doubtful ps
-stays_doubtful (Some c ∷ ps) = stays_doubtful ps
+stays_doubtful ps = fold_stays after_place Doubtful (λ p. elim p as (λ q. after_place Doubtful q ≡ Doubtful) [ None ↦ refl | Some c ↦ refl ]) ps
 
 -- the standing that a colon, or another character, gives to a front
 abbrev stands_by : Bool → Bool → List ℕ → Standing

@@ -2,8 +2,10 @@
 use Rattle.std.proofs.Common.{◌≡◌, ◌≢◌, ◌==◌, ◌++◌, ◌∷◌, [], List, ℕ, sym, ap, ◌∙◌, subst, refl, Option, Some, None, Bool, true, false, if◌then◌else◌, arith, append_assoc, flat_map, map}
 use Rattle.std.specs.Prelude.{option_map}
 use Rattle.std.proofs.lemmas.Bool.Decides.{nat_tests}
+use Rattle.std.proofs.lemmas.Iterator.Adapters.{option_map_id}
 use Rattle.std.proofs.lemmas.List.{append-nil}
 use Rattle.std.proofs.lemmas.Option.{same_Some, none-some}
+use Rattle.vkg_lists.proofs.Onto.{map_given}
 use Rattle.vkg_terms.specs.declared.template.Part.{Part}
 use Rattle.vkg_terms.specs.declared.template.Part.TheVariants.{Fixed, Hole}
 use Rattle.vkg_terms.specs.TemplateParts.{Mark, Plain, Open, Close, mark, marks, onto, escape, is_special, onto_fixed, hole, outside, inside, outside_if_any, template_of}
@@ -28,10 +30,6 @@ marks-written (Plain b ∷ ms) = plain_marks b (flat_map written ms) ms (is_spec
 marks-written (Open ∷ ms) = marks-cons 123 (flat_map written ms) refl ∙ ap (onto Open) (marks-written ms)
 marks-written (Close ∷ ms) = marks-cons 125 (flat_map written ms) refl ∙ ap (onto Close) (marks-written ms)
 
-map_some : {A B : Type 0} (f : A → B) (o : Option A) (y : B) → option_map f o ≡ Some y → (x : A) × (o ≡ Some x) × (f x ≡ y)
-map_some f None y e = absurd (none-some y e)
-map_some f (Some x) y e = (x, refl, same_Some (f x) y e)
-
 mark_written : (b : ℕ) (x y : Bool) → (b == 123) ≡ x → (b == 125) ≡ y → (b == 92) ≡ false → written (if x then Open else if y then Close else Plain b) ≡ b ∷ []
 mark_written b true y e f g = let h : 123 ≡ b = grind (arith, nat_tests) in ap (λ c. c ∷ []) h
 mark_written b false true e f g = let h : 125 ≡ b = grind (arith, nat_tests) in ap (λ c. c ∷ []) h
@@ -40,7 +38,7 @@ mark_written b false false e f g = let h : is_special b ≡ false = grind (arith
 -- what the marks were written as
 one_mark : (b : ℕ) (bs : List ℕ) (ms : List Mark) → (b == 92) ≡ false → ((rest : List Mark) → marks bs ≡ Some rest → bs ≡ flat_map written rest) → marks (b ∷ bs) ≡ Some ms → b ∷ bs ≡ flat_map written ms
 one_mark b bs ms g more e =
-    let (rest, h, k) = map_some (λ ns. mark b ∷ ns) (marks bs) ms (sym (marks-cons b bs g) ∙ e) in
+    let (rest, h, k) = map_given (λ ns. mark b ∷ ns) (marks bs) ms (sym (marks-cons b bs g) ∙ e) in
     ap (λ (t : List ℕ). b ∷ t) (more rest h)
     ∙ ap (λ (t : List ℕ). t ++ flat_map written rest) (sym (mark_written b (b == 123) (b == 125) refl refl g))
     ∙ ap (flat_map written) k
@@ -49,7 +47,7 @@ escaped_mark : (b c : ℕ) (bs : List ℕ) (ms : List Mark) (s : Bool) → is_sp
     → (if s then onto (Plain c) (marks bs) else None) ≡ Some ms → b ∷ c ∷ bs ≡ flat_map written ms
 escaped_mark b c bs ms false s g more e = absurd (none-some ms e)
 escaped_mark b c bs ms true s g more e =
-    let (rest, h, k) = map_some (λ ns. Plain c ∷ ns) (marks bs) ms e in
+    let (rest, h, k) = map_given (λ ns. Plain c ∷ ns) (marks bs) ms e in
     let back : b ≡ 92 = grind (arith, nat_tests) in
     ap (λ n. n ∷ c ∷ bs) back
     ∙ ap (λ (t : List ℕ). 92 ∷ c ∷ t) (more rest h)
@@ -88,11 +86,7 @@ written_parts (Hole n ∷ ps) =
     ap (λ (l : List ℕ). 123 ∷ l) (written_plain n (Close ∷ marks_of ps) ∙ ap (λ (l : List ℕ). flat_map escaped n ++ 125 ∷ l) (written_parts ps) ∙ sym (append_assoc (flat_map escaped n) (125 ∷ []) (template_text ps)))
 
 outside_plain : (t : List ℕ) (ms : List Mark) → outside (map Plain t ++ ms) ≡ option_map (glue t) (outside ms)
-outside_plain [] ms = by_parts (outside ms)
-  where
-    by_parts : (o : Option (List Part)) → o ≡ option_map (λ ps. ps) o
-    by_parts None = refl
-    by_parts (Some ps) = refl
+outside_plain [] ms = sym (option_map_id (outside ms))
 outside_plain (b ∷ t) ms = ap (option_map (onto_fixed b)) (outside_plain t ms) ∙ by_parts (outside ms)
   where
     by_parts : (o : Option (List Part)) → option_map (onto_fixed b) (option_map (glue t) o) ≡ option_map (glue (b ∷ t)) o
@@ -138,7 +132,7 @@ onto_normal b (Hole n ∷ ps) h = (λ e. cc e, h)
 hole_is : (name : List ℕ) (o : Option (List Part)) (ps : List Part) → hole name o ≡ Some ps → (qs : List Part) × (o ≡ Some qs) × (Hole name ∷ qs ≡ ps) × (name ≢ [])
 hole_is [] o ps e = absurd (none-some ps e)
 hole_is (b ∷ name) o ps e =
-    let (qs, h, k) = map_some (λ parts. Hole (b ∷ name) ∷ parts) o ps e in
+    let (qs, h, k) = map_given (λ parts. Hole (b ∷ name) ∷ parts) o ps e in
     (qs, h, k, λ n. cc n)
 
 -- what an open brace begins
@@ -154,7 +148,7 @@ mutual
   outside_is : (ms : List Mark) (ps : List Part) → outside ms ≡ Some ps → (ms ≡ marks_of ps) × IsNormal ps
   outside_is [] ps e = let k = same_Some [] ps e in (ap marks_of k, subst IsNormal k tt)
   outside_is (Plain b ∷ ms) ps e =
-      let (qs, h, k) = map_some (onto_fixed b) (outside ms) ps e in
+      let (qs, h, k) = map_given (onto_fixed b) (outside ms) ps e in
       let more = outside_is ms qs h in
       (ap (λ ns. Plain b ∷ ns) more.0 ∙ sym (onto_marks b qs) ∙ ap marks_of k, subst IsNormal k (onto_normal b qs more.1))
   outside_is (Open ∷ ms) ps e =

@@ -1,9 +1,10 @@
 -- The reader of a template gives its parts.
-use Rattle.std.proofs.Common.{◌≡◌, ◌==◌, ◌++◌, ◌∷◌, [], List, ℕ, ◌<◌, ◌≤◌, sym, ap, ◌∙◌, refl, Option, Some, None, Bool, true, false, if◌then◌else◌, not, arith, append_assoc, length}
+use Rattle.std.proofs.Common.{◌≡◌, ◌==◌, ◌++◌, ◌∷◌, [], List, ℕ, ◌<◌, ◌≤◌, sym, ap, ◌∙◌, refl, Option, Some, None, Bool, true, false, if◌then◌else◌, not, arith, append_assoc}
 use Rattle.std.specs.Prelude.{option_map, chars, IsUtf8}
 use Rattle.std.specs.List.{list_all}
 use Rattle.std.proofs.lemmas.Bool.Decides.{nat_tests}
-use Rattle.std.proofs.lemmas.Str.{encode_ascii, encodes-chars, scalars-chars, length-encode, len_utf8_bounds}
+use Rattle.std.proofs.lemmas.Str.{encode_ascii, encodes-chars, scalars-chars}
+use Rattle.std.proofs.lemmas.Iterator.Adapters.{option_map_id}
 use Rattle.std.proofs.lemmas.List.{append-nil}
 use Rattle.std.proofs.Math.Utf8.{encode, encodes, scalar, scalars}
 use Rattle.vkg_terms.specs.declared.template.Part.{Part}
@@ -13,7 +14,7 @@ use Rattle.vkg_terms.specs.declared.template_reader.Place.TheVariants.{Fixed, Ho
 use Rattle.vkg_terms.specs.TemplateParts.{Mark, Plain, Open, Close, mark, marks, onto, escape, is_special, onto_fixed, outside, inside, outside_if_any, template_of}
 use Rattle.vkg_terms.specs.TemplateReader.{State, start, fixed_part, step, at_place, with_char, with_fixed, with_hole, run, finished, finished_at}
 use Rattle.vkg_lists.proofs.Bools.{and_parts, not_true}
-use Rattle.vkg_terms.proofs.Octets.{encode_all, scalar_below}
+use Rattle.vkg_terms.proofs.Octets.{encode_all, not_nothing, scalar_below}
 
 -- a text put before the parts that follow it
 abbrev pub glue : List ℕ → List Part → List Part
@@ -179,9 +180,6 @@ hole_step parts text c bs false false true u e f g =
 hole_step parts text c bs false false false u e f g =
     sym (plain_run (hole_rest parts) (plain_hole parts) (encode c) text bs (ordinary c u (grind (arith, nat_tests))))
 
-encode_some : (c : ℕ) → encode c ≡ [] → ⊥
-encode_some c e = omega (arith, sym (length-encode c) ∙ ap length e, (len_utf8_bounds c).0)
-
 -- a character after a backslash
 module _ (go : List ℕ → Option (List Mark) → Option (List Part)) (none : (text : List ℕ) → go text None ≡ None) (plain : (text : List ℕ) (b : ℕ) (ms : Option (List Mark)) → go text (onto (Plain b) ms) ≡ go (text ++ b ∷ []) ms) where
   escaped_good : (text : List ℕ) (c : ℕ) (bs : List ℕ) → is_special c ≡ true → go (text ++ encode c) (marks bs) ≡ escaped_rest (go text) (encode c ++ bs)
@@ -195,7 +193,7 @@ module _ (go : List ℕ → Option (List Mark) → Option (List Part)) (none : (
       ap (λ b. go text (if b then onto (Plain x) (marks (xs ++ bs)) else None)) (not_true (is_special x) (and_parts (not (is_special x)) (list_all (λ b. not (is_special b)) xs) e).0) ∙ none text
 
   escaped_bad : (text : List ℕ) (c : ℕ) (bs : List ℕ) → scalar c ≡ true → is_special c ≡ false → None ≡ escaped_rest (go text) (encode c ++ bs)
-  escaped_bad text c bs u e = sym (first_bad text (encode c) bs (ordinary c u e) (encode_some c))
+  escaped_bad text c bs u e = sym (first_bad text (encode c) bs (ordinary c u e) (λ n. not_nothing c [] (sym (append-nil (encode c) ∙ n))))
 
 escaped_step : (place : Place) (parts : List Part) (text : List ℕ) (c : ℕ) (bs : List ℕ) (back : Place) (x : Bool) → scalar c ≡ true → is_special c ≡ x
     → (go : List ℕ → Option (List Mark) → Option (List Part)) → ((text : List ℕ) → go text None ≡ None) → ((text : List ℕ) (b : ℕ) (ms : Option (List Mark)) → go text (onto (Plain b) ms) ≡ go (text ++ b ∷ []) ms)
@@ -228,11 +226,7 @@ end_whole Broken parts text = refl
 
 start_whole : (ms : Option (List Mark)) → fixed_rest [] [] ms ≡ outside_if_any ms
 start_whole None = refl
-start_whole (Some ms) = by_parts (outside ms)
-  where
-    by_parts : (o : Option (List Part)) → option_map (λ ps. ps) o ≡ o
-    by_parts None = refl
-    by_parts (Some ps) = refl
+start_whole (Some ms) = option_map_id (outside ms)
 
 -- the reader, run over a text, gives the parts of the template
 pub finished-run : (text : List ℕ) → IsUtf8 text → finished (run start (chars text)) ≡ template_of text

@@ -3,7 +3,7 @@ use Rattle.std.proofs.Common.{nat_lt, ◌≡◌, ◌≢◌, ◌<◌, ◌++◌, �
 use Rattle.std.specs.Prelude.{flat_map, chars, IsUtf8, codes, encode_utf8}
 use Rattle.std.specs.List.{list_all}
 use Rattle.std.proofs.lemmas.Bool.Decides.{nat_tests}
-use Rattle.std.proofs.lemmas.Str.{encode_same, char_from_byte, encodes-chars, scalars-chars}
+use Rattle.std.proofs.lemmas.Str.{encode_same, encode_ascii, encodes-chars, scalars-chars}
 use Rattle.std.proofs.lemmas.List.Folds.{list_all-append}
 use Rattle.std.proofs.lemmas.List.{append_cancel_right}
 use Rattle.std.proofs.Math.Utf8.{encode, encodes, scalar, scalars}
@@ -17,6 +17,8 @@ use Rattle.vkg_terms.specs.declared.term.Annotation.{Annotation}
 use Rattle.vkg_terms.specs.declared.term.Annotation.TheVariants.{Plain, Lang, Typed}
 use Rattle.vkg_lists.proofs.Bools.{and_true, and_parts}
 use Rattle.vkg_lists.proofs.Heads.{head_same, tail_same}
+use Rattle.vkg_lists.proofs.Positions.{all_weaken}
+use Rattle.vkg_lists.proofs.Walks.{list_all-flat_map}
 use Rattle.vkg_terms.proofs.Octets.{encode_all, scalar_below}
 
 -- the character that an escape stands for
@@ -39,9 +41,13 @@ written_by c false false false false false q b f r t = inr (grind (arith, nat_te
 pub written : (c : ℕ) → Written c (escaped c)
 written c = written_by c _ _ _ _ _ refl refl refl refl refl
 
+-- an ASCII octet is the character that it writes
+pub octet : (c b : ℕ) (rest more : List ℕ) → b < 128 → encode c ++ rest ≡ b ∷ more → (c ≡ b) × (rest ≡ more)
+octet c b rest more h e = encode_same c b rest more (e ∙ ap (λ (l : List ℕ). l ++ more) (sym (encode_ascii b h)))
+
 -- what begins with this ASCII octet begins with this character
 pub starts : (c b : ℕ) (rest more : List ℕ) → b < 128 → b ∷ more ≡ encode c ++ rest → c ≡ b
-starts c b rest more h e = char_from_byte (b ∷ more) rest c e (omega arith) (omega arith)
+starts c b rest more h e = (octet c b rest more h (sym e)).0
 
 written_same : (c d : ℕ) (v w x y : List ℕ) → Written c v → Written d w → v ++ x ≡ w ++ y → (c ≡ d) × (x ≡ y)
 written_same c d v w x y (inl (e, p, q, _, _)) (inl (f, r, t, _, _)) same =
@@ -58,14 +64,14 @@ written_same c d v w x y (inr (_, _, _, p)) (inr (_, _, _, r)) same =
 escaped_same : (c d : ℕ) (x y : List ℕ) → escaped c ++ x ≡ escaped d ++ y → (c ≡ d) × (x ≡ y)
 escaped_same c d x y same = written_same c d (escaped c) (escaped d) x y (written c) (written d) same
 
-written_quote : (c : ℕ) (v x y : List ℕ) → Written c v → v ++ x ≡ 34 ∷ y → ⊥
+pub written_quote : (c : ℕ) (v x y : List ℕ) → Written c v → v ++ x ≡ 34 ∷ y → ⊥
 written_quote c v x y (inl (e, p, q, _, _)) same =
     let joined : 92 ∷ e ∷ x ≡ 34 ∷ y = sym (ap (λ (l : List ℕ). l ++ x) p) ∙ same in
     let bad = head_same _ _ _ _ joined in
     omega (arith, bad)
 written_quote c v x y (inr (quote, _, _, p)) same = quote (starts c 34 x y (omega arith) (sym same ∙ ap (λ (l : List ℕ). l ++ x) p))
 
-not_quote : (c : ℕ) (x y : List ℕ) → escaped c ++ x ≡ 34 ∷ y → ⊥
+pub not_quote : (c : ℕ) (x y : List ℕ) → escaped c ++ x ≡ 34 ∷ y → ⊥
 not_quote c x y same = written_quote c (escaped c) x y (written c) same
 
 body_same : (cs ds x y : List ℕ) → flat_map escaped cs ++ 34 ∷ x ≡ flat_map escaped ds ++ 34 ∷ y → (cs ≡ ds) × (x ≡ y)
@@ -123,7 +129,7 @@ ends [] = true
 ends (b ∷ bs) = nat_le b 32
 
 -- up to the first octet that a test bars
-until : (p : ℕ → Bool) (k : ℕ) (a b x y : List ℕ) → p k ≡ false → list_all p a ≡ true → list_all p b ≡ true → a ++ k ∷ x ≡ b ++ k ∷ y → (a ≡ b) × (x ≡ y)
+pub until : (p : ℕ → Bool) (k : ℕ) (a b x y : List ℕ) → p k ≡ false → list_all p a ≡ true → list_all p b ≡ true → a ++ k ∷ x ≡ b ++ k ∷ y → (a ≡ b) × (x ≡ y)
 until p k a b x y bar h g e = let r = run_same p a b (k ∷ x) (k ∷ y) h g (ap not bar) (ap not bar) e in (r.0, tail_same _ _ _ _ r.1)
 
 not_both : (b : ℕ) → nat_lt 32 b ≡ true → nat_le b 32 ≡ true → ⊥
@@ -181,7 +187,7 @@ term_text_prefix (Lit a m) (Lit b n) x y h g u v e =
     let rest = annotation_prefix m n x y h.1 g.1 u v parts.1 in
     (ap (λ (z : List ℕ). Lit z m) parts.0 ∙ ap (Lit b) rest.0, rest.1)
 
-line_shape : (q : Quad) → line q ≡ term_text q.subject ++ (32 ∷ (term_text q.predicate ++ (32 ∷ (term_text q.object ++ (graph_text q.graph ++ codes " .")))))
+pub line_shape : (q : Quad) → line q ≡ term_text q.subject ++ (32 ∷ (term_text q.predicate ++ (32 ∷ (term_text q.object ++ (graph_text q.graph ++ codes " .")))))
 line_shape q = shape (term_text q.subject) (term_text q.predicate) (term_text q.object) (graph_text q.graph) (codes " .")
   where
     shape : (s p o g d : List ℕ) → ((((s ++ codes " ") ++ p) ++ codes " ") ++ o) ++ g ++ d ≡ s ++ (32 ∷ (p ++ (32 ∷ (o ++ (g ++ d)))))
@@ -218,18 +224,12 @@ inline_written c text h (inr (quote, back, inline, p)) =
     ap (list_all is_inline) p ∙ encode_all is_inline c h (λ b low _. grind (arith, nat_tests)) (λ _. inline)
 
 inline_body : (cs : List ℕ) → scalars cs ≡ true → list_all is_inline (flat_map escaped cs) ≡ true
-inline_body [] e = refl
-inline_body (c ∷ cs) e =
-    let parts = and_parts (scalar c) (scalars cs) e in
-    list_all-append is_inline (escaped c) (flat_map escaped cs)
-    ∙ and_true _ _ (inline_written c (escaped c) (scalar_below c parts.0) (written c)) (inline_body cs parts.1)
+inline_body cs e =
+    list_all-flat_map is_inline escaped cs
+    ∙ all_weaken scalar (λ c. list_all is_inline (escaped c)) cs (λ c s. inline_written c (escaped c) (scalar_below c s) (written c)) e
 
 inline_append : (a b : List ℕ) → list_all is_inline a ≡ true → list_all is_inline b ≡ true → list_all is_inline (a ++ b) ≡ true
 inline_append a b h g = list_all-append is_inline a b ∙ and_true _ _ h g
-
-all_weaker : (p q : ℕ → Bool) (xs : List ℕ) → ((b : ℕ) → p b ≡ true → q b ≡ true) → list_all p xs ≡ true → list_all q xs ≡ true
-all_weaker p q [] w h = refl
-all_weaker p q (x ∷ xs) w h = let parts = and_parts (p x) (list_all p xs) h in and_true _ _ (w x parts.0) (all_weaker p q xs w parts.1)
 
 inline_visible : (b : ℕ) → is_visible b ≡ true → is_inline b ≡ true
 inline_visible b h = grind (arith, nat_tests)
@@ -238,17 +238,17 @@ inline_iri : (b : ℕ) → is_iri_character b ≡ true → is_inline b ≡ true
 inline_iri b h = inline_visible b (let low = (and_parts (not (nat_le b 32)) _ h).0 in grind (arith, nat_tests))
 
 inline_bracketed : (iri : List ℕ) → list_all is_iri_character iri ≡ true → list_all is_inline (bracketed iri) ≡ true
-inline_bracketed iri h = inline_append iri (codes ">") (all_weaker _ _ iri inline_iri h) refl
+inline_bracketed iri h = inline_append iri (codes ">") (all_weaken is_iri_character is_inline iri inline_iri h) refl
 
 inline_annotation : (a : Annotation) → IsWritableAnnotation a → list_all is_inline (annotation_text a) ≡ true
 inline_annotation Plain h = refl
-inline_annotation (Lang tag) h = all_weaker _ _ tag inline_visible h
+inline_annotation (Lang tag) h = all_weaken is_visible is_inline tag inline_visible h
 inline_annotation (Typed datatype) h = inline_bracketed datatype h
 
 -- the text of a writable term stands in one line, and in one field of a line
 pub term_text_inline : (t : Term) → IsWritable t → list_all is_inline (term_text t) ≡ true
 term_text_inline (Iri iri) h = inline_bracketed iri h
-term_text_inline (Blank label) h = all_weaker _ _ label inline_visible h
+term_text_inline (Blank label) h = all_weaken is_visible is_inline label inline_visible h
 term_text_inline (Lit text annotation) h =
     inline_append (quoted text) (annotation_text annotation)
     (inline_append (flat_map escaped (chars text)) (codes "\"") (inline_body (chars text) (scalars-chars text h.0)) refl)

@@ -1,5 +1,5 @@
 -- When the texts of terms and quads can be told apart.
-use Rattle.std.specs.Prelude.{◌≡◌, ℕ, Bool, not, nat_lt, List, [], ◌∷◌, Option, Some, None, IsUtf8, true}
+use Rattle.std.specs.Prelude.{◌≡◌, ℕ, Bool, not, nat_lt, List, [], ◌∷◌, Option, IfSome, IsUtf8, true}
 use Rattle.std.specs.List.{list_all}
 use Rattle.vkg_terms.specs.Iri.{is_iri_character, is_one_of}
 use Rattle.vkg_terms.specs.NQuads.{Quad, term_text, line}
@@ -34,8 +34,7 @@ IsWritable (Blank label) = list_all is_visible label ≡ true
 IsWritable (Lit text annotation) = IsUtf8 text × IsWritableAnnotation annotation
 
 abbrev pub IsWritableIfAny : Option Term → Type 0
-IsWritableIfAny None = Unit {0}
-IsWritableIfAny (Some term) = IsWritable term
+IsWritableIfAny o = IfSome o IsWritable
 
 pub record IsWritableQuad (quad : Quad) : Type 0 where
   pub subject : IsWritable quad.subject

@@ -1,11 +1,12 @@
 -- Where a search may stop that reads a prefix, and what it has seen for later ones.
-use Rattle.std.proofs.Common.{◌≡◌, ℕ, ◌+◌, ◌<◌, ◌≤◌, ◌-◌, Bool, true, false, cond, not, ◌&&◌, ◌||◌, List, length, get_or, take, drop, ◌++◌, Option, Some, None, zero, suc, refl, ap, sym, ◌∙◌, subst, true≢false, ⊎_elim, length-drop, arith}
+use Rattle.std.proofs.Common.{◌≡◌, ℕ, ◌+◌, ◌<◌, ◌≤◌, ◌-◌, Bool, true, false, cond, not, ◌&&◌, ◌||◌, List, length, get_or, take, drop, Option, Some, None, zero, suc, refl, ap, sym, ◌∙◌, subst, true≢false, ⊎_elim, length-drop, arith}
 use Rattle.std.specs.Prelude.{fold, nat_lt}
 use Rattle.std.proofs.Math.Nat.{eq-or-lt_of_le}
-use Rattle.std.proofs.Math.Seq.{take-append-add}
-use Rattle.std.proofs.lemmas.List.{take-append-drop, length-take-le, get_or-drop, drop-drop}
+use Rattle.std.proofs.Math.Bool.{or_comm}
+use Rattle.std.proofs.Math.Seq.{take-add}
+use Rattle.std.proofs.lemmas.List.{get_or-drop, drop-drop}
 use Rattle.std.proofs.lemmas.List.Sums.{fold-append}
-use Rattle.vkg_lists.proofs.Bools.{and_parts}
+use Rattle.vkg_lists.proofs.Bools.{and_parts, implied}
 use Rattle.vkg_tokens.specs.declared.lang.Lang.{Lang}
 use Rattle.vkg_tokens.specs.declared.lang.State.{State}
 use Rattle.vkg_tokens.specs.declared.lang.State.TheVariants.{OfDdl, OfScan}
@@ -18,17 +19,10 @@ use Rattle.vkg_tokens.specs.Lang.{start, stepped, state_after, token_class, or_s
 use Rattle.vkg_tokens.specs.Prefixes.{a_prefix, is_prefix, EndsNoName, IsBarren, end_of}
 use Rattle.vkg_tokens.proofs.Longest.{class_is}
 
--- the first bytes are those up to a place, and those behind it
-split_take : (text : List ℕ) (p n m : ℕ) → p ≤ length text → m ≡ p + n → take m text ≡ take p text ++ take n (drop p text)
-split_take text p n m h e =
-    let s : length (take p text) ≡ p = length-take-le p text h in
-    let z : m ≡ length (take p text) + n = omega (arith, s, e) in
-    ap (take m) (sym (take-append-drop p text)) ∙ ap (λ j. take j (take p text ++ drop p text)) z ∙ take-append-add (take p text) (drop p text) n
-
 -- the search goes on from where it was
 state_from : (lang : Lang) (text : List ℕ) (p n m : ℕ) (o : Option State) → p ≤ length text → m ≡ p + n → state_after lang (take p text) ≡ o → state_after lang (take m text) ≡ fold stepped o (take n (drop p text))
 state_from lang text p n m o h e q =
-    ap (fold stepped (Some (start lang))) (split_take text p n m h e) ∙ fold-append stepped (Some (start lang)) (take p text) (take n (drop p text))
+    ap (fold stepped (Some (start lang))) (ap (λ j. take j text) e ∙ take-add p n text) ∙ fold-append stepped (Some (start lang)) (take p text) (take n (drop p text))
     ∙ ap (λ s. fold stepped s (take n (drop p text))) q
 
 -- no token behind a prefix where no name ends
@@ -121,11 +115,6 @@ is_a_prefix (OfScan (Between (OfSign x))) h = absurd (true≢false (sym h))
 is_a_prefix (OfScan (Between (OfTag x))) h = absurd (true≢false (sym h))
 is_a_prefix (OfScan (Between (OfVariable x))) h = absurd (true≢false (sym h))
 
-first : (p w : Bool) → (p || not w) ≡ true → w ≡ true → p ≡ true
-first true w h k = refl
-first false true h k = h
-first false false h k = k
-
 -- the search stops only behind such a letter
 pub is_there : (s : State) (b : ℕ) → (is_word_part b && is_prefix s) ≡ true → (is_word_part b ≡ true) × (s ≡ a_prefix)
 is_there s b h = let p : (is_word_part b ≡ true) × (is_prefix s ≡ true) = and_parts (is_word_part b) (is_prefix s) h in (p.0, is_a_prefix s p.1)
@@ -135,8 +124,9 @@ pub leads_more : (lang : Lang) (text : List ℕ) (from i : ℕ) (sure sure' : Bo
     → sure' ≡ (sure && (is_prefix next || not (is_word_part (get_or text i 0)))) → sure' ≡ true → LeadsToPrefix lang text from (i + 1)
 leads_more lang text from i sure sure' next old q e t k a c w =
     let p : (sure ≡ true) × ((is_prefix next || not (is_word_part (get_or text i 0))) ≡ true) = and_parts sure (is_prefix next || not (is_word_part (get_or text i 0))) (sym e ∙ t) in
+    let word : Bool = is_word_part (get_or text i 0) in
     let below : k ≤ i = omega arith in
-    ⊎_elim (λ (z : k ≡ i). ap (λ j. state_after lang (take (suc j) text)) z ∙ q ∙ ap Some (is_a_prefix next (first (is_prefix next) (is_word_part (get_or text i 0)) p.1 (ap (λ j. is_word_part (get_or text j 0)) (sym z) ∙ w))))
+    ⊎_elim (λ (z : k ≡ i). ap (λ j. state_after lang (take (suc j) text)) z ∙ q ∙ ap Some (is_a_prefix next (implied word (is_prefix next) (or_comm (not word) (is_prefix next) ∙ p.1) (ap (λ j. is_word_part (get_or text j 0)) (sym z) ∙ w))))
     (λ (z : k < i). old p.0 k a z w)
     (eq-or-lt_of_le below)
 

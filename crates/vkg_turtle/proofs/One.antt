@@ -1,12 +1,9 @@
 -- There is one answer.
 use Rattle.std.proofs.Common.{◌≡◌, ℕ, List, [], ◌∷◌, Option, Some, None, ap, sym, ◌∙◌, subst}
 use Rattle.std.proofs.lemmas.Option.{same_Some}
-use Rattle.vkg_grammar.specs.Form.{IsTooDeep, IsShallow}
 use Rattle.vkg_grammar.specs.Grammar.{Derives}
-use Rattle.vkg_grammar.specs.Kinds.{kinds_of, start_at}
-use Rattle.vkg_grammar.specs.Parsing.{NoTextAt}
-use Rattle.vkg_grammar.proofs.Outcomes.{same_tokens, same_place, not_tokens, not_deep, one_deep, no_text as no_text_at, one_place}
-use Rattle.vkg_tokens.specs.declared.cutting.Token.{Token}
+use Rattle.vkg_grammar.specs.Kinds.{kinds_of}
+use Rattle.vkg_grammar.proofs.Outcomes.{same_tokens, same_place, not_tokens, too_deep_once, deep_not_shallow, derived_no_text, no_text_once}
 use Rattle.vkg_turtle.specs.declared.document.Document.{Document}
 use Rattle.vkg_turtle.specs.declared.grammar_table.TheConstants.{TURTLE}
 use Rattle.vkg_turtle.specs.declared.reading.TurtleFault.{TurtleFault}
@@ -25,30 +22,21 @@ one_said {text = text} {base = base} a b =
 -- ---- too many brackets
 
 one_too_deep : {text : List ℕ} {a b : ℕ} → IsTooDeepText text a → IsTooDeepText text b → a ≡ b
-one_too_deep {text = text} x y =
-    let t : y.tokens ≡ x.tokens = same_tokens y.cut x.cut in
-    let d : IsTooDeep turtle (kinds_of x.tokens) y.bracket = subst (λ ts. IsTooDeep turtle (kinds_of ts) y.bracket) t y.deep in
-    x.place ∙ (λ i. start_at (sym t i) (one_deep turtle (kinds_of x.tokens) x.bracket y.bracket x.deep d i)) ∙ sym y.place
-
-deep_or_shallow : {text : List ℕ} {a : ℕ} (ts : List Token) (x : IsTooDeepText text a) → x.tokens ≡ ts → IsShallow turtle (kinds_of ts) → ⊥
-deep_or_shallow ts x t s = not_deep turtle (kinds_of ts) x.bracket s (subst (λ us. IsTooDeep turtle (kinds_of us) x.bracket) t x.deep)
+one_too_deep x y = too_deep_once turtle x.cut y.cut x.deep y.deep x.place y.place
 
 no_said_deep : {text base : List ℕ} {d : Document} {at : ℕ} → Says text base d → IsTooDeepText text at → ⊥
-no_said_deep a x = deep_or_shallow a.tokens x (same_tokens x.cut a.cut) a.shallow
+no_said_deep a x = deep_not_shallow turtle x.cut a.cut x.deep a.shallow
 
 no_text_deep : {text : List ℕ} {a b : ℕ} → IsNoText text a → IsTooDeepText text b → ⊥
-no_text_deep a x = deep_or_shallow a.tokens x (same_tokens x.cut a.cut) a.shallow
+no_text_deep a x = deep_not_shallow turtle x.cut a.cut x.deep a.shallow
 
 -- ---- no text of the grammar
 
 no_said : {text base : List ℕ} {d : Document} {at : ℕ} → Says text base d → IsNoText text at → ⊥
-no_said a b =
-    let t : b.tokens ≡ a.tokens = same_tokens b.cut a.cut in
-    let d : Derives TURTLE (0 ∷ []) (kinds_of b.tokens) a.notes = subst (λ ts. Derives TURTLE (0 ∷ []) (kinds_of ts) a.notes) (sym t) a.derived.derives in
-    no_text_at TURTLE _ b.tokens a.notes _ d b.place
+no_said {text = text} a b = derived_no_text TURTLE text a.cut b.cut a.derived.derives b.place
 
 one_no_text : {text : List ℕ} {a b : ℕ} → IsNoText text a → IsNoText text b → a ≡ b
-one_no_text {text = text} {a = a} {b = b} x y = one_place TURTLE text x.tokens a b x.place (subst (λ ts. NoTextAt TURTLE text ts b) (same_tokens y.cut x.cut) y.place)
+one_no_text {text = text} x y = no_text_once TURTLE text x.cut y.cut x.place y.place
 
 -- ---- one answer
 

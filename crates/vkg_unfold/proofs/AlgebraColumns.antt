@@ -5,12 +5,13 @@ use Rattle.std.specs.List.{AllByRecursion, filter, list_any, Contains}
 use Rattle.std.proofs.lemmas.Bool.{true≢false}
 use Rattle.std.proofs.lemmas.List.{length-map, replicate-append-replicate}
 use Rattle.std.proofs.lemmas.List.Elements.{Contains-append_left, Contains-append_right, Contains-append_cases}
+use Rattle.vkg_lists.proofs.Each.{recursion_map_weaken, map_each}
 use Rattle.vkg_lists.specs.Options.{with_first, joined}
 use Rattle.vkg_lists.specs.Sets.{IsEqualityTest, distinct}
-use Rattle.vkg_lists.proofs.Counts.{eq_same, Decides-list_any}
+use Rattle.vkg_lists.proofs.Counts.{Decides-list_any}
 use Rattle.vkg_lists.proofs.Distinct.{Contains-distinct, Contains-from_distinct}
 use Rattle.vkg_lists.proofs.Members.{Contains-none, Contains-here, Contains-there, Contains-cons_cases, Contains-flat_map, Contains-from_flat_map, Contains-from_filter, recursion_from_each, recursion_append}
-use Rattle.vkg_lists.proofs.Tests.{nat_test}
+use Rattle.vkg_lists.proofs.Tests.{nat_test, option_test}
 use Rattle.vkg_cells.specs.declared.cell.SqlType.{SqlType}
 use Rattle.vkg_cells.specs.declared.cell.SqlType.TheVariants as kind
 use Rattle.vkg_sparql.specs.declared.pattern.Node.{Node}
@@ -37,10 +38,8 @@ use Rattle.vkg_unfold.specs.FittingRules.{AreFitting, HasTermColumns, HasAnswerC
 use Rattle.vkg_unfold.specs.Unfolded.{Name, Named, after, agreement, bgp_plan, column, columns_in, each_graph, exists_plan, graph_column, if_each, in_its_graph, in_mode, is_pattern, join_plan, left_column, left_plan, merged, merged_columns, name_eq, named_graph, names_plan, node_names, null_term, numbered, or_null, pattern_names, pattern_plan, patterns_plan, place_of, repeats, right_column, union_member, union_plan, unfolded, visible_column}
 use Rattle.vkg_unfold.proofs.TermKinds.{IsTerm, IsTruth, and_truth, first_term, not_truth, null_truth, or_truth, same_truth, term_at}
 use Rattle.vkg_unfold.proofs.PlanColumns.{HasTermKinds, checked_truth, exists_plan_kinds, names_plan_kinds, pattern_plan_kinds, project_kinds, repeats_truth, union_kinds}
-use Rattle.std.specs.Bool.{Decides}
 use Rattle.vkg_algebra.specs.Translation.{algebra_of}
 use Rattle.vkg_algebra.specs.Answer.{selected_variables}
-use Rattle.vkg_plan.proofs.RowsFit.{All-map}
 
 -- ---- conditions
 
@@ -78,13 +77,7 @@ condition_truth ks at h (Some c) = (filter_truth ks at h c, tt)
 -- ---- places
 
 pub name_test : IsEqualityTest name_eq
-name_test = record { decides = by }
-  where
-    by : (a b : Name) → Decides (name_eq a b) (a ≡ b)
-    by None None = (λ e. refl, λ e. refl)
-    by None (Some b) = (λ e. cc, λ e. cc)
-    by (Some a) None = (λ e. cc, λ e. cc)
-    by (Some a) (Some b) = (λ e. ap Some (eq_same nat_test a b e), λ e. (nat_test.decides a b).1 cc)
+name_test = option_test nat_test
 
 place_step : (b c : Bool) (k n : ℕ) → (b || c) ≡ true → (c ≡ true → k < n) → (if b then 0 else suc k) < suc n
 place_step true c k n h f = omega arith
@@ -145,7 +138,7 @@ graph_place Each p ps = (
 wanted_places : (mode : Mode) (p : TriplePattern) (ps : List TriplePattern) → AllByRecursion (HasPlace (flat_map (pattern_names mode) (p ∷ ps))) (map Some (visible (Bgp (p ∷ ps))) ++ if_each mode None)
 wanted_places mode p ps =
     recursion_append (HasPlace names) (map Some (visible (Bgp (p ∷ ps)))) (if_each mode None)
-    (All-map (λ v. Contains names (Some v)) (HasPlace names) Some (λ v k. name_place names (Some v) k) (visible (Bgp (p ∷ ps)))
+    (recursion_map_weaken (λ v. Contains names (Some v)) (HasPlace names) Some (λ v k. name_place names (Some v) k) (visible (Bgp (p ∷ ps)))
     (recursion_from_each (λ v. Contains names (Some v)) (visible (Bgp (p ∷ ps))) (λ v c. bgp_named mode (p ∷ ps) v (Contains-from_distinct nat_eq (flat_map pattern_variables (p ∷ ps)) v c))))
     (graph_place mode p ps)
   where
@@ -172,7 +165,7 @@ module _ (schema : Tables) (rules : List RowRule) (fit : AreFitting schema rules
   patterns_kinds : (mode : Mode) (p : TriplePattern) (ps : List TriplePattern) → HasTermKinds schema (columns_in mode (visible (Bgp (p ∷ ps)))) (patterns_plan schema rules mode (visible (Bgp (p ∷ ps))) (p ∷ ps))
   patterns_kinds mode p ps =
       project_kinds schema (map to_column wanted) (Join (plans (map (pattern_plan schema rules mode) (p ∷ ps))) c) ks rows
-      (All-map (HasPlace names) (IsTerm ks) to_column (λ x k. term_at (length names) (place_of (name_eq x) names) k) wanted (wanted_places mode p ps))
+      (recursion_map_weaken (HasPlace names) (IsTerm ks) to_column (λ x k. term_at (length names) (place_of (name_eq x) names) k) wanted (wanted_places mode p ps))
       ∙ ap (λ n. Some (replicate n kind.Term)) (length-map wanted to_column ∙ wanted_length mode (visible (Bgp (p ∷ ps))))
     where
       names : List Name
@@ -216,13 +209,6 @@ with_graph_length Default f us e = ap length (append-nil (map f us)) ∙ length-
 with_graph_length (InGraph i) f us e = ap length (append-nil (map f us)) ∙ length-map us f
 with_graph_length Each f us e = length-append (map f us) (e ∷ []) ∙ omega (arith, length-map us f)
 
-All-each : {X Y : Type 0} (Q : Y → Type 0) (f : X → Y) → ((x : X) → Q (f x)) → (xs : List X) → AllByRecursion Q (map f xs)
-All-each Q f g [] = tt
-All-each Q f g (x ∷ xs) = (g x, All-each Q f g xs)
-
-All-within : {X Y : Type 0} (Q : Y → Type 0) (f : X → Y) (xs : List X) → ((x : X) → Contains xs x → Q (f x)) → AllByRecursion Q (map f xs)
-All-within Q f xs g = All-map (Contains xs) Q f g xs (recursion_from_each (Contains xs) xs (λ x c. c))
-
 module _ (mode : Mode) (vs ws : List ℕ) where
   abbrev both : ℕ
   both = columns_in mode vs + columns_in mode ws
@@ -254,7 +240,7 @@ module _ (mode : Mode) (vs ws : List ℕ) where
 merged_terms : (mode : Mode) (vs ws : List ℕ) → AllByRecursion (IsTerm (replicate (both mode vs ws) kind.Term)) (merged_columns mode vs ws)
 merged_terms mode vs ws =
     recursion_append (IsTerm ks) (map (merged mode vs ws) (each_once (vs ++ ws))) (if_each mode (Col (length vs)))
-    (All-each (IsTerm ks) (merged mode vs ws) (merged_term mode vs ws) (each_once (vs ++ ws))) (hidden mode)
+    (map_each (IsTerm ks) (merged mode vs ws) (each_once (vs ++ ws)) (λ v c. merged_term mode vs ws v)) (hidden mode)
   where
     ks : Kinds
     ks = replicate (both mode vs ws) kind.Term
@@ -267,7 +253,7 @@ merged_terms mode vs ws =
 agreement_truth : (mode : Mode) (vs ws : List ℕ) → AllByRecursion (IsTruth (replicate (both mode vs ws) kind.Term)) (agreement mode vs ws)
 agreement_truth mode vs ws =
     recursion_append (IsTruth ks) (map shared (filter (has ws) vs)) (if_each mode (Same (Col (length vs)) (Col (columns_in mode vs + length ws))))
-    (All-within (IsTruth ks) shared (filter (has ws) vs) (λ v c.
+    (map_each (IsTruth ks) shared (filter (has ws) vs) (λ v c.
     let w = Contains-from_filter (has ws) vs v c in
     let l = left_term mode vs ws v (is_among vs v w.0) in
     let r = right_term mode vs ws v w.1 in
@@ -334,7 +320,7 @@ module _ (schema : Tables) where
   union_member_kinds mode all vs p h =
       let ks = replicate (columns_in mode vs) kind.Term in
       project_kinds schema (map (visible_column vs) all ++ if_each mode (Col (length vs))) p ks h
-      (recursion_append (IsTerm ks) (map (visible_column vs) all) (if_each mode (Col (length vs))) (All-each (IsTerm ks) (visible_column vs) (λ v. visible_term (columns_in mode vs) vs v (columns_most mode vs)) all) (graph_term mode vs))
+      (recursion_append (IsTerm ks) (map (visible_column vs) all) (if_each mode (Col (length vs))) (map_each (IsTerm ks) (visible_column vs) all (λ v c. visible_term (columns_in mode vs) vs v (columns_most mode vs))) (graph_term mode vs))
       ∙ ap (λ n. Some (replicate n kind.Term)) (with_graph_length mode (visible_column vs) all (Col (length vs)))
 
   union_plan_kinds : (mode : Mode) (vs ws : List ℕ) (p q : Plan) → HasTermKinds schema (columns_in mode vs) p → HasTermKinds schema (columns_in mode ws) q → HasTermKinds schema (columns_in mode (each_once (vs ++ ws))) (union_plan mode vs ws p q)
@@ -356,13 +342,13 @@ module _ (schema : Tables) where
   after_test_kinds : (first : Plan) (vs : List ℕ) (p : Plan) → HasTermKinds schema 0 first → HasTermKinds schema (length vs) p → HasTermKinds schema (length vs) (after first vs 0 p)
   after_test_kinds first vs p h k =
       project_kinds schema (map (column vs 0) vs ++ []) (Join (plans (first ∷ p ∷ [])) (truth_const true)) (replicate (0 + length vs) kind.Term) (behind_kinds first vs 0 p h k)
-      (recursion_append (IsTerm (replicate (0 + length vs) kind.Term)) (map (column vs 0) vs) [] (All-within (IsTerm (replicate (0 + length vs) kind.Term)) (column vs 0) vs (column_term 0 vs)) tt)
+      (recursion_append (IsTerm (replicate (0 + length vs) kind.Term)) (map (column vs 0) vs) [] (map_each (IsTerm (replicate (0 + length vs) kind.Term)) (column vs 0) vs (column_term 0 vs)) tt)
       ∙ ap (λ n. Some (replicate n kind.Term)) (ap length (append-nil (map (column vs 0) vs)) ∙ length-map vs (column vs 0))
 
   after_names_kinds : (first : Plan) (vs : List ℕ) (p : Plan) → HasTermKinds schema 1 first → HasTermKinds schema (length vs) p → HasTermKinds schema (suc (length vs)) (after first vs 1 p)
   after_names_kinds first vs p h k =
       project_kinds schema (map (column vs 1) vs ++ Col 0 ∷ []) (Join (plans (first ∷ p ∷ [])) (truth_const true)) (replicate (1 + length vs) kind.Term) (behind_kinds first vs 1 p h k)
-      (recursion_append (IsTerm (replicate (1 + length vs) kind.Term)) (map (column vs 1) vs) (Col 0 ∷ []) (All-within (IsTerm (replicate (1 + length vs) kind.Term)) (column vs 1) vs (column_term 1 vs)) (term_at (1 + length vs) 0 (omega arith), tt))
+      (recursion_append (IsTerm (replicate (1 + length vs) kind.Term)) (map (column vs 1) vs) (Col 0 ∷ []) (map_each (IsTerm (replicate (1 + length vs) kind.Term)) (column vs 1) vs (column_term 1 vs)) (term_at (1 + length vs) 0 (omega arith), tt))
       ∙ ap (λ n. Some (replicate n kind.Term)) (with_graph_length Each (column vs 1) vs (Col 0))
 
   its_graph_kinds : (vs : List ℕ) (v : ℕ) (p : Plan) → HasTermKinds schema (suc (length vs)) p → HasTermKinds schema (suc (length vs)) (in_its_graph vs v p)
@@ -398,7 +384,7 @@ module _ (schema : Tables) where
   each_graph_kinds vs v p h =
       let ks = replicate (suc (length vs)) kind.Term in
       project_kinds schema (map (graph_column vs v) (each_once (v ∷ vs))) (in_its_graph vs v p) ks (its_graph_kinds vs v p h)
-      (All-within (IsTerm ks) (graph_column vs v) (each_once (v ∷ vs)) (graph_column_term vs v))
+      (map_each (IsTerm ks) (graph_column vs v) (each_once (v ∷ vs)) (graph_column_term vs v))
       ∙ ap (λ n. Some (replicate n kind.Term)) (length-map (each_once (v ∷ vs)) (graph_column vs v))
 
 module _ (schema : Tables) (rules : List RowRule) (fit : AreFitting schema rules) where
@@ -443,7 +429,7 @@ module _ (schema : Tables) (rules : List RowRule) (fit : AreFitting schema rules
       kinds : HasTermKinds schema (length vs) p
       kinds =
           project_kinds schema (map (visible_column (visible a)) vs) (unfolded schema rules a Default) (replicate (length (visible a)) kind.Term) (unfolded_kinds a Default)
-          (All-each (IsTerm (replicate (length (visible a)) kind.Term)) (visible_column (visible a)) (λ v. visible_term schema (length (visible a)) (visible a) v (omega arith)) vs)
+          (map_each (IsTerm (replicate (length (visible a)) kind.Term)) (visible_column (visible a)) vs (λ v c. visible_term schema (length (visible a)) (visible a) v (omega arith)))
           ∙ ap (λ n. Some (replicate n kind.Term)) (length-map vs (visible_column (visible a)))
 
       by : (b : Bool) → HasTermKinds schema (length vs) (if b then Distinct p else p)

@@ -1,14 +1,16 @@
 -- The kinds of the columns of plans: terms.
-use Rattle.std.proofs.Common.{◌≡◌, ◌∙◌, ℕ, zero, suc, ◌+◌, Bool, true, false, not, ◌&&◌, cond, List, [], ◌∷◌, ◌++◌, map, length, refl, sym, ap, append-nil, length-append}
-use Rattle.std.specs.Prelude.{⊤, Option, Some, None, replicate, slice_get, flat_map, filter_map, find, if◌then◌else◌, option_and_then}
-use Rattle.std.specs.List.{AllByRecursion, list_all, cons_option}
+use Rattle.std.proofs.Common.{◌≡◌, ◌∙◌, ℕ, ◌+◌, Bool, true, false, List, [], ◌∷◌, ◌++◌, map, length, refl, sym, ap, append-nil, length-append}
+use Rattle.std.specs.Prelude.{IfSome, Option, Some, None, replicate, slice_get, flat_map, filter_map, find, if◌then◌else◌, option_and_then}
+use Rattle.std.specs.List.{AllByRecursion}
 use Rattle.std.specs.Cmp.Lexicographic.{pointwise}
 use Rattle.std.proofs.lemmas.List.{length-map, map-append}
 use Rattle.std.proofs.lemmas.Option.{none-some}
+use Rattle.vkg_lists.proofs.Each.{recursion_map_weaken, recursion_flat_map, recursion_distinct, recursion_filter_map, recursion_find}
 use Rattle.vkg_lists.proofs.Members.{recursion_append}
 use Rattle.vkg_lists.specs.Options.{with_first}
 use Rattle.vkg_lists.specs.Sets.{distinct}
 use Rattle.vkg_lists.proofs.Distinct.{distinct-map}
+use Rattle.vkg_lists.proofs.Heads.{list_all-replicate, slice_get-behind}
 use Rattle.vkg_cells.specs.declared.cell.SqlType.{SqlType}
 use Rattle.vkg_cells.specs.declared.cell.SqlType.TheVariants as kind
 use Rattle.vkg_maps.specs.declared.quad_rule.Join.{Join as ParentJoin}
@@ -23,8 +25,10 @@ use Rattle.vkg_expr.specs.Expr.{Expr, Col, Same, Not, IsNull, exprs}
 use Rattle.vkg_expr.specs.Logic.{and_of}
 use Rattle.vkg_expr.specs.TermExprs.{term_const, term_expr}
 use Rattle.vkg_expr.specs.Typing.{equality_kind, is_one, kinds_of, same_kind}
+use Rattle.vkg_expr.proofs.TypedParts.{equality_given}
 use Rattle.vkg_plan.specs.Kinds.{Kinds, Tables, alike, beside_all, checked, kinds_of_each, plan_kinds}
 use Rattle.vkg_plan.specs.Plan.{Plan, Project, plans}
+use Rattle.vkg_plan.proofs.KindLists.{themselves}
 use Rattle.vkg_match.specs.Verdict.{Verdict, Never, All, verdict_of}
 use Rattle.vkg_row_rules.specs.declared.row_rule.RowRule.{RowRule}
 use Rattle.vkg_row_rules.specs.RowDataset.{conditions}
@@ -32,40 +36,8 @@ use Rattle.vkg_unfold.specs.declared.mode.Mode.{Mode}
 use Rattle.vkg_unfold.specs.declared.mode.Mode.TheVariants.{Default, InGraph, Each}
 use Rattle.vkg_unfold.specs.FittingRules.{AreFitting, FitsCondition, FitsGraph, FitsJoin, FitsTerm, IsFitting, IsTable, rule_kinds}
 use Rattle.vkg_unfold.specs.Unfolded.{Name, Named, again, constants, default_graph, exists_plan, graph_exprs, graph_terms, graph_test, if_each, name_eq, named, names_plan, node_names, not_null, pattern_member, pattern_names, pattern_places, pattern_plan, places, repeats, rule_member, rule_source, same_name, source_plan, union_of, unless_never, names_member, exists_member}
-use Rattle.vkg_unfold.proofs.TermKinds.{IsTerm, IsTruth, and_truth, get_behind, kinds_each, known_truth, not_truth, rule_term, same_truth, wider_term}
+use Rattle.vkg_unfold.proofs.TermKinds.{IsTerm, IsTruth, and_truth, kinds_each, known_truth, not_truth, rule_term, same_truth, wider_term, get_wider}
 use Rattle.vkg_maps.specs.Within.{kinds_at}
-use Rattle.vkg_plan.proofs.RowsFit.{All-map, All-filter}
-
--- ---- what holds of all that a function gives
-
-pub All-flat_map : {X Y : Type 0} (P : X → Type 0) (Q : Y → Type 0) (f : X → List Y) → ((x : X) → P x → AllByRecursion Q (f x)) → (xs : List X) → AllByRecursion P xs → AllByRecursion Q (flat_map f xs)
-All-flat_map P Q f g [] h = tt
-All-flat_map P Q f g (x ∷ xs) h = recursion_append Q (f x) (flat_map f xs) (g x h.0) (All-flat_map P Q f g xs h.1)
-
-pub All-distinct : {X : Type 0} (P : X → Type 0) (eq : X → X → Bool) (xs : List X) → AllByRecursion P xs → AllByRecursion P (distinct eq xs)
-All-distinct P eq [] h = tt
-All-distinct P eq (x ∷ xs) h = (h.0, All-filter P (λ y. not (eq x y)) (distinct eq xs) (All-distinct P eq xs h.1))
-
--- if it is there
-abbrev pub IfThere : {X : Type 0} → (X → Type 0) → Option X → Type 0
-IfThere P None = ⊤
-IfThere P (Some x) = P x
-
-All-option : {Y : Type 0} (Q : Y → Type 0) (o : Option Y) (ys : List Y) → IfThere Q o → AllByRecursion Q ys → AllByRecursion Q (cons_option o ys)
-All-option Q None ys h k = k
-All-option Q (Some y) ys h k = (h, k)
-
-All-filter_map : {X Y : Type 0} (P : X → Type 0) (Q : Y → Type 0) (f : X → Option Y) → ((x : X) → P x → IfThere Q (f x)) → (xs : List X) → AllByRecursion P xs → AllByRecursion Q (filter_map f xs)
-All-filter_map P Q f g [] h = tt
-All-filter_map P Q f g (x ∷ xs) h = All-option Q (f x) (filter_map f xs) (g x h.0) (All-filter_map P Q f g xs h.1)
-
-found : {X : Type 0} (P : X → Type 0) (p : X → Bool) (xs : List X) → AllByRecursion P xs → IfThere P (find p xs)
-found P p [] h = tt
-found P p (x ∷ xs) h = by (p x) (found P p xs h.1)
-  where
-    by : (b : Bool) → IfThere P (find p xs) → IfThere P (cond b (Some x) (find p xs))
-    by true k = h.0
-    by false k = k
 
 -- ---- the rows of a rule
 
@@ -73,14 +45,12 @@ pub checked_truth : (c : Expr) (ks : Kinds) → IsTruth ks c → checked c (Some
 checked_truth c ks h = ap (λ o. if is_one kind.Bool o then Some ks else None) h
 
 there : (ks ls : Kinds) (at : ℕ) (o : Option SqlType) → equality_kind (slice_get ks at) o ≡ Some kind.Bool → slice_get (ks ++ ls) at ≡ slice_get ks at
-there [] ls at o h = cc
-there (k ∷ ks) ls zero o h = refl
-there (k ∷ ks) ls (suc at) o h = there ks ls at o h
+there ks ls at o h = let g = (equality_given (slice_get ks at) o kind.Bool h).0 in get_wider ks ls at g.0 g.1 ∙ sym g.1
 
 conditions_truth : (schema : Tables) (child : ℕ) (join : ParentJoin) (ls : Kinds) → AllByRecursion (FitsCondition (kinds_at schema child) ls) join.conditions → AllByRecursion (IsTruth (kinds_at schema child ++ ls)) (conditions schema child join)
 conditions_truth schema child join ls h =
-    All-map (FitsCondition ks ls) (IsTruth (ks ++ ls)) (λ c. Same (Col c.0) (Col (c.1 + length ks)))
-    (λ c k. (λ i. equality_kind (there ks ls c.0 (slice_get ls c.1) k i) (get_behind ks ls c.1 i)) ∙ k) join.conditions h
+    recursion_map_weaken (FitsCondition ks ls) (IsTruth (ks ++ ls)) (λ c. Same (Col c.0) (Col (c.1 + length ks)))
+    (λ c k. (λ i. equality_kind (there ks ls c.0 (slice_get ls c.1) k i) (slice_get-behind ks ls (c.1 + length ks) c.1 refl i)) ∙ k) join.conditions h
   where
     ks : Kinds
     ks = kinds_at schema child
@@ -130,7 +100,7 @@ rule_terms schema rule h = record {
 
 not_null_truth : (ks : Kinds) (rule : RowRule) → HasTerms ks rule → AllByRecursion (IsTruth ks) (not_null rule)
 not_null_truth ks rule h =
-    All-map (IsTerm ks) (IsTruth ks) (λ e. Not (IsNull e)) (λ e k. known_truth ks e k)
+    recursion_map_weaken (IsTerm ks) (IsTruth ks) (λ e. Not (IsNull e)) (λ e k. known_truth ks e k)
     (term_expr rule.subject ∷ term_expr rule.predicate ∷ term_expr rule.object ∷ graph_exprs rule)
     (h.subject, (h.predicate, (h.object, h.graph)))
 
@@ -139,13 +109,13 @@ not_null_truth ks rule h =
 default_term : (ks : Kinds) → IsTerm ks (term_const default_graph)
 default_term ks = refl
 
-test_truth : (ks : Kinds) (mode : Mode) (g : Option TermExpr) → AllByRecursion (IsTerm ks) (graph_terms g) → IfThere (AllByRecursion (IsTruth ks)) (graph_test mode g)
+test_truth : (ks : Kinds) (mode : Mode) (g : Option TermExpr) → AllByRecursion (IsTerm ks) (graph_terms g) → IfSome (graph_test mode g) (AllByRecursion (IsTruth ks))
 test_truth ks Default None h = tt
 test_truth ks Default (Some g) h = (same_truth ks (term_expr g) (term_const default_graph) h.0 refl, tt)
 test_truth ks (InGraph i) None h = tt
 test_truth ks (InGraph i) (Some g) h = by (term_eq (Iri i) default_graph)
   where
-    by : (b : Bool) → IfThere (AllByRecursion (IsTruth ks)) (if b then None else Some (Same (term_expr g) (term_const (Iri i)) ∷ []))
+    by : (b : Bool) → IfSome (if b then None else Some (Same (term_expr g) (term_const (Iri i)) ∷ [])) (AllByRecursion (IsTruth ks))
     by true = tt
     by false = (same_truth ks (term_expr g) (term_const (Iri i)) h.0 refl, tt)
 test_truth ks Each None h = tt
@@ -174,22 +144,14 @@ member_kinds schema rule es test cs h terms tests k =
     ks : Kinds
     ks = kinds_of_rule schema rule
 
-themselves : (n : ℕ) → pointwise same_kind (replicate n kind.Term) (replicate n kind.Term) ≡ true
-themselves zero = refl
-themselves (suc n) = themselves n
-
 members_alike : (schema : Tables) (n : ℕ) (ps : List Plan) → AllByRecursion (HasTermKinds schema n) ps → kinds_of_each schema (plans ps) ≡ Some (replicate (length ps) (replicate n kind.Term))
 members_alike schema n [] h = refl
 members_alike schema n (p ∷ ps) h = λ i. with_first (h.0 i) (members_alike schema n ps h.1 i)
 
-all_alike : (n m : ℕ) → list_all (pointwise same_kind (replicate n kind.Term)) (replicate m (replicate n kind.Term)) ≡ true
-all_alike n zero = refl
-all_alike n (suc m) = λ i. themselves n i && all_alike n m i
-
 pub union_kinds : (schema : Tables) (n : ℕ) (p : Plan) (ps : List Plan) → AllByRecursion (HasTermKinds schema n) (p ∷ ps) → alike (kinds_of_each schema (plans (p ∷ ps))) ≡ Some (replicate n kind.Term)
 union_kinds schema n p ps h =
     ap alike (members_alike schema n (p ∷ ps) h)
-    ∙ ap (λ b. if b then Some (replicate n kind.Term) else None) (all_alike n (length ps))
+    ∙ ap (λ b. if b then Some (replicate n kind.Term) else None) (list_all-replicate (pointwise same_kind (replicate n kind.Term)) (length ps) (replicate n kind.Term) (themselves (replicate n kind.Term)))
 
 union_of_kinds : (schema : Tables) (n : ℕ) (ps : List Plan) → AllByRecursion (HasTermKinds schema n) ps → HasTermKinds schema n (union_of n ps)
 union_of_kinds schema n [] h = refl
@@ -217,7 +179,7 @@ constants_truth ks (Variable v, e) h = tt
 constants_truth ks (Label v, e) h = tt
 constants_truth ks (Fixed t, e) h = (same_truth ks (term_const t) e refl h, tt)
 
-again_truth : (ks : Kinds) (x : Named) (o : Option Named) → NamedFits ks x → IfThere (NamedFits ks) o → AllByRecursion (IsTruth ks) (again x o)
+again_truth : (ks : Kinds) (x : Named) (o : Option Named) → NamedFits ks x → IfSome o (NamedFits ks) → AllByRecursion (IsTruth ks) (again x o)
 again_truth ks x None h k = tt
 again_truth ks x (Some y) h k = (same_truth ks x.1 y.1 h k, tt)
 
@@ -225,25 +187,25 @@ pub repeats_truth : (ks : Kinds) (before xs : List Named) → AllByRecursion (Na
 repeats_truth ks before [] h k = tt
 repeats_truth ks before (x ∷ xs) h k =
     recursion_append (IsTruth ks) (again x (find (same_name x) before)) (repeats (before ++ x ∷ []) xs)
-    (again_truth ks x (find (same_name x) before) k.0 (found (NamedFits ks) (same_name x) before h))
+    (again_truth ks x (find (same_name x) before) k.0 (recursion_find (NamedFits ks) (same_name x) before h))
     (repeats_truth ks (before ++ x ∷ []) xs (recursion_append (NamedFits ks) before (x ∷ []) h (k.0, tt)) k.1)
 
 hidden_fits : (ks : Kinds) (mode : Mode) (gs : List Expr) → AllByRecursion (IsTerm ks) gs → AllByRecursion (NamedFits ks) (flat_map (λ g. if_each mode (None, g)) gs)
-hidden_fits ks Default gs h = All-flat_map (IsTerm ks) (NamedFits ks) (λ g. []) (λ g k. tt) gs h
-hidden_fits ks (InGraph i) gs h = All-flat_map (IsTerm ks) (NamedFits ks) (λ g. []) (λ g k. tt) gs h
-hidden_fits ks Each gs h = All-flat_map (IsTerm ks) (NamedFits ks) (λ g. (None, g) ∷ []) (λ g k. (k, tt)) gs h
+hidden_fits ks Default gs h = recursion_flat_map (IsTerm ks) (NamedFits ks) (λ g. []) (λ g k. tt) gs h
+hidden_fits ks (InGraph i) gs h = recursion_flat_map (IsTerm ks) (NamedFits ks) (λ g. []) (λ g k. tt) gs h
+hidden_fits ks Each gs h = recursion_flat_map (IsTerm ks) (NamedFits ks) (λ g. (None, g) ∷ []) (λ g k. (k, tt)) gs h
 
 columns_fit : (ks : Kinds) (mode : Mode) (p : TriplePattern) (rule : RowRule) → HasTerms ks rule → AllByRecursion (NamedFits ks) (pattern_places mode p rule)
 columns_fit ks mode p rule h =
     recursion_append (NamedFits ks) (distinct same_name (flat_map named (places p rule))) (flat_map (λ g. if_each mode (None, g)) (graph_exprs rule))
-    (All-distinct (NamedFits ks) same_name (flat_map named (places p rule)) (All-flat_map (PlaceFits ks) (NamedFits ks) named (named_fits ks) (places p rule) (places_fit ks p rule h)))
+    (recursion_distinct (NamedFits ks) same_name (flat_map named (places p rule)) (recursion_flat_map (PlaceFits ks) (NamedFits ks) named (named_fits ks) (places p rule) (places_fit ks p rule h)))
     (hidden_fits ks mode (graph_exprs rule) h.graph)
 
 pattern_conditions : (ks : Kinds) (p : TriplePattern) (rule : RowRule) → HasTerms ks rule → AllByRecursion (IsTruth ks) (flat_map constants (places p rule) ++ repeats [] (flat_map named (places p rule)))
 pattern_conditions ks p rule h =
     recursion_append (IsTruth ks) (flat_map constants (places p rule)) (repeats [] (flat_map named (places p rule)))
-    (All-flat_map (PlaceFits ks) (IsTruth ks) constants (constants_truth ks) (places p rule) (places_fit ks p rule h))
-    (repeats_truth ks [] (flat_map named (places p rule)) tt (All-flat_map (PlaceFits ks) (NamedFits ks) named (named_fits ks) (places p rule) (places_fit ks p rule h)))
+    (recursion_flat_map (PlaceFits ks) (IsTruth ks) constants (constants_truth ks) (places p rule) (places_fit ks p rule h))
+    (repeats_truth ks [] (flat_map named (places p rule)) tt (recursion_flat_map (PlaceFits ks) (NamedFits ks) named (named_fits ks) (places p rule) (places_fit ks p rule h)))
 
 -- the number of columns
 names_of : (x : Node × Expr) → map (λ (n : Named). n.0) (named x) ≡ node_names x.0
@@ -282,7 +244,7 @@ columns_number mode p rule test h =
     same : length (distinct same_name all) ≡ length (distinct name_eq nodes)
     same = sym (length-map (distinct same_name all) (λ (n : Named). n.0)) ∙ ap length (sym (distinct-map same_name name_eq (λ (n : Named). n.0) (λ x y. refl) all)) ∙ ap (λ l. length (distinct name_eq l)) (names_of_places (places p rule))
 
-pattern_member_kinds : (schema : Tables) (mode : Mode) (p : TriplePattern) (rule : RowRule) → IsFitting schema rule → IfThere (HasTermKinds schema (length (pattern_names mode p))) (pattern_member schema mode p rule)
+pattern_member_kinds : (schema : Tables) (mode : Mode) (p : TriplePattern) (rule : RowRule) → IsFitting schema rule → IfSome (pattern_member schema mode p rule) (HasTermKinds schema (length (pattern_names mode p)))
 pattern_member_kinds schema mode p rule h = by (graph_test mode rule.graph) refl (test_truth ks mode rule.graph terms.graph)
   where
     ks : Kinds
@@ -297,16 +259,16 @@ pattern_member_kinds schema mode p rule h = by (graph_test mode rule.graph) refl
     cs : List Expr
     cs = flat_map constants (places p rule) ++ repeats [] (flat_map named (places p rule))
 
-    by : (o : Option (List Expr)) → graph_test mode rule.graph ≡ o → IfThere (AllByRecursion (IsTruth ks)) o → IfThere (HasTermKinds schema (length (pattern_names mode p))) (rule_member schema rule es cs o)
+    by : (o : Option (List Expr)) → graph_test mode rule.graph ≡ o → IfSome o (AllByRecursion (IsTruth ks)) → IfSome (rule_member schema rule es cs o) (HasTermKinds schema (length (pattern_names mode p)))
     by None e k = tt
     by (Some test) e k =
-        member_kinds schema rule es test cs h (All-map (NamedFits ks) (IsTerm ks) (λ (x : Named). x.1) (λ x f. f) (pattern_places mode p rule) (columns_fit ks mode p rule terms)) k (pattern_conditions ks p rule terms)
+        member_kinds schema rule es test cs h (recursion_map_weaken (NamedFits ks) (IsTerm ks) (λ (x : Named). x.1) (λ x f. f) (pattern_places mode p rule) (columns_fit ks mode p rule terms)) k (pattern_conditions ks p rule terms)
         ∙ ap (λ n. Some (replicate n kind.Term)) (columns_number mode p rule test e)
 
 module _ (schema : Tables) (rules : List RowRule) (fit : AreFitting schema rules) where
   pub pattern_plan_kinds : (mode : Mode) (p : TriplePattern) → HasTermKinds schema (length (pattern_names mode p)) (pattern_plan schema rules mode p)
   pattern_plan_kinds mode p = union_of_kinds schema (length (pattern_names mode p)) (filter_map (pattern_member schema mode p) rules)
-      (All-filter_map (IsFitting schema) (HasTermKinds schema (length (pattern_names mode p))) (pattern_member schema mode p) (pattern_member_kinds schema mode p) rules fit)
+      (recursion_filter_map (IsFitting schema) (HasTermKinds schema (length (pattern_names mode p))) (pattern_member schema mode p) (pattern_member_kinds schema mode p) rules fit)
 
   -- ---- the graphs' names
 
@@ -314,7 +276,7 @@ module _ (schema : Tables) (rules : List RowRule) (fit : AreFitting schema rules
   one_graph ks None test h = absurd (none-some test h)
   one_graph ks (Some g) test h = refl
 
-  names_member_kinds : (rule : RowRule) → IsFitting schema rule → IfThere (HasTermKinds schema 1) (names_member schema rule)
+  names_member_kinds : (rule : RowRule) → IsFitting schema rule → IfSome (names_member schema rule) (HasTermKinds schema 1)
   names_member_kinds rule h = by (graph_test Each rule.graph) refl (test_truth ks Each rule.graph terms.graph)
     where
       ks : Kinds
@@ -323,16 +285,16 @@ module _ (schema : Tables) (rules : List RowRule) (fit : AreFitting schema rules
       terms : HasTerms ks rule
       terms = rule_terms schema rule h
 
-      by : (o : Option (List Expr)) → graph_test Each rule.graph ≡ o → IfThere (AllByRecursion (IsTruth ks)) o → IfThere (HasTermKinds schema 1) (rule_member schema rule (graph_exprs rule) [] o)
+      by : (o : Option (List Expr)) → graph_test Each rule.graph ≡ o → IfSome o (AllByRecursion (IsTruth ks)) → IfSome (rule_member schema rule (graph_exprs rule) [] o) (HasTermKinds schema 1)
       by None e k = tt
       by (Some test) e k =
           member_kinds schema rule (graph_exprs rule) test [] h terms.graph k tt
           ∙ ap (λ n. Some (replicate n kind.Term)) (one_graph ks rule.graph test e)
 
   pub names_plan_kinds : HasTermKinds schema 1 (names_plan schema rules)
-  names_plan_kinds = union_of_kinds schema 1 (filter_map (names_member schema) rules) (All-filter_map (IsFitting schema) (HasTermKinds schema 1) (names_member schema) names_member_kinds rules fit)
+  names_plan_kinds = union_of_kinds schema 1 (filter_map (names_member schema) rules) (recursion_filter_map (IsFitting schema) (HasTermKinds schema 1) (names_member schema) names_member_kinds rules fit)
 
-  exists_member_kinds : (mode : Mode) (rule : RowRule) → IsFitting schema rule → IfThere (HasTermKinds schema 0) (exists_member schema mode rule)
+  exists_member_kinds : (mode : Mode) (rule : RowRule) → IsFitting schema rule → IfSome (exists_member schema mode rule) (HasTermKinds schema 0)
   exists_member_kinds mode rule h = by (graph_test mode rule.graph) (test_truth ks mode rule.graph terms.graph)
     where
       ks : Kinds
@@ -341,9 +303,9 @@ module _ (schema : Tables) (rules : List RowRule) (fit : AreFitting schema rules
       terms : HasTerms ks rule
       terms = rule_terms schema rule h
 
-      by : (o : Option (List Expr)) → IfThere (AllByRecursion (IsTruth ks)) o → IfThere (HasTermKinds schema 0) (rule_member schema rule [] [] o)
+      by : (o : Option (List Expr)) → IfSome o (AllByRecursion (IsTruth ks)) → IfSome (rule_member schema rule [] [] o) (HasTermKinds schema 0)
       by None k = tt
       by (Some test) k = member_kinds schema rule [] test [] h tt k tt
 
   pub exists_plan_kinds : (i : List ℕ) → HasTermKinds schema 0 (exists_plan schema rules i)
-  exists_plan_kinds i = union_of_kinds schema 0 (filter_map (exists_member schema (InGraph i)) rules) (All-filter_map (IsFitting schema) (HasTermKinds schema 0) (exists_member schema (InGraph i)) (exists_member_kinds (InGraph i)) rules fit)
+  exists_plan_kinds i = union_of_kinds schema 0 (filter_map (exists_member schema (InGraph i)) rules) (recursion_filter_map (IsFitting schema) (HasTermKinds schema 0) (exists_member schema (InGraph i)) (exists_member_kinds (InGraph i)) rules fit)

@@ -1,18 +1,17 @@
 -- Steps of loops, and lists by their lengths.
-use Rattle.std.proofs.Common.{◌≡◌, ◌≢◌, ◌∙◌, ℕ, ◌<◌, ◌+◌, Bool, true, false, not, ◌||◌, cond, List, [], ◌∷◌, ◌++◌, map, take, drop, length, get_or, refl, sym, ap, arith}
+use Rattle.std.proofs.Common.{◌≡◌, ◌≢◌, ◌∙◌, ℕ, ◌<◌, ◌+◌, Bool, true, false, cond, List, [], ◌∷◌, ◌++◌, map, take, drop, length, get_or, refl, sym, ap, arith}
 use Rattle.std.specs.Prelude.{Option, Some, None, slice_get, find, fold, filter_map, flat_map, if◌then◌else◌}
-use Rattle.std.proofs.Common.{nat_eq}
-use Rattle.std.specs.List.{filter, list_any}
+use Rattle.std.specs.List.{list_any}
 use Rattle.std.proofs.lemmas.List.{drop_more, map-append, map_more, take_more}
-use Rattle.std.proofs.lemmas.List.Elements.{filter-append, filter_map-append}
+use Rattle.std.proofs.lemmas.List.Elements.{filter_map-append}
 use Rattle.std.proofs.lemmas.Option.{same_Some}
+use Rattle.vkg_lists.proofs.Distinct.{distinct_push, distinct-take_more}
 use Rattle.vkg_lists.proofs.Walks.{list_any-map}
 use Rattle.vkg_lists.specs.Sets.{distinct}
 use Rattle.vkg_sparql.specs.Query.{Condition, And, Or}
 use Rattle.vkg_sparql.specs.Seen.{condition_seen}
 use Rattle.vkg_sparql.specs.declared.condition.Condition.{Condition as ConditionValue}
 use Rattle.vkg_sparql.specs.declared.pattern.TriplePattern.{TriplePattern}
-use Rattle.vkg_algebra.specs.Visible.{each_once}
 use Rattle.vkg_expr.specs.declared.expr.Expr.{Expr as ExprValue}
 use Rattle.vkg_expr.specs.Expr.{Expr, exprs}
 use Rattle.vkg_expr.specs.Expr as expr
@@ -29,35 +28,6 @@ use Rattle.vkg_unfold.specs.Unfolded.{again, graph_terms, if_each, merged, Name,
 use Rattle.vkg_unfold.proofs.Chains.{truth-and, truth-or}
 
 -- ---- each once
-
-pub distinct_push : {A : Type 0} (eq : A → A → Bool) (xs : List A) (y : A) → distinct eq (xs ++ y ∷ []) ≡ distinct eq xs ++ (if list_any (λ x. eq x y) xs then [] else y ∷ [])
-distinct_push eq [] y = refl
-distinct_push {A} eq (x ∷ xs) y =
-    ap (λ l. x ∷ l) (ap (filter n) (distinct_push eq xs y) ∙ filter-append n (distinct eq xs) (if list_any (λ z. eq z y) xs then [] else y ∷ []) ∙ ap (λ l. filter n (distinct eq xs) ++ l) (last (list_any (λ z. eq z y) xs)))
-  where
-    n : A → Bool
-    n z = not (eq x z)
-
-    two : (e b : Bool) → (if b then [] else cond (not e) (y ∷ []) []) ≡ (if e || b then [] else y ∷ [])
-    two true true = refl
-    two true false = refl
-    two false true = refl
-    two false false = refl
-
-    one : (b : Bool) → filter n (if b then [] else y ∷ []) ≡ (if b then [] else cond (not (eq x y)) (y ∷ []) [])
-    one true = refl
-    one false = refl
-
-    last : (b : Bool) → filter n (if b then [] else y ∷ []) ≡ (if eq x y || b then [] else y ∷ [])
-    last b = one b ∙ two (eq x y) b
-
-pub names_more : (names : List Name) (i : ℕ) (d : Name) → i < length names →
-    distinct name_eq (take (i + 1) names) ≡ distinct name_eq (take i names) ++ (if list_any (λ n. name_eq n (get_or names i d)) (take i names) then [] else get_or names i d ∷ [])
-names_more names i d h = ap (distinct name_eq) (take_more names i d h) ∙ distinct_push name_eq (take i names) (get_or names i d)
-
-pub numbers_more : (vs : List ℕ) (i : ℕ) (d : ℕ) → i < length vs →
-    each_once (take (i + 1) vs) ≡ each_once (take i vs) ++ (if list_any (λ v. nat_eq v (get_or vs i d)) (take i vs) then [] else get_or vs i d ∷ [])
-numbers_more vs i d h = ap each_once (take_more vs i d h) ∙ distinct_push nat_eq (take i vs) (get_or vs i d)
 
 abbrev second : Named → Expr
 second n = n.1
@@ -172,12 +142,7 @@ members_more f rules i x found new e h is inv =
 pub name_once : (names found new before : List Name) (i : ℕ) (x d : Name) →
     new ≡ found ++ (if list_any (λ n. name_eq n x) before then [] else x ∷ []) → before ≡ take i names → x ≡ get_or names i d → i < length names → found ≡ distinct name_eq (take i names) → new ≡ distinct name_eq (take (i + 1) names)
 name_once names found new before i x d e b is h inv =
-    e ∙ (λ j. inv j ++ (if list_any (λ n. name_eq n (is j)) (b j) then [] else is j ∷ [])) ∙ sym (names_more names i d h)
-
-pub number_once : (vs found new before : List ℕ) (i x d : ℕ) →
-    new ≡ found ++ (if list_any (λ v. nat_eq v x) before then [] else x ∷ []) → before ≡ take i vs → x ≡ get_or vs i d → i < length vs → found ≡ each_once (take i vs) → new ≡ each_once (take (i + 1) vs)
-number_once vs found new before i x d e b is h inv =
-    e ∙ (λ j. inv j ++ (if list_any (λ v. nat_eq v (is j)) (b j) then [] else is j ∷ [])) ∙ sym (numbers_more vs i d h)
+    e ∙ (λ j. inv j ++ (if list_any (λ n. name_eq n (is j)) (b j) then [] else is j ∷ [])) ∙ sym (distinct-take_more name_eq names i d h)
 
 pub column_once : (list before : List NamedValue) (i : ℕ) (x : NamedValue) (found new : List Expr) →
     new ≡ found ++ (if list_any (λ (n : NamedValue). name_eq n.name x.name) before then [] else expr_seen x.expr ∷ []) → before ≡ take i list → x ≡ get_or list i x → i < length list →

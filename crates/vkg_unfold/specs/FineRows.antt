@@ -1,5 +1,5 @@
 -- What is asked of a database: the terms of its rules are within what plans compute with.
-use Rattle.std.specs.Prelude.{◌≡◌, ⊤, List, Contains, Option, Some, None, not, IsTrue}
+use Rattle.std.specs.Prelude.{◌≡◌, ⊤, List, Contains, Option, Some, None, not, IsTrue, IfSome}
 use Rattle.vkg_terms.specs.declared.term.Term.{Term}
 use Rattle.vkg_schema.specs.Rows.{Database, Row}
 use Rattle.vkg_expr.specs.declared.term_expr.TermExpr.{TermExpr}
@@ -13,12 +13,10 @@ use Rattle.vkg_cells.specs.WellTyped.{is_wide_number}
 
 -- a term that is no number of too many digits, or none
 abbrev pub IsNarrow : Option Term → Type 0
-IsNarrow None = ⊤
-IsNarrow (Some t) = IsTrue (not (is_wide_number t))
+IsNarrow o = IfSome o (λ t. IsTrue (not (is_wide_number t)))
 
 abbrev pub IsNarrowGraph : Option TermExpr → Row → Type 0
-IsNarrowGraph None row = ⊤
-IsNarrowGraph (Some e) row = IsNarrow (term_at e row)
+IsNarrowGraph o row = IfSome o (λ e. IsNarrow (term_at e row))
 
 -- where the verdict says that a graph's term is never the default graph's name, it is not
 abbrev pub NeverDefault : Option TermExpr → Row → Type 0

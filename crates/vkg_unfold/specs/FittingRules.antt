@@ -1,5 +1,5 @@
 -- When the expressions of rules fit the tables: then the plan of every algebra over them is well typed.
-use Rattle.std.specs.Prelude.{◌≡◌, ⊤, ℕ, false, List, ◌++◌, length, replicate, slice_get, Option, Some, None}
+use Rattle.std.specs.Prelude.{◌≡◌, ⊤, ℕ, false, List, ◌++◌, length, replicate, slice_get, Option, Some, None, IfSome}
 use Rattle.std.specs.List.{AllByRecursion}
 use Rattle.vkg_cells.specs.declared.cell.SqlType.TheVariants as kind
 use Rattle.vkg_maps.specs.declared.quad_rule.Join.{Join}
@@ -29,8 +29,7 @@ FitsTerm ks (Made sort ps) = AllByRecursion (FitsPiece ks) ps
 FitsTerm ks (Resolved base at k) = FitsPiece ks (Hole at k)
 
 abbrev pub FitsGraph : Kinds → Option TermExpr → Type 0
-FitsGraph ks None = ⊤
-FitsGraph ks (Some g) = FitsTerm ks g
+FitsGraph ks o = IfSome o (FitsTerm ks)
 
 -- the schema has the table
 abbrev pub IsTable : Tables → ℕ → Type 0
@@ -41,9 +40,8 @@ abbrev pub FitsCondition : Kinds → Kinds → ℕ × ℕ → Type 0
 FitsCondition ks ls c = equality_kind (slice_get ks c.0) (slice_get ls c.1) ≡ Some kind.Bool
 
 abbrev pub FitsJoin : Tables → ℕ → Option Join → Type 0
-FitsJoin schema child None = ⊤
-FitsJoin schema child (Some join) =
-    IsTable schema join.table × AllByRecursion (FitsCondition (kinds_at schema child) (kinds_at schema join.table)) join.conditions
+FitsJoin schema child o =
+    IfSome o (λ (join : Join). IsTable schema join.table × AllByRecursion (FitsCondition (kinds_at schema child) (kinds_at schema join.table)) join.conditions)
 
 -- the kinds of a rule's rows: the parent's columns stand behind the child's
 abbrev pub rule_kinds : Tables → ℕ → Option Join → Kinds

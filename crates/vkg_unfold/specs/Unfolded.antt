@@ -1,5 +1,6 @@
 -- The plan of an algebra over quad rules: a column for each visible variable, and in mode each the graph last.
 use Rattle.std.specs.Prelude.{ℕ, ◌+◌, Bool, true, false, List, [], ◌∷◌, ◌++◌, map, filter, flat_map, filter_map, length, replicate, Option, Some, None, nat_eq, if◌then◌else◌, find, suc}
+use Rattle.std.specs.Option.{option_eq}
 use Rattle.vkg_lists.specs.Sets.{distinct}
 use Rattle.vkg_terms.specs.declared.term.Term.TheVariants.{Iri}
 use Rattle.vkg_terms.specs.Vocabulary.{rr_default_graph}
@@ -100,9 +101,7 @@ abbrev pub Name : Type 0
 Name = Option ℕ
 
 abbrev pub name_eq : Name → Name → Bool
-name_eq (Some v) (Some w) = nat_eq v w
-name_eq None None = true
-name_eq x y = false
+name_eq = option_eq nat_eq
 
 -- a column's name and its expression
 abbrev pub Named : Type 0

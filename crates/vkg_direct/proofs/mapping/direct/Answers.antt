@@ -1,5 +1,6 @@
-use Rattle.std.proofs.Common.{◌≡◌, ◌∙◌, ℕ, List, sym, ap, subst, None, not, Ok, Err, Result, IfOk}
+use Rattle.std.proofs.Common.{◌≡◌, ◌∙◌, ℕ, List, sym, ap, subst, None, not, Ok, Result, IfOk}
 use Rattle.std.specs.Prelude.{position}
+use Rattle.std.proofs.lemmas.Result.{IfOk-weaker}
 use Rattle.vkg_schema.specs.declared.table.Table.{Table}
 use Rattle.vkg_maps.specs.declared.mapping.Mapping.{Mapping}
 use Rattle.vkg_direct.specs.declared.direct_error.DirectError.{DirectError}
@@ -11,8 +12,7 @@ use Rattle.vkg_direct.proofs.mapping.direct.Goals as goal
 
 -- what holds of the direct mapping holds of the answer
 carried : (P : Mapping → Type 0) (tables : List Table) (base : List ℕ) (r : Result Mapping DirectError) → IfOk r (λ m. within_limit (direct tables base) ≡ Ok m) → P (direct tables base) → IfOk r P
-carried P tables base (Ok m) e p = subst P (direct_of_limit tables base m e) p
-carried P tables base (Err e) h p = tt
+carried P tables base r h p = IfOk-weaker r (λ m. within_limit (direct tables base) ≡ Ok m) P (λ m e. subst P (direct_of_limit tables base m e) p) h
 
 pub returns-in-None-clause-graph : goal.returns-in-None-clause-graph
 returns-in-None-clause-graph c =

@@ -1,6 +1,6 @@
 use Rattle.std.proofs.Common.{◌<◌, ◌++◌, ◌∷◌, [], ◌∙◌, ap, length, arith}
+use Rattle.vkg_lists.proofs.Numbered.{numbered_more}
 use Rattle.vkg_direct.specs.DirectMapping.{column_property}
-use Rattle.vkg_direct.proofs.Steps.{numbered_more}
 use Rattle.vkg_direct.proofs.triples_map.push_columns.Goals as goal
 
 pub loop-k-preserved : goal.loop-k-preserved

@@ -1,6 +1,6 @@
 use Rattle.std.proofs.Common.{◌∙◌, ap, position, string_bytes}
 use Rattle.std.specs.Str.{bytes_eq}
-use Rattle.vkg_sparql.proofs.NamesLemmas.{position-map}
+use Rattle.vkg_lists.proofs.Positions.{position-map}
 use Rattle.vkg_sparql.proofs.names.Names.find.Goals as goal
 
 pub returns : goal.returns

@@ -1,19 +1,19 @@
-use Rattle.std.proofs.Common.{◌≡◌, ◌∙◌, ap}
+use Rattle.std.proofs.Common.{◌∙◌, ap}
 use Rattle.vkg_sparql.specs.Seen.{query_seen}
 use Rattle.vkg_plan.specs.Seen.{plan_seen}
 use Rattle.vkg_rewrite.specs.Rewritten.{rewritten}
 use Rattle.vkg_rewrite.proofs.Typed.{typed_as}
-use Rattle.vkg_rewrite.proofs.rewriting.planned.Goals as goal
+use Rattle.vkg_rewrite.proofs.rewriting.rewrite.Goals as goal
 
 pub new-requires : goal.new-requires
 unfolding rewritten
 new-requires c =
     typed_as c.args.schema.now c.args.mapping.now (query_seen c.args.query.now) c.tables-tables.ensures.form c.requires (plan_seen c.in_ok-plan.plan)
-    (rw (c.as_slice.ensures, c.in_ok-rules.ensures.rules) at c.in_ok-plan.ensures)
+    (rw (c.as_slice.ensures, c.in_ok-rules.ensures) at c.in_ok-plan.ensures)
 
 pub returns-clause-plan : goal.returns-clause-plan
 unfolding rewritten
-returns-clause-plan c = ap plan_seen c.new.ensures ∙ (rw (c.as_slice.ensures, c.in_ok-rules.ensures.rules) at c.in_ok-plan.ensures)
+returns-clause-plan c = ap plan_seen c.new.ensures ∙ (rw (c.as_slice.ensures, c.in_ok-rules.ensures) at c.in_ok-plan.ensures)
 
 pub returns-clause-typed : goal.returns-clause-typed
 returns-clause-typed c =
