@@ -114,7 +114,7 @@ claims =
     ∷ []
 
 pub ddl_form : IsWellFormed DDL 17
-ddl_form = record { grammar = is_grammar DDL (lit< tt) refl; has_kinds = has_kinds 17 DDL refl; small = lit< tt }
+ddl_form = record { grammar = is_grammar DDL claims (lit< tt) refl; has_kinds = has_kinds 17 DDL refl; small = lit< tt }
 
 pub ddl_ll1 : IsLL1 DDL
 ddl_ll1 = passes_ll1 DDL claims (lit< tt) refl refl refl

@@ -25,7 +25,7 @@ use Rattle.vkg_maps.specs.QuadRules.{parent_of}
 use Rattle.vkg_direct.specs.DirectGraph.{primary_key}
 use Rattle.vkg_direct.specs.DirectMapping.{column_property, direct, direct_map, has_primary_key, key_pieces, maps_of, node_pieces, properties_of, reference_property, unless_keyless, within_limit}
 use Rattle.vkg_maps.specs.Within.{kinds_at, AreConditions, IsCondition, IsMapWithin, IsObjectWithin, IsPairWithin, IsWithin, piece_columns}
-use Rattle.vkg_maps.proofs.Kinds.{kinds_of}
+use Rattle.vkg_maps.proofs.TableKinds.{kinds_of}
 use Rattle.vkg_direct.specs.Within.{DirectIsWithin}
 use Rattle.vkg_direct.proofs.RuleCount.{direct_of_limit}
 

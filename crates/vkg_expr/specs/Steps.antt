@@ -1,6 +1,7 @@
 -- The outermost step of an expression, on the values of its parts.
 use Rattle.std.specs.Prelude.{◌≡◌, All, IsTrue, List, length, option_and_then, option_map}
 use Rattle.vkg_terms.specs.declared.term.Term.TheVariants.{Iri, Blank, Lit}
+use Rattle.vkg_terms.specs.Iri.{made_absolute}
 use Rattle.vkg_terms.specs.Label.{blank_label}
 use Rattle.vkg_terms.specs.Safe.{safe}
 use Rattle.vkg_cells.specs.declared.cell.Cell.{Cell}
@@ -14,12 +15,12 @@ use Rattle.vkg_values.specs.Operators.{ebv}
 use Rattle.vkg_schema.specs.Rows.{is_null}
 use Rattle.vkg_expr.specs.Expr.{Expr, MakeIri, IriOf, MakeBlank, MakeLit, Lex, IriSafe, Concat, IsNull, Not, And, Or, Coalesce, Sparql, Ebv}
 use Rattle.vkg_expr.specs.Typing.{arity, fits}
-use Rattle.vkg_expr.specs.Value.{against, all_of, any_of, coalesced, concat_of, operator_value, term_cell, term_of, text_cell, text_of, truth_cell, truth_of}
+use Rattle.vkg_expr.specs.Value.{all_of, any_of, coalesced, concat_of, operator_value, term_cell, term_of, text_cell, text_of, truth_cell, truth_of}
 
 -- of an expression of one part, on the part's value
 abbrev pub of_one : Expr → Cell → Cell
 of_one (MakeIri e) c = term_cell (option_map Iri (text_of c))
-of_one (IriOf base e) c = text_cell (option_map (against base) (text_of c))
+of_one (IriOf base e) c = text_cell (option_map (made_absolute base) (text_of c))
 of_one (MakeBlank e) c = term_cell (option_map (λ s. Blank (blank_label s)) (text_of c))
 of_one (MakeLit e annotation) c = term_cell (option_map (λ s. Lit s annotation) (text_of c))
 of_one (Lex e) c = text_cell (lexical_form c)

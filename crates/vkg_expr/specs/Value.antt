@@ -1,10 +1,10 @@
 -- The value of an expression on a row; unknown and error are NULL.
-use Rattle.std.specs.Prelude.{ℕ, Bool, true, false, List, [], ◌∷◌, ◌++◌, map, fold, find, not, Option, Some, None, option_and_then, option_map, unwrap_or, if◌then◌else◌}
+use Rattle.std.specs.Prelude.{ℕ, Bool, true, false, List, [], ◌∷◌, map, fold, find, not, Option, Some, None, option_and_then, option_map, unwrap_or}
 use Rattle.std.specs.Option.{option_map_or}
 use Rattle.vkg_lists.specs.Options.{joined}
 use Rattle.vkg_terms.specs.declared.term.Term.{Term}
 use Rattle.vkg_terms.specs.declared.term.Term.TheVariants.{Iri, Blank, Lit}
-use Rattle.vkg_terms.specs.Iri.{is_absolute}
+use Rattle.vkg_terms.specs.Iri.{made_absolute}
 use Rattle.vkg_terms.specs.Label.{blank_label}
 use Rattle.vkg_terms.specs.Safe.{safe}
 use Rattle.vkg_cells.specs.declared.cell.Cell.{Cell}
@@ -50,10 +50,6 @@ concat_of (c ∷ cs) = joined (text_of c) (concat_of cs)
 abbrev pub coalesced : List Cell → Cell
 coalesced cs = unwrap_or (find (λ c. not (is_null c)) cs) cell.Null
 
--- R2RML, 7.4: a text that is no absolute IRI is put behind the base
-abbrev pub against : List ℕ → List ℕ → List ℕ
-against base text = if is_absolute text then text else base ++ text
-
 abbrev pub operator_value : Operator → List Cell → Cell
 operator_value (Test op) (c ∷ []) = truth_cell (option_map (test_value widest op) (term_of c))
 operator_value (Take op) (c ∷ []) = term_cell (option_and_then (take_value op) (term_of c))
@@ -72,7 +68,7 @@ abbrev mutual
   value_of (Col at) row = cell_at row at
   value_of (Const c k) row = c
   value_of (MakeIri e) row = term_cell (option_map Iri (text_of (value_of e row)))
-  value_of (IriOf base e) row = text_cell (option_map (against base) (text_of (value_of e row)))
+  value_of (IriOf base e) row = text_cell (option_map (made_absolute base) (text_of (value_of e row)))
   value_of (MakeBlank e) row = term_cell (option_map (λ s. Blank (blank_label s)) (text_of (value_of e row)))
   value_of (MakeLit e annotation) row = term_cell (option_map (λ s. Lit s annotation) (text_of (value_of e row)))
   value_of (Lex e) row = text_cell (lexical_form (value_of e row))

@@ -5,6 +5,7 @@ ghost use Rattle.vkg_cells.specs.declared.cell.SqlType.TheVariants as kind;
 ghost use Rattle.vkg_cells.specs.Form.{lexical_form};
 ghost use Rattle.vkg_cells.specs.Order.{same as same_cells};
 ghost use Rattle.vkg_schema.specs.Rows.{cell_at};
+ghost use Rattle.vkg_terms.specs.Iri.{made_absolute};
 ghost use Rattle.vkg_terms.specs.Label.{blank_label as label_of};
 ghost use Rattle.vkg_terms.specs.Safe.{safe as safe_form};
 ghost use Rattle.vkg_values.specs.Known.{widest};
@@ -12,7 +13,7 @@ ghost use Rattle.vkg_values.specs.Logic.{not3};
 ghost use Rattle.vkg_values.specs.Operators.{ebv, take_value, test_value, compare_value, on_two};
 ghost use Rattle.vkg_expr.specs.Steps.{AllFit, Fits};
 ghost use Rattle.vkg_expr.specs.Typing.{arity};
-ghost use Rattle.vkg_expr.specs.Value.{against as text_against, operator_value, term_cell, term_of as term_in, text_cell, text_of as text_in, truth_cell as cell_of_truth, truth_of as truth_in};
+ghost use Rattle.vkg_expr.specs.Value.{operator_value, term_cell, term_of as term_in, text_cell, text_of as text_in, truth_cell as cell_of_truth, truth_of as truth_in};
 
 use crate::expr::Operator;
 use std::alloc::Global;
@@ -65,7 +66,7 @@ pub fn iri(cell: &Cell) -> Result<Cell, Memory>
 
 pub fn iri_of(alloc: Global, base: &Text, cell: &Cell) -> Result<Cell, Memory>
     requires { Fits kind.Text cell.now }
-    ensures { IfOk result (λ c. c ≡ text_cell (option_map (text_against base.now) (text_in cell.now))) }
+    ensures { IfOk result (λ c. c ≡ text_cell (option_map (made_absolute base.now) (text_in cell.now))) }
 {
     match cell {
         Cell::Text(text) => Ok(Cell::Text(against(alloc, base, text)?)),
@@ -75,7 +76,7 @@ pub fn iri_of(alloc: Global, base: &Text, cell: &Cell) -> Result<Cell, Memory>
 }
 
 fn against(alloc: Global, base: &Text, text: &Text) -> Result<Text, Memory>
-    ensures { IfOk result (λ t. t ≡ text_against base.now text.now) }
+    ensures { IfOk result (λ t. t ≡ made_absolute base.now text.now) }
 {
     if is_absolute(text.as_str()) {
         return text.copy();

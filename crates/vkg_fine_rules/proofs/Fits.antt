@@ -10,7 +10,7 @@ use Rattle.vkg_schema.specs.Meets.{FitsColumn, IsColumn, IsTable, MeetsSchema}
 use Rattle.vkg_schema.specs.Rows.{Database, Row, cell_at, rows_of}
 use Rattle.vkg_schema.proofs.RowCells.{cell_at-left}
 use Rattle.vkg_schema.proofs.RowFits.{row_of_table}
-use Rattle.vkg_maps.proofs.Kinds.{kinds_of}
+use Rattle.vkg_maps.proofs.TableKinds.{kinds_of}
 use Rattle.vkg_maps.specs.declared.term_map.Piece.{Piece as TemplatePiece}
 use Rattle.vkg_maps.specs.declared.term_map.Piece.TheVariants as piece
 use Rattle.vkg_maps.specs.declared.term_map.TermMap.{TermMap}

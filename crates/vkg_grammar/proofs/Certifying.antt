@@ -1,5 +1,5 @@
 -- A grammar whose claims pass the test keeps ways apart.
-use Rattle.std.proofs.Common.{◌≡◌, ℕ, zero, suc, ◌+◌, ◌<◌, Bool, true, false, not, ◌⊎◌, inl, inr, List, [], ◌∷◌, ◌++◌, length, get_or, Option, Some, None, refl, sym, subst, arith, nat_eq, nat_lt, ◌∙◌, true≢false}
+use Rattle.std.proofs.Common.{◌≡◌, ℕ, zero, suc, ◌+◌, ◌<◌, Bool, true, false, not, ◌⊎◌, inl, inr, List, [], ◌∷◌, ◌++◌, length, get_or, Option, Some, None, refl, sym, subst, arith, nat_eq, nat_lt, true≢false}
 use Rattle.std.proofs.lemmas.Bool.{eqb-true, eq-eqb, ltb-true, both_ways, not-true}
 use Rattle.vkg_lists.proofs.Members.{recursion_append, recursion_right}
 use Rattle.vkg_lists.specs.Lists.{AllBelow}
@@ -12,7 +12,7 @@ use Rattle.vkg_grammar.specs.declared.rule.Rule.{Rule}
 use Rattle.vkg_grammar.specs.declared.rule.Rule.TheVariants.{Token, Empty, Then, Either, Optional, Repeated}
 use Rattle.vkg_grammar.specs.Grammar.{noted, at_parts, at_first, at_second, Shape, One, Parts, Choice, shape, shape_of, Derives, done, read, parts, first, second, MayBeEmpty, MayFollow, within, at_end, IsWay, the_parts, the_first, the_second, Starts, IsGrammar, IsProductive, IsLL1}
 use Rattle.vkg_grammar.specs.Machine.{Sees, at_token, at_end_of}
-use Rattle.vkg_grammar.specs.Certified.{Claim, none_claimed, holds, within_all, apart_all, both, if_so, claim_at, empty_way, begin_more, begin_way, follow_way, way_claimed, starts_way, shape_claimed, all_claimed, lower_way, either, shape_lower, all_lower, all_below, shape_below, all_closed, rule_fits, all_fit}
+use Rattle.vkg_grammar.specs.Certified.{Claim, none_claimed, holds, within_all, apart_all, both, if_so, claim_at, empty_way, begin_more, begin_way, follow_way, way_claimed, starts_way, shape_claimed, lower_way, either, shape_lower, all_below, shape_below, all_pass, rule_fits, all_fit}
 use Rattle.vkg_grammar.specs.Form.{HasKinds}
 use Rattle.vkg_grammar.specs.Laws.{CertificatesHold}
 use Rattle.vkg_grammar.proofs.Following.{way_inside}
@@ -80,17 +80,11 @@ apart_holds k [] ys e h h' = cc
 apart_holds k (x ∷ xs) ys e h h' = elim (step_holds k x xs h) [ inl q ↦ (let f : holds x ys ≡ false = (apart_first x xs ys e).0 in let t : holds x ys ≡ true = subst (λ y. holds y ys ≡ true) q h' in cc) | inr q ↦ apart_holds k xs ys (apart_first x xs ys e).1 q h' ]
 
 -- what a test of all rules with their claims says of each
-rule_each : (p : Claim → Shape → Bool) (all : ℕ → List Rule → List Claim → Bool)
-    → ((base : ℕ) (r : Rule) (rs : List Rule) → all base (r ∷ rs) [] ≡ false)
-    → ((base : ℕ) (r : Rule) (rs : List Rule) (d : Claim) (ds : List Claim) → all base (r ∷ rs) (d ∷ ds) ≡ both (p d (shape base r)) (all (base + 1) rs ds))
-    → (base : ℕ) (rs : List Rule) (ds : List Claim) (i j : ℕ) → j ≡ base + i → i < length rs → all base rs ds ≡ true → p (get_or ds i none_claimed) (shape j (get_or rs i (Token 0))) ≡ true
-rule_each p all none more base [] ds i j q h e = absurd (omega arith)
-rule_each p all none more base (r ∷ rs) [] i j q h e = absurd (true≢false (sym e ∙ none base r rs))
-rule_each p all none more base (r ∷ rs) (d ∷ ds) zero j q h e = let same : base ≡ j = omega arith in subst (λ y. p d (shape y r) ≡ true) same (both_first (p d (shape base r)) (all (base + 1) rs ds) (sym (more base r rs d ds) ∙ e))
-rule_each p all none more base (r ∷ rs) (d ∷ ds) (suc i) j q h e = rule_each p all none more (base + 1) rs ds i j (omega arith) (omega arith) (both_second (p d (shape base r)) (all (base + 1) rs ds) (sym (more base r rs d ds) ∙ e))
-
-pub claimed_each : (cs : List Claim) (base : ℕ) (rs : List Rule) (ds : List Claim) (i j : ℕ) → j ≡ base + i → i < length rs → all_claimed cs base rs ds ≡ true → shape_claimed cs (get_or ds i none_claimed) (shape j (get_or rs i (Token 0))) ≡ true
-claimed_each cs = rule_each (shape_claimed cs) (all_claimed cs) (λ b r rs. refl) (λ b r rs d ds. refl)
+pub rule_each : (p : Claim → Shape → Bool) (base : ℕ) (rs : List Rule) (ds : List Claim) (i j : ℕ) → j ≡ base + i → i < length rs → all_pass p base rs ds ≡ true → p (get_or ds i none_claimed) (shape j (get_or rs i (Token 0))) ≡ true
+rule_each p base [] ds i j q h e = absurd (omega arith)
+rule_each p base (r ∷ rs) [] i j q h e = absurd (true≢false (sym e))
+rule_each p base (r ∷ rs) (d ∷ ds) zero j q h e = let same : base ≡ j = omega arith in subst (λ y. p d (shape y r) ≡ true) same (both_first (p d (shape base r)) (all_pass p (base + 1) rs ds) e)
+rule_each p base (r ∷ rs) (d ∷ ds) (suc i) j q h e = rule_each p (base + 1) rs ds i j (omega arith) (omega arith) (both_second (p d (shape base r)) (all_pass p (base + 1) rs ds) e)
 
 -- what is claimed of some symbols at the next token
 abbrev ClaimedAt : List Claim → Option ℕ → List ℕ → Type 0
@@ -188,9 +182,6 @@ either_true : (a b : Bool) → either a b ≡ true → (a ≡ true) ⊎ (b ≡ t
 either_true true b e = inl refl
 either_true false b e = inr e
 
-pub lower_each : (cs : List Claim) (base : ℕ) (rs : List Rule) (ds : List Claim) (i j : ℕ) → j ≡ base + i → i < length rs → all_lower cs base rs ds ≡ true → shape_lower cs (get_or ds i none_claimed).level (shape j (get_or rs i (Token 0))) ≡ true
-lower_each cs = rule_each (λ d sh. shape_lower cs d.level sh) (all_lower cs) (λ b r rs. refl) (λ b r rs d ds. refl)
-
 module _ (g : List Rule) (wf : IsGrammar g) (cs : List Claim) (lower : (n : ℕ) → n < length g → shape_lower cs (claim_at cs n).level (shape_of g n) ≡ true) where
   way_text : (b : ℕ) (xs : List ℕ) → AllBelow (length g) xs → ((x : ℕ) → x < length g → (claim_at cs x).level < b → HasText g x) → lower_way cs b xs ≡ true → (ts : List ℕ) × (ws : List Note) × Derives g xs ts ws
   way_text b [] bl so e = ([], [], done)
@@ -218,24 +209,19 @@ below_of : (m : ℕ) (xs : List ℕ) → all_below m xs ≡ true → AllBelow m 
 below_of m [] e = tt
 below_of m (x ∷ xs) e = (ltb-true x m (both_first (nat_lt x m) (all_below m xs) e), below_of m xs (both_second (nat_lt x m) (all_below m xs) e))
 
-closed_each : (m base : ℕ) (rs : List Rule) (i j : ℕ) → j ≡ base + i → i < length rs → all_closed m base rs ≡ true → shape_below m (shape j (get_or rs i (Token 0))) ≡ true
-closed_each m base [] i j q h e = absurd (omega arith)
-closed_each m base (r ∷ rs) zero j q h e = let same : base ≡ j = omega arith in subst (λ y. shape_below m (shape y r) ≡ true) same (both_first (shape_below m (shape base r)) (all_closed m (base + 1) rs) e)
-closed_each m base (r ∷ rs) (suc i) j q h e = closed_each m (base + 1) rs i j (omega arith) (omega arith) (both_second (shape_below m (shape base r)) (all_closed m (base + 1) rs) e)
-
-pub is_grammar : (g : List Rule) → 0 < length g → all_closed (length g) 0 g ≡ true → IsGrammar g
-is_grammar g pos e = record { start = pos; closed = λ n xs h w. by_way n xs h w }
+pub is_grammar : (g : List Rule) (cs : List Claim) → 0 < length g → all_pass (λ c. shape_below (length g)) 0 g cs ≡ true → IsGrammar g
+is_grammar g cs pos e = record { start = pos; closed = λ n xs h w. by_way n xs h w }
   where
     by_way : (n : ℕ) (xs : List ℕ) → n < length g → IsWay g n xs → AllBelow (length g) xs
-    by_way n xs h (the_parts q) = below_of (length g) xs (let s : shape_below (length g) (Parts xs) ≡ true = subst (λ y. shape_below (length g) y ≡ true) q (closed_each (length g) 0 g n n (omega arith) h e) in s)
-    by_way n xs h (the_first {ys = ys} q) = below_of (length g) xs (let s : shape_below (length g) (Choice xs ys) ≡ true = subst (λ y. shape_below (length g) y ≡ true) q (closed_each (length g) 0 g n n (omega arith) h e) in both_first (all_below (length g) xs) (all_below (length g) ys) s)
-    by_way n ys h (the_second {xs = xs} q) = below_of (length g) ys (let s : shape_below (length g) (Choice xs ys) ≡ true = subst (λ y. shape_below (length g) y ≡ true) q (closed_each (length g) 0 g n n (omega arith) h e) in both_second (all_below (length g) xs) (all_below (length g) ys) s)
+    by_way n xs h (the_parts q) = below_of (length g) xs (let s : shape_below (length g) (Parts xs) ≡ true = subst (λ y. shape_below (length g) y ≡ true) q (rule_each (λ c. shape_below (length g)) 0 g cs n n (omega arith) h e) in s)
+    by_way n xs h (the_first {ys = ys} q) = below_of (length g) xs (let s : shape_below (length g) (Choice xs ys) ≡ true = subst (λ y. shape_below (length g) y ≡ true) q (rule_each (λ c. shape_below (length g)) 0 g cs n n (omega arith) h e) in both_first (all_below (length g) xs) (all_below (length g) ys) s)
+    by_way n ys h (the_second {xs = xs} q) = below_of (length g) ys (let s : shape_below (length g) (Choice xs ys) ≡ true = subst (λ y. shape_below (length g) y ≡ true) q (rule_each (λ c. shape_below (length g)) 0 g cs n n (omega arith) h e) in both_second (all_below (length g) xs) (all_below (length g) ys) s)
 
 -- A grammar whose claims pass all three tests is LL(1).
-pub passes_ll1 : (g : List Rule) (cs : List Claim) → 0 < length g → all_closed (length g) 0 g ≡ true → all_claimed cs 0 g cs ≡ true → all_lower cs 0 g cs ≡ true → IsLL1 g
+pub passes_ll1 : (g : List Rule) (cs : List Claim) → 0 < length g → all_pass (λ c. shape_below (length g)) 0 g cs ≡ true → all_pass (shape_claimed cs) 0 g cs ≡ true → all_pass (λ c. shape_lower cs c.level) 0 g cs ≡ true → IsLL1 g
 passes_ll1 g cs pos closed claims levels =
-    certified g (is_grammar g pos closed) cs (λ n h. claimed_each cs 0 g cs n n (omega arith) h claims)
-    (certified_productive g (is_grammar g pos closed) cs (λ n h. lower_each cs 0 g cs n n (omega arith) h levels))
+    certified g (is_grammar g cs pos closed) cs (λ n h. rule_each (shape_claimed cs) 0 g cs n n (omega arith) h claims)
+    (certified_productive g (is_grammar g cs pos closed) cs (λ n h. rule_each (λ c. shape_lower cs c.level) 0 g cs n n (omega arith) h levels))
 
 -- The kinds fit.
 kind_fits : (kinds n k : ℕ) (r : Rule) → shape n r ≡ One k → rule_fits kinds r ≡ true → k < kinds

@@ -77,12 +77,6 @@ shape_claimed cs c (One k) = holds k c.begin
 shape_claimed cs c (Parts xs) = way_claimed cs c xs
 shape_claimed cs c (Choice xs ys) = both (way_claimed cs c xs) (both (way_claimed cs c ys) (both (if_so (empty_way cs xs) (not (empty_way cs ys))) (apart_all (starts_way cs c xs) (starts_way cs c ys))))
 
--- and so at each of these symbols, of which the first is n
-abbrev pub all_claimed : List Claim → ℕ → List Rule → List Claim → Bool
-all_claimed cs n [] ds = true
-all_claimed cs n (r ∷ rs) [] = false
-all_claimed cs n (r ∷ rs) (d ∷ ds) = both (shape_claimed cs d (shape n r)) (all_claimed cs (n + 1) rs ds)
-
 -- each symbol of this way has a lower level
 abbrev pub lower_way : List Claim → ℕ → List ℕ → Bool
 lower_way cs n [] = true
@@ -98,12 +92,6 @@ shape_lower cs n (One k) = true
 shape_lower cs n (Parts xs) = lower_way cs n xs
 shape_lower cs n (Choice xs ys) = either (lower_way cs n xs) (lower_way cs n ys)
 
--- and so of each of these symbols, of which the first is n
-abbrev pub all_lower : List Claim → ℕ → List Rule → List Claim → Bool
-all_lower cs n [] ds = true
-all_lower cs n (r ∷ rs) [] = false
-all_lower cs n (r ∷ rs) (d ∷ ds) = both (shape_lower cs d.level (shape n r)) (all_lower cs (n + 1) rs ds)
-
 -- each of these symbols has a rule
 abbrev pub all_below : ℕ → List ℕ → Bool
 all_below m [] = true
@@ -115,10 +103,11 @@ shape_below m (One k) = true
 shape_below m (Parts xs) = all_below m xs
 shape_below m (Choice xs ys) = both (all_below m xs) (all_below m ys)
 
--- each symbol that these rules name has a rule, where there are m rules and the first is of the symbol n
-abbrev pub all_closed : ℕ → ℕ → List Rule → Bool
-all_closed m n [] = true
-all_closed m n (r ∷ rs) = both (shape_below m (shape n r)) (all_closed m (n + 1) rs)
+-- each of these rules has a claim on its symbol, and their shapes pass the test; n is the symbol of the first
+abbrev pub all_pass : (Claim → Shape → Bool) → ℕ → List Rule → List Claim → Bool
+all_pass test n [] ds = true
+all_pass test n (r ∷ rs) [] = false
+all_pass test n (r ∷ rs) (d ∷ ds) = both (test d (shape n r)) (all_pass test (n + 1) rs ds)
 
 -- the kinds that a rule names are below this number
 abbrev pub rule_fits : ℕ → Rule → Bool
@@ -132,7 +121,7 @@ all_fit kinds (r ∷ rs) = both (rule_fits kinds r) (all_fit kinds rs)
 -- The claims on the symbols of these rules pass every test. For rules and claims that are written out, each test is `refl`.
 pub record IsCertified (g : List Rule) (kinds : ℕ) (cs : List Claim) : Type 0 where
   pub some : 0 < length g
-  pub closed : all_closed (length g) 0 g ≡ true
+  pub closed : all_pass (λ c. shape_below (length g)) 0 g cs ≡ true
   pub fits : all_fit kinds g ≡ true
-  pub claimed : all_claimed cs 0 g cs ≡ true
-  pub lower : all_lower cs 0 g cs ≡ true
+  pub claimed : all_pass (shape_claimed cs) 0 g cs ≡ true
+  pub lower : all_pass (λ c. shape_lower cs c.level) 0 g cs ≡ true

@@ -1,4 +1,4 @@
-pub mod Kinds
+pub mod TableKinds
 pub mod Quads
 pub mod LeastFault
 pub mod Company

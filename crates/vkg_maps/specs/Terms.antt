@@ -1,12 +1,12 @@
 -- The term that a term map makes of a row (R2RML, 11.2, generated RDF term).
-use Rattle.std.specs.Prelude.{ℕ, List, [], ◌∷◌, ◌++◌, Option, Some, None, Result, Ok, Err, option_map, if◌then◌else◌}
+use Rattle.std.specs.Prelude.{ℕ, List, [], ◌∷◌, Option, Some, None, Result, Ok, Err, option_map, if◌then◌else◌}
 use Rattle.vkg_lists.specs.Options.{joined}
 use Rattle.vkg_terms.specs.declared.term.Term.{Term}
 use Rattle.vkg_terms.specs.declared.term.Term.TheVariants.{Iri, Blank, Lit}
 use Rattle.vkg_terms.specs.declared.term.Annotation.{Annotation}
 use Rattle.vkg_terms.specs.declared.term.Annotation.TheVariants.{Typed}
 use Rattle.vkg_terms.specs.Safe.{safe}
-use Rattle.vkg_terms.specs.Iri.{is_absolute}
+use Rattle.vkg_terms.specs.Iri.{is_absolute, made_absolute}
 use Rattle.vkg_terms.specs.Label.{blank_label}
 use Rattle.vkg_cells.specs.Form.{lexical_form}
 use Rattle.vkg_cells.specs.WellTyped.{is_well_typed, is_too_wide}
@@ -41,7 +41,7 @@ template_value type row (p ∷ ps) = joined (piece_text type row p) (template_va
 
 -- R2RML, 11.2, IRI: a value that is no absolute IRI is put behind the base
 abbrev pub against : List ℕ → TermType → List ℕ → List ℕ
-against base sort.Iri text = if is_absolute text then text else base ++ text
+against base sort.Iri text = made_absolute base text
 against base sort.Blank text = text
 against base (sort.Literal annotation) text = text
 

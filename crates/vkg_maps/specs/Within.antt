@@ -1,10 +1,11 @@
 -- A mapping whose tables, columns and parents are those of a schema.
-use Rattle.std.specs.Prelude.{◌≡◌, ℕ, ◌<◌, Bool, false, IsFalse, List, [], ◌∷◌, flat_map, map, length, IfSome, option_map, slice_get, unwrap_or}
+use Rattle.std.specs.Prelude.{◌≡◌, ℕ, ◌<◌, Bool, false, IsFalse, List, [], ◌∷◌, flat_map, map, length, IfSome, slice_get, unwrap_or}
 use Rattle.std.specs.List.{AllByRecursion}
 use Rattle.vkg_lists.specs.Lists.{AllBelow}
 use Rattle.vkg_cells.specs.declared.cell.SqlType.{SqlType}
 use Rattle.vkg_cells.specs.Order.{family}
 use Rattle.vkg_cells.specs.WellTyped.{is_wide_number}
+use Rattle.vkg_schema.specs.Kinds.{table_kinds}
 use Rattle.vkg_schema.specs.declared.table.Table.{Table}
 use Rattle.vkg_maps.specs.declared.term_map.TermMap.{TermMap}
 use Rattle.vkg_maps.specs.declared.term_map.TermMap.TheVariants as from
@@ -19,7 +20,7 @@ use Rattle.vkg_maps.specs.QuadRules.{parent_of}
 
 -- the kinds of a table's columns, and none where there is no such table
 abbrev pub kinds_at : List Table → ℕ → List SqlType
-kinds_at schema table = unwrap_or (option_map (λ t. map (λ c. c.kind) t.columns) (slice_get schema table)) []
+kinds_at schema table = unwrap_or (table_kinds schema table) []
 
 -- R2RML, 7.3: the column of a piece
 abbrev pub piece_columns : Piece → List ℕ

@@ -5,6 +5,7 @@ use Rattle.vkg_lists.specs.Options.{joined}
 pub use Rattle.vkg_lists.proofs.Onto.{joined_assoc, joined_nil, nil_joined}
 use Rattle.vkg_terms.specs.declared.term.Term.{Term}
 use Rattle.vkg_terms.specs.declared.term.Term.TheVariants.{Iri, Blank, Lit}
+use Rattle.vkg_terms.specs.Iri.{made_absolute}
 use Rattle.vkg_terms.specs.Label.{blank_label}
 use Rattle.vkg_terms.specs.Safe.{safe}
 use Rattle.vkg_terms.specs.Same.{term_eq, term_name}
@@ -19,7 +20,7 @@ use Rattle.vkg_expr.specs.declared.term_expr.TermExpr.{TermExpr}
 use Rattle.vkg_expr.specs.declared.term_expr.TermExpr.TheVariants.{Fixed, Made, Resolved}
 use Rattle.vkg_expr.specs.Expr.{Expr, Same, exprs}
 use Rattle.vkg_expr.specs.TermExprs.{piece_expr, pieces_expr, term_expr}
-use Rattle.vkg_expr.specs.Value.{against, concat_of, holds, term_cell, text_cell, text_of, truth_cell, truth_of, value_of, values_of}
+use Rattle.vkg_expr.specs.Value.{concat_of, holds, term_cell, text_cell, text_of, truth_cell, truth_of, value_of, values_of}
 use Rattle.vkg_expr.proofs.ReadBack.{text_back}
 use Rattle.vkg_match.specs.Verdict.{whole_text}
 
@@ -60,10 +61,10 @@ pieces_value sort row (p ∷ q ∷ ps) = ap text_cell (concat_value sort row (p 
 abbrev pub text_at : Row → TermExpr → Text
 text_at row (Fixed t) = Some (term_name t)
 text_at row (Made sort ps) = pieces_text sort row ps
-text_at row (Resolved base at k) = option_map (against base) (lexical_form (cell_at row at))
+text_at row (Resolved base at k) = option_map (made_absolute base) (lexical_form (cell_at row at))
 
-resolved_value : (base : List ℕ) (o : Text) → text_cell (option_map (against base) (text_of (text_cell o))) ≡ text_cell (option_map (against base) o)
-resolved_value base o = ap (λ p. text_cell (option_map (against base) p)) (text_back o)
+resolved_value : (base : List ℕ) (o : Text) → text_cell (option_map (made_absolute base) (text_of (text_cell o))) ≡ text_cell (option_map (made_absolute base) o)
+resolved_value base o = ap (λ p. text_cell (option_map (made_absolute base) p)) (text_back o)
 
 pub whole_value : (row : Row) (e : TermExpr) → value_of (whole_text e) row ≡ text_cell (text_at row e)
 whole_value row (Fixed t) = refl
@@ -89,7 +90,7 @@ made_value (OfLit a) row ps = ap (λ o. term_cell (option_map (λ s. Lit s a) o)
 pub term_value : (row : Row) (e : TermExpr) → value_of (term_expr e) row ≡ term_cell (term_at row e)
 term_value row (Fixed t) = refl
 term_value row (Made sort ps) = made_value sort row ps
-term_value row (Resolved base at k) = ap (λ o. term_cell (option_map Iri o)) (ap text_of (resolved_value base (lexical_form (cell_at row at))) ∙ text_back (option_map (against base) (lexical_form (cell_at row at))))
+term_value row (Resolved base at k) = ap (λ o. term_cell (option_map Iri o)) (ap text_of (resolved_value base (lexical_form (cell_at row at))) ∙ text_back (option_map (made_absolute base) (lexical_form (cell_at row at))))
 
 -- there are two terms and they are one
 abbrev pub same_terms : Option Term → Option Term → Bool

@@ -1,11 +1,12 @@
 -- The kinds of a plan's columns over a schema; none where it is ill typed.
-use Rattle.std.specs.Prelude.{ℕ, Bool, false, List, [], ◌∷◌, ◌++◌, length, map, slice_get, Option, Some, None, option_map, option_and_then, is_some, if◌then◌else◌}
+use Rattle.std.specs.Prelude.{ℕ, Bool, false, List, [], ◌∷◌, ◌++◌, length, Option, Some, None, option_and_then, is_some, if◌then◌else◌}
 use Rattle.std.specs.List.{list_all}
 use Rattle.std.specs.Cmp.Lexicographic.{pointwise}
 use Rattle.std.specs.Option.{option_map_or}
 use Rattle.vkg_lists.specs.Options.{with_first, joined}
 use Rattle.vkg_cells.specs.declared.cell.SqlType.{SqlType}
 use Rattle.vkg_cells.specs.declared.cell.SqlType.TheVariants as kind
+use Rattle.vkg_schema.specs.Kinds.{table_kinds}
 use Rattle.vkg_schema.specs.declared.table.Table.{Table}
 use Rattle.vkg_expr.specs.Expr.{Expr, exprs}
 use Rattle.vkg_expr.specs.Typing.{is_one, kind_of, kinds_of, same_kind}
@@ -17,9 +18,6 @@ Tables = List Table
 
 abbrev pub Kinds : Type 0
 Kinds = List SqlType
-
-abbrev pub table_kinds : Tables → ℕ → Option Kinds
-table_kinds schema table = option_map (λ t. map (λ c. c.kind) t.columns) (slice_get schema table)
 
 -- the kinds, where the condition over them is a truth
 abbrev pub checked : Expr → Option Kinds → Option Kinds

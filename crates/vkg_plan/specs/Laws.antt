@@ -3,7 +3,7 @@ use Rattle.std.specs.Prelude.{◌≡◌, ℕ, List, Some, true}
 use Rattle.std.specs.List.{AllByRecursion}
 use Rattle.vkg_schema.specs.Rows.{Database, Row, rows_of as table_rows}
 use Rattle.vkg_expr.specs.Laws.{HasKinds}
-use Rattle.vkg_plan.specs.Kinds.{Kinds, Tables, table_kinds}
+use Rattle.vkg_plan.specs.Kinds.{Kinds, Tables}
 use Rattle.vkg_plan.specs.Plan.{Plan}
 use Rattle.vkg_plan.specs.Rows.{rows_of}
 

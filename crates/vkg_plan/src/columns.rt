@@ -5,7 +5,8 @@ ghost use Rattle.vkg_lists.specs.Options.{joined};
 ghost use Rattle.vkg_expr.specs.Expr.{exprs};
 ghost use Rattle.vkg_expr.specs.Seen.{expr_seen};
 ghost use Rattle.vkg_expr.specs.Typing.{kinds_of, same_kind as one_kind};
-ghost use Rattle.vkg_plan.specs.Kinds.{checked as checked_kinds, is_alike as alike, table_kinds as kinds_of_table};
+ghost use Rattle.vkg_schema.specs.Kinds.{table_kinds as kinds_of_table};
+ghost use Rattle.vkg_plan.specs.Kinds.{checked as checked_kinds, is_alike as alike};
 
 use std::alloc::Global;
 use vkg_base::{Items, Memory, at};

@@ -2,17 +2,19 @@
 use Rattle.std.proofs.Common.{◌≡◌, ℕ, refl, sym, ◌∙◌, ap, List, [], ◌∷◌, ◌++◌, append-nil, map, flat_map, filter, Bool, true, Option, Some, None}
 use Rattle.std.specs.Prelude.{filter_map, slice_get, option_map}
 use Rattle.std.specs.List.{cons_option}
+use Rattle.std.specs.Str.{bytes_eq}
 use Rattle.std.proofs.lemmas.Slice.Eq.{bytes_eq-Decides}
 use Rattle.std.proofs.lemmas.List.Elements.{filter_map-append, filter-append}
 use Rattle.std.proofs.lemmas.List.{map-append}
 use Rattle.std.proofs.lemmas.Option.{same_Some}
+use Rattle.vkg_lists.specs.Options.{both_pass}
 use Rattle.vkg_lists.proofs.Bools.{is_false}
 use Rattle.vkg_lists.proofs.Members.{filter_drops}
 use Rattle.vkg_lists.proofs.Onto.{map_lacking}
 use Rattle.vkg_lists.proofs.Walks.{filter_absorbs}
 use Rattle.vkg_terms.specs.NQuads.{Quad, line}
 use Rattle.vkg_schema.specs.Rows.{Row, agree}
-use Rattle.vkg_index.specs.Keys.{row_key, has_key, is_key}
+use Rattle.vkg_index.specs.Keys.{row_key, has_key}
 use Rattle.vkg_index.proofs.OneKey.{near, far, one_key}
 
 -- a row without key has no partner
@@ -26,7 +28,7 @@ partners ps r rows key e = filter_absorbs (agree ps r) (has_key (map far ps) key
     has s a =
         let k = one_key ps r s a in
         let f : key ≡ k.0 = same_Some key k.0 (sym e ∙ k.1) in
-        ap (is_key key) k.2 ∙ (bytes_eq-Decides key k.0).1 f
+        ap (both_pass bytes_eq (Some key)) k.2 ∙ (bytes_eq-Decides key k.0).1 f
 
 -- the lines of partners that are looked at one by one
 pub one_by_one : (f : Row → Option Quad) (t : Row → Bool) (rows : List Row) (ns : List ℕ) → flat_map (λ n. map line (filter_map f (filter t (filter_map (slice_get rows) (n ∷ []))))) ns ≡ map line (filter_map f (filter t (filter_map (slice_get rows) ns)))

@@ -9,7 +9,7 @@ use Rattle.vkg_schema.specs.declared.table.Column.{Column}
 use Rattle.vkg_schema.specs.Meets.{FitsColumn, MeetsSchema}
 use Rattle.vkg_schema.specs.Rows.{Database, Row, rows_of}
 use Rattle.vkg_schema.proofs.RowFits.{row_of_table}
-use Rattle.vkg_maps.proofs.Kinds.{kinds_of}
+use Rattle.vkg_maps.proofs.TableKinds.{kinds_of}
 use Rattle.vkg_maps.specs.declared.mapping.Mapping.{Mapping}
 use Rattle.vkg_maps.specs.declared.quad_rule.QuadRule.{QuadRule}
 use Rattle.vkg_maps.specs.DataFaults.{data_faults}

@@ -6,6 +6,7 @@ use Rattle.vkg_lists.specs.Lists.{AllBelow}
 use Rattle.vkg_lists.specs.Options.{joined}
 use Rattle.vkg_expr.proofs.ReadBack.{truth_back}
 use Rattle.vkg_terms.specs.declared.term.Term.TheVariants as term
+use Rattle.vkg_terms.specs.Iri.{made_absolute}
 use Rattle.vkg_terms.specs.Safe.{safe}
 use Rattle.vkg_terms.specs.Label.{blank_label}
 use Rattle.vkg_cells.specs.Form.{lexical_form}
@@ -77,7 +78,7 @@ module _ (r s : Row) (n : ℕ) (width : n ≡ length r) where
   term_behind (Fixed t) = refl
   term_behind (Made k ps) = made_behind k (pieces_expr k (map (moved_piece n) ps)) (pieces_expr k ps) (text_behind k ps)
   term_behind (Resolved base at kind) =
-      ap (λ d. value.term_cell (option_map term.Iri (value.text_of (value.text_cell (option_map (value.against base) (value.text_of (value.text_cell (lexical_form d)))))))) (moved_cell at)
+      ap (λ d. value.term_cell (option_map term.Iri (value.text_of (value.text_cell (option_map (made_absolute base) (value.text_of (value.text_cell (lexical_form d)))))))) (moved_cell at)
 
   -- ---- join conditions
 

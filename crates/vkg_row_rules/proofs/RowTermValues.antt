@@ -7,7 +7,7 @@ use Rattle.vkg_lists.proofs.Onto.{joined_nil}
 use Rattle.vkg_terms.specs.declared.term.Annotation.TheVariants.{Plain, Lang, Typed}
 use Rattle.vkg_terms.specs.declared.term.Term.{Term}
 use Rattle.vkg_terms.specs.declared.term.Term.TheVariants.{Iri, Blank, Lit}
-use Rattle.vkg_terms.specs.Iri.{is_absolute}
+use Rattle.vkg_terms.specs.Iri.{is_absolute, made_absolute}
 use Rattle.vkg_terms.specs.Label.{blank_label}
 use Rattle.vkg_terms.specs.Safe.{safe}
 use Rattle.vkg_cells.specs.declared.cell.SqlType.{SqlType}
@@ -26,7 +26,7 @@ use Rattle.vkg_maps.specs.Terms.{Made, term_of as term_made, term_if_any, term_f
 use Rattle.vkg_maps.specs.Terms as maps
 use Rattle.vkg_expr.specs.Expr.{Expr, Col, Lex, IriOf, exprs}
 use Rattle.vkg_expr.specs.TermExprs.{made, piece_expr, pieces_expr}
-use Rattle.vkg_expr.specs.Value.{value_of, values_of, term_of, text_of, text_cell, concat_of, against}
+use Rattle.vkg_expr.specs.Value.{value_of, values_of, term_of, text_of, text_cell, concat_of}
 use Rattle.vkg_expr.proofs.ReadBack.{term_back, text_back}
 use Rattle.vkg_row_rules.specs.RowDataset.{term_at}
 use Rattle.vkg_row_rules.specs.RowTerms.{piece_of, row_term, sort_of}
@@ -97,7 +97,7 @@ module _ (ks : List SqlType) (row : Row) where
   pieces_value t (p ∷ q ∷ ps) =
       text_back (concat_of (values_of (exprs (map (piece_expr (sort_of t)) (map (piece_of ks) (p ∷ q ∷ ps)))) row)) ∙ concat_value t (p ∷ q ∷ ps)
 
-resolved : (base : List ℕ) (o : Option (List ℕ)) → text_of (text_cell (option_map (against base) (text_of (text_cell o)))) ≡ option_map (maps.against base sort.Iri) o
+resolved : (base : List ℕ) (o : Option (List ℕ)) → text_of (text_cell (option_map (made_absolute base) (text_of (text_cell o)))) ≡ option_map (maps.against base sort.Iri) o
 resolved base None = refl
 resolved base (Some s) = refl
 

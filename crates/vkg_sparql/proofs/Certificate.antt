@@ -178,7 +178,7 @@ claims =
     ∷ []
 
 pub sparql_form : IsWellFormed SPARQL 61
-sparql_form = record { grammar = is_grammar SPARQL (lit< tt) refl; has_kinds = has_kinds 61 SPARQL refl; small = lit< tt }
+sparql_form = record { grammar = is_grammar SPARQL claims (lit< tt) refl; has_kinds = has_kinds 61 SPARQL refl; small = lit< tt }
 
 pub sparql_ll1 : IsLL1 SPARQL
 sparql_ll1 = passes_ll1 SPARQL claims (lit< tt) refl refl refl

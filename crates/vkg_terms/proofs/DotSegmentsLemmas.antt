@@ -3,17 +3,17 @@ use Rattle.std.proofs.Common.{◌≡◌, ◌==◌, ◌++◌, ◌∷◌, [], List
 use Rattle.std.specs.Prelude.{option_to_list, if◌then◌else◌, MatchOption}
 use Rattle.std.specs.List.{concat}
 use Rattle.std.proofs.lemmas.Bool.Decides.{nat_tests}
-use Rattle.std.proofs.lemmas.List.{append-nil, length-map}
+use Rattle.std.proofs.lemmas.List.{append-nil, length-map, map-append}
 use Rattle.std.proofs.lemmas.List.Concat.{concat_is}
 use Rattle.std.proofs.lemmas.List.Folds.{flat_map-map}
-use Rattle.vkg_terms.specs.Resolve.{is_dot, is_dots, kept, without_last}
+use Rattle.vkg_lists.specs.Lists.{without_last}
+use Rattle.vkg_lists.proofs.Heads.{without_last-push}
+use Rattle.vkg_terms.specs.Resolve.{is_dot, is_dots, kept}
 use Rattle.vkg_terms.specs.DotSegments.{going, with_segment}
 
 module _ {A B : Type 0} (f : A → B) where
   last_off : (xs : List A) (x : A) → without_last (map f (xs ++ x ∷ [])) ≡ map f xs
-  last_off [] x = refl
-  last_off (y ∷ []) x = refl
-  last_off (y ∷ z ∷ xs) x = ap (λ (l : List B). f y ∷ l) (last_off (z ∷ xs) x)
+  last_off xs x = ap without_last (map-append f xs (x ∷ [])) ∙ without_last-push (map f xs) (f x)
 
   -- what `pop` leaves of n items
   pub popped : (old new : List A) (r : Option A) (n : ℕ) (Q : Type 0) (P : A → Type 0) → old ≡ new ++ option_to_list r → MatchOption r ((n ≡ 0) × Q) P → new ≡ take (n - 1) old → map f new ≡ without_last (map f old)

@@ -1,7 +1,8 @@
 -- Dot segments are removed a segment at a time.
 use Rattle.std.specs.Prelude.{ℕ, Bool, List, [], ◌∷◌, ◌++◌, codes, if◌then◌else◌}
+use Rattle.vkg_lists.specs.Lists.{without_last}
 use Rattle.vkg_terms.specs.declared.dot_segments.Piece.{Piece}
-use Rattle.vkg_terms.specs.Resolve.{is_dot, is_dots, kept, without_dots, without_last}
+use Rattle.vkg_terms.specs.Resolve.{is_dot, is_dots, kept, without_dots}
 
 -- a piece of the output, as it is written
 abbrev pub piece_text : Piece → List ℕ

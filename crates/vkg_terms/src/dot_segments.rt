@@ -1,6 +1,7 @@
 ghost use Rattle.std.specs.Prelude.{◌≡◌, ◌++◌, ◌∷◌, [], IfOk, OnOk, map, flat_map, string_bytes};
+ghost use Rattle.vkg_lists.specs.Lists.{without_last};
 ghost use Rattle.vkg_terms.specs.DotSegments.{closed, piece_text, with_segment};
-ghost use Rattle.vkg_terms.specs.Resolve.{is_dot as dot, is_dots as dots, remove_dots as without, segments as segments_of, without_dots as kept_of, without_last};
+ghost use Rattle.vkg_terms.specs.Resolve.{is_dot as dot, is_dots as dots, remove_dots as without, segments as segments_of, without_dots as kept_of};
 
 use std::alloc::{AllocError, Global};
 use vkg_base::Memory;

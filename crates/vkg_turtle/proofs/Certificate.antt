@@ -103,7 +103,7 @@ claims =
     ∷ []
 
 pub turtle_form : IsWellFormed TURTLE 25
-turtle_form = record { grammar = is_grammar TURTLE (lit< tt) refl; has_kinds = has_kinds 25 TURTLE refl; small = lit< tt }
+turtle_form = record { grammar = is_grammar TURTLE claims (lit< tt) refl; has_kinds = has_kinds 25 TURTLE refl; small = lit< tt }
 
 pub turtle_ll1 : IsLL1 TURTLE
 turtle_ll1 = passes_ll1 TURTLE claims (lit< tt) refl refl refl

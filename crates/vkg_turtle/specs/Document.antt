@@ -1,7 +1,8 @@
 -- RDF 1.1 Turtle, 7: the triples of a document, by the state of a parser that takes one token after another.
-use Rattle.std.specs.Prelude.{ℕ, Bool, true, false, List, [], ◌∷◌, ◌++◌, codes, decimal, fold, length, map, slice_get, take, ◌-◌, Option, Some, None, unwrap_or, option_map, option_to_list, if◌then◌else◌}
+use Rattle.std.specs.Prelude.{ℕ, Bool, true, false, List, [], ◌∷◌, ◌++◌, codes, decimal, fold, length, map, slice_get, ◌-◌, Option, Some, None, unwrap_or, option_map, option_to_list, if◌then◌else◌}
 use Rattle.std.specs.List.{list_any}
 use Rattle.std.specs.Str.{bytes_eq}
+use Rattle.vkg_lists.specs.Lists.{without_last}
 use Rattle.vkg_lists.specs.Places.{earlier}
 use Rattle.vkg_grammar.specs.declared.note.Note.{Note}
 use Rattle.vkg_terms.specs.declared.term.Term.{Term}
@@ -22,12 +23,9 @@ use Rattle.vkg_turtle.specs.declared.role.Role.TheVariants as role
 use Rattle.vkg_turtle.specs.declared.triple.Triple.{Triple}
 use Rattle.vkg_turtle.specs.SameTriple.{triple_eq}
 
--- the last item, and those before it
+-- the last item
 abbrev pub last_of : {A : Type 0} → List A → Option A
 last_of xs = slice_get xs (length xs - 1)
-
-abbrev pub front_of : {A : Type 0} → List A → List A
-front_of xs = take (length xs - 1) xs
 
 -- 7.1, namespaces: a prefix that is declared again stands for the later IRI
 abbrev pub declared : List ℕ → List ℕ → List (List ℕ × List ℕ) → List (List ℕ × List ℕ)
@@ -98,7 +96,7 @@ annotated_triple a t = record t { object = annotated a t.object }
 
 -- 7.2, datatype, langString: the literal that was read last has this datatype or language
 abbrev pub with_annotation : Annotation → Document → Document
-with_annotation a d = record d { triples = front_of d.triples ++ map (annotated_triple a) (option_to_list (last_of d.triples)) }
+with_annotation a d = record d { triples = without_last d.triples ++ map (annotated_triple a) (option_to_list (last_of d.triples)) }
 
 abbrev pub text_of_tag : Word → List ℕ
 text_of_tag (Tag text) = text
@@ -124,7 +122,7 @@ opened at d = with_subject (node_at at) (with_outer (with_object (node_at at) at
 -- 7.3: behind the bracket the subject and the predicate are those before it
 abbrev pub restored : Option Outer → Document → Document
 restored None d = d
-restored (Some o) d = record d { outer = front_of d.outer; subject = o.subject; predicate = o.predicate }
+restored (Some o) d = record d { outer = without_last d.outer; subject = o.subject; predicate = o.predicate }
 
 -- 7.1: the prefix that was read before stands for this from now on
 abbrev pub with_prefix : List ℕ → Document → Document

@@ -12,7 +12,7 @@ use Rattle.vkg_expr.specs.declared.term_expr.Piece.TheVariants.{Chars, Hole}
 use Rattle.vkg_expr.specs.declared.term_expr.TermExpr.{TermExpr}
 use Rattle.vkg_expr.specs.declared.term_expr.TermExpr.TheVariants.{Fixed, Made, Resolved}
 use Rattle.vkg_expr.specs.Typing.{equality_kind, same_kind}
-use Rattle.vkg_plan.specs.Kinds.{Kinds, Tables, plan_kinds, table_kinds}
+use Rattle.vkg_plan.specs.Kinds.{Kinds, Tables, plan_kinds}
 use Rattle.vkg_row_rules.specs.declared.row_rule.RowRule.{RowRule}
 use Rattle.vkg_unfold.specs.declared.mode.Mode.{Mode}
 use Rattle.vkg_unfold.specs.Unfolded.{columns_in, start_plan, unfolded}
