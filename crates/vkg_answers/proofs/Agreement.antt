@@ -1,7 +1,7 @@
 -- The condition of a Join over shared variables is that the solutions are compatible.
 use Rattle.std.proofs.Common.{◌≡◌, ℕ, zero, suc, ◌+◌, ◌<◌, ◌≤◌, Bool, true, false, List, [], ◌∷◌, ◌++◌, map, length, refl, sym, ap, ◌∙◌, arith}
 use Rattle.std.specs.Prelude.{Option, Some, None, ◌&&◌, ◌||◌, nat_eq, filter, fold, unwrap_or}
-use Rattle.std.specs.List.{list_all}
+use Rattle.std.specs.List.{list_all, range_with_len}
 use Rattle.std.proofs.lemmas.List.Folds.{list_all-map}
 use Rattle.std.proofs.Math.Bool.{or-true}
 use Rattle.vkg_lists.proofs.Members.{each_of_all, all_of_each}
@@ -22,7 +22,7 @@ use Rattle.vkg_expr.specs.Value.{value_of, term_of, term_cell, truth_of, truth_c
 use Rattle.vkg_unfold.specs.declared.mode.Mode.{Mode}
 use Rattle.vkg_algebra.specs.Visible.{has}
 use Rattle.vkg_unfold.specs.Unfolded.{left_column, right_column, visible_column, columns_in, or_null}
-use Rattle.vkg_unfold.specs.StandsFor.{upto_from, term_in, solution_of}
+use Rattle.vkg_unfold.specs.StandsFor.{term_in, solution_of}
 use Rattle.vkg_answers.proofs.Joins.{agree}
 use Rattle.vkg_answers.proofs.Reading.{AreTermCells, AreBelow, read, read_left, read_right, read_typed, read_none, has-filter}
 
@@ -50,10 +50,10 @@ all_elim p vs h v k = each_of_all p vs h v ((Decides-list_any nat_test vs v).0 k
 pub all_intro : (p : ℕ → Bool) (vs : List ℕ) → ((v : ℕ) → has vs v ≡ true → p v ≡ true) → list_all p vs ≡ true
 all_intro p vs h = all_of_each p vs (λ v c. h v ((Decides-list_any nat_test vs v).1 c))
 
-pub has-upto : (n k v w : ℕ) → v < n → w ≡ k + v → has (upto_from k n) w ≡ true
+pub has-upto : (n k v w : ℕ) → v < n → w ≡ k + v → has (range_with_len k n) w ≡ true
 has-upto zero k v w h e = absurd (omega arith)
-has-upto (suc n) k zero w h e = let f : w ≡ k = omega arith in ap (λ b. b || has (upto_from (suc k) n) w) (ap (nat_eq w) (sym f) ∙ eq_itself nat_test w)
-has-upto (suc n) k (suc v) w h e = ap (λ b. nat_eq w k || b) (has-upto n (suc k) v w (omega arith) (omega arith)) ∙ or-true (nat_eq w k)
+has-upto (suc n) k zero w h e = let f : w ≡ k = omega arith in ap (λ b. b || has (range_with_len (k + 1) n) w) (ap (nat_eq w) (sym f) ∙ eq_itself nat_test w)
+has-upto (suc n) k (suc v) w h e = ap (λ b. nat_eq w k || b) (has-upto n (k + 1) v w (omega arith) (omega arith)) ∙ or-true (nat_eq w k)
 
 abbrev pub agreements : Mode → List ℕ → List ℕ → List Expr
 agreements mode vs ws = map (λ v. or_null (left_column vs v) (right_column mode vs ws v)) (filter (has ws) vs)
@@ -62,8 +62,8 @@ pub agreements-compatible : (n : ℕ) (mode : Mode) (vs ws : List ℕ) (l r : Ro
     list_all (λ c. holds c (l ++ r)) (agreements mode vs ws) ≡ compatible (solution_of n vs l) (solution_of n ws r)
 agreements-compatible n mode vs ws l r below m k p q =
     list_all-map (λ c. holds c (l ++ r)) (λ v. or_null (left_column vs v) (right_column mode vs ws v)) (filter (has ws) vs)
-    ∙ same_truth (list_all test (filter (has ws) vs)) (list_all agreed (upto_from 0 n)) onto back
-    ∙ sym (compatible-map (term_in (visible_column vs) l) (term_in (visible_column ws) r) (upto_from 0 n))
+    ∙ same_truth (list_all test (filter (has ws) vs)) (list_all agreed (range_with_len 0 n)) onto back
+    ∙ sym (compatible-map (term_in (visible_column vs) l) (term_in (visible_column ws) r) (range_with_len 0 n))
   where
     test : ℕ → Bool
     test v = holds (or_null (left_column vs v) (right_column mode vs ws v)) (l ++ r)
@@ -78,14 +78,14 @@ agreements-compatible n mode vs ws l r below m k p q =
     shared : (v : ℕ) → has vs v ≡ true → has ws v ≡ true → has (filter (has ws) vs) v ≡ true
     shared v e f = has-filter (has ws) vs v ∙ (λ i. e i && f i)
 
-    onto : list_all test (filter (has ws) vs) ≡ true → list_all agreed (upto_from 0 n) ≡ true
-    onto h = all_intro agreed (upto_from 0 n) (λ v c. of v (has vs v) refl (has ws v) refl)
+    onto : list_all test (filter (has ws) vs) ≡ true → list_all agreed (range_with_len 0 n) ≡ true
+    onto h = all_intro agreed (range_with_len 0 n) (λ v c. of v (has vs v) refl (has ws v) refl)
       where
         of : (v : ℕ) (a : Bool) → has vs v ≡ a → (b : Bool) → has ws v ≡ b → agreed v ≡ true
         of v true e true f = sym (one v e f) ∙ all_elim test (filter (has ws) vs) h v (shared v e f)
         of v true e false f = ap (λ c. agree (term_in (visible_column vs) l v) (term_of c)) (read_none ws r v f) ∙ agree_none term_eq (term_in (visible_column vs) l v)
         of v false e b f = ap (λ c. agree (term_of c) (term_in (visible_column ws) r v)) (read_none vs l v e)
 
-    back : list_all agreed (upto_from 0 n) ≡ true → list_all test (filter (has ws) vs) ≡ true
+    back : list_all agreed (range_with_len 0 n) ≡ true → list_all test (filter (has ws) vs) ≡ true
     back h = all_intro test (filter (has ws) vs) (λ v c. let b = and_parts (has vs v) (has ws v) (sym (has-filter (has ws) vs v) ∙ c) in
-        one v b.0 b.1 ∙ all_elim agreed (upto_from 0 n) h v (has-upto n 0 v v (below v b.0) (omega arith)))
+        one v b.0 b.1 ∙ all_elim agreed (range_with_len 0 n) h v (has-upto n 0 v v (below v b.0) (omega arith)))

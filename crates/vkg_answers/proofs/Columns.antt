@@ -1,8 +1,8 @@
 -- Rows with a name for each column.
 use Rattle.std.proofs.Common.{◌≡◌, ℕ, zero, suc, ◌+◌, Bool, true, false, ⊎_elim, List, [], ◌∷◌, ◌++◌, map, length, refl, sym, ap, subst, ◌∙◌, arith, true≢false, length-append, drop, append-nil}
-use Rattle.std.specs.Prelude.{Option, Some, None, ◌&&◌, Contains, filter, flat_map, if◌then◌else◌}
+use Rattle.std.specs.Prelude.{Option, Some, None, ◌&&◌, Contains, filter, flat_map, if◌then◌else◌, cond, not}
 use Rattle.std.specs.Option.{option_map_or}
-use Rattle.std.specs.List.{list_all, AllByRecursion as Every, zip}
+use Rattle.std.specs.List.{list_all, AllByRecursion as Every, zip, range_with_len, position_or_len}
 use Rattle.std.specs.List.Sorted.{IsPermutation}
 use Rattle.std.proofs.lemmas.List.Elements.{Contains-append_cases}
 use Rattle.std.proofs.lemmas.List.Folds.{list_all-append}
@@ -22,10 +22,10 @@ use Rattle.vkg_algebra.specs.Evaluation.{Dataset, graph_names, graph_of}
 use Rattle.vkg_algebra.specs.Patterns.{pattern_solutions}
 use Rattle.vkg_expr.specs.Value.{term_of}
 use Rattle.vkg_plan.specs.Rows.{product}
-use Rattle.vkg_unfold.specs.Unfolded.{place_of, Name, name_eq, numbered, pattern_names}
+use Rattle.vkg_unfold.specs.Unfolded.{Name, name_eq, numbered, pattern_names}
 use Rattle.vkg_unfold.specs.declared.mode.Mode.{Mode}
 use Rattle.vkg_unfold.specs.declared.mode.Mode.TheVariants.{Each}
-use Rattle.vkg_unfold.specs.StandsFor.{upto_from, IsIn}
+use Rattle.vkg_unfold.specs.StandsFor.{IsIn}
 use Rattle.vkg_unfold.specs.FineRows.{IsNarrow}
 use Rattle.vkg_answers.proofs.Joins.{agree, join_rows, bag_join}
 use Rattle.vkg_answers.proofs.Splits.{pairs_split}
@@ -49,14 +49,14 @@ pub front_is : (ns : List Name) (l r : Row) → length l ≡ length ns → zip n
 front_is ns l r e = ap (λ ms. zip ms (l ++ r)) (sym (append-nil ns)) ∙ cells-append ns [] l r e ∙ append-nil (zip ns l)
 
 -- the column of a name's first place
-pub place_first : (x : Name) (ns : List Name) (row : Row) → length row ≡ length ns → cell_at row (place_of (name_eq x) ns) ≡ first x (zip ns row)
+pub place_first : (x : Name) (ns : List Name) (row : Row) → length row ≡ length ns → cell_at row (position_or_len (name_eq x) ns) ≡ first x (zip ns row)
 place_first x [] [] e = refl
 place_first x [] (c ∷ row) e = absurd (omega arith)
 place_first x (y ∷ ns) [] e = absurd (omega arith)
 place_first x (y ∷ ns) (c ∷ row) e = of (place_first x ns row (omega arith)) (name_eq x y)
   where
-    of : cell_at row (place_of (name_eq x) ns) ≡ first x (zip ns row) → (b : Bool) →
-        cell_at (c ∷ row) (if b then 0 else suc (place_of (name_eq x) ns)) ≡ (if b then c else first x (zip ns row))
+    of : cell_at row (position_or_len (name_eq x) ns) ≡ first x (zip ns row) → (b : Bool) →
+        cell_at (c ∷ row) (cond (not b) (1 + position_or_len (name_eq x) ns) 0) ≡ (if b then c else first x (zip ns row))
     of rest true = refl
     of rest false = rest
 
@@ -140,9 +140,9 @@ named_row-append n ns ms l r p q =
 nothing_named : (n : ℕ) → IsNamedRow n [] []
 nothing_named n = record { size = refl; terms = λ x c. absurd (Contains-none x c); narrow = λ x c. absurd (Contains-none x c); below = λ x c. absurd (Contains-none x c) }
 
-pub unbound_is : (n k : ℕ) → unbound n ≡ map (λ v. None) (upto_from k n)
+pub unbound_is : (n k : ℕ) → unbound n ≡ map (λ v. None) (range_with_len k n)
 unbound_is zero k = refl
-unbound_is (suc n) k = ap (λ s. None ∷ s) (unbound_is n (suc k))
+unbound_is (suc n) k = ap (λ s. None ∷ s) (unbound_is n (k + 1))
 
 -- the names of several patterns
 abbrev pub names : Mode → List TriplePattern → List Name

@@ -2,7 +2,7 @@
 use Rattle.std.proofs.Common.{◌≡◌, ℕ, ◌⊎◌, inl, inr, Bool, true, false, ⊎_elim, List, [], ◌∷◌, ◌++◌, map, refl, sym, ap, subst, ◌∙◌, true≢false, append_assoc, append-nil}
 use Rattle.std.specs.Prelude.{Option, Some, None, option_map, ◌&&◌, Contains, find, if◌then◌else◌, unwrap_or}
 use Rattle.std.specs.Bool.{Decides}
-use Rattle.std.specs.List.{list_all}
+use Rattle.std.specs.List.{list_all, range_with_len}
 use Rattle.std.proofs.lemmas.List.{map-append}
 use Rattle.std.proofs.lemmas.List.Elements.{Contains-append_left, Contains-append_right, Contains-append_cases}
 use Rattle.std.proofs.Math.Bool.{and-true}
@@ -19,7 +19,6 @@ use Rattle.vkg_schema.specs.Rows.{Row}
 use Rattle.vkg_algebra.specs.Solutions.{Solution}
 use Rattle.vkg_expr.specs.Value.{value_of, term_of, truth_of, truth_cell, holds}
 use Rattle.vkg_unfold.specs.Unfolded.{Name, name_eq, Named, same_name, again, repeats}
-use Rattle.vkg_unfold.specs.StandsFor.{upto_from}
 use Rattle.vkg_unfold.proofs.AlgebraColumns.{name_test}
 
 -- a name and its cell
@@ -51,7 +50,7 @@ abbrev pub named_term : List Entry → ℕ → Option Term
 named_term zs v = term_of (first (Some v) zs)
 
 abbrev pub named_solution : ℕ → List Entry → Solution
-named_solution n zs = map (named_term zs) (upto_from 0 n)
+named_solution n zs = map (named_term zs) (range_with_len 0 n)
 
 -- ---- the conditions that repeat names
 

@@ -26,6 +26,7 @@ use Rattle.vkg_expr.specs.Expr.{Expr}
 use Rattle.vkg_expr.specs.declared.term_expr.TermExpr.{TermExpr}
 use Rattle.vkg_expr.specs.Value.{value_of, term_cell, holds}
 use Rattle.vkg_expr.specs.declared.term_expr.TermExpr.TheVariants as term_form
+use Rattle.vkg_expr.proofs.TermValues.{term_expr_is}
 use Rattle.vkg_plan.specs.Kinds.{Tables}
 use Rattle.vkg_plan.specs.Rows.{rows_of, one_row}
 use Rattle.vkg_match.specs.Verdict.{Verdict, Never, All, verdict_of}
@@ -35,7 +36,7 @@ use Rattle.vkg_unfold.specs.Unfolded.{default_graph, graph_test, unless_never, r
 use Rattle.vkg_unfold.specs.declared.mode.Mode.TheVariants.{Each}
 use Rattle.vkg_unfold.specs.FineRows.{NeverDefault, IsFineRow}
 use Rattle.vkg_answers.proofs.Graphs.{name_row}
-use Rattle.vkg_answers.proofs.Sources.{all_hold, member_rows, rows_or_none, union_rows, not_nulls, term_expr_is, not_null_is, not_same_const_is, nulls_are}
+use Rattle.vkg_answers.proofs.Sources.{all_hold, member_rows, rows_or_none, union_rows, not_nulls, not_null_is, not_same_const_is, nulls_are}
 use Rattle.vkg_answers.proofs.Splits.{no_row}
 
 -- the conditions of a rule with its graph's test alone

@@ -2,7 +2,7 @@
 use Rattle.std.proofs.Common.{◌≡◌, ℕ, ◌<◌, Bool, true, false, List, [], ◌∷◌, ◌++◌, map, length, refl, sym, ap, subst, ◌∙◌, arith, true≢false, append-nil}
 use Rattle.std.specs.Prelude.{Option, Some, None, ◌||◌, filter, flat_map, Contains, nat_eq, fold, slice_set, if◌then◌else◌, unwrap_or}
 use Rattle.std.specs.Option.{option_or}
-use Rattle.std.specs.List.{list_all}
+use Rattle.std.specs.List.{list_all, range_with_len, position_or_len}
 use Rattle.std.specs.List.Sorted.{IsPermutation}
 use Rattle.std.proofs.lemmas.Bool.{eqb-true}
 use Rattle.vkg_lists.proofs.Tests.{nat_test}
@@ -29,9 +29,9 @@ use Rattle.vkg_algebra.specs.Visible.{each_once, has}
 use Rattle.vkg_expr.specs.Expr.{Expr, Col, Same, IsNull}
 use Rattle.vkg_expr.specs.Logic.{or_of}
 use Rattle.vkg_expr.specs.Value.{value_of, term_of, term_cell, truth_of, truth_cell, holds}
-use Rattle.vkg_unfold.specs.Unfolded.{place_of, default_graph, graph_column, left_column, visible_column}
+use Rattle.vkg_unfold.specs.Unfolded.{default_graph, graph_column, left_column, visible_column}
 use Rattle.vkg_unfold.specs.declared.mode.Mode.TheVariants.{Default, Each}
-use Rattle.vkg_unfold.specs.StandsFor.{belongs, term_in, solution_of, solutions_of, upto_from}
+use Rattle.vkg_unfold.specs.StandsFor.{belongs, term_in, solution_of, solutions_of}
 use Rattle.vkg_answers.proofs.Joins.{agree, merge-map, bag_join}
 use Rattle.vkg_answers.proofs.Reading.{IsTermCell, read_there, read_typed, read_none, read_project, has-each_once, set_at}
 use Rattle.vkg_answers.proofs.Agreement.{all_elim, all_intro, has-upto, compatible-map}
@@ -44,7 +44,7 @@ use Rattle.vkg_answers.proofs.Columns.{unbound_is}
 abbrev pub bound_at : ℕ → Term → ℕ → Option Term
 bound_at v i w = if nat_eq v w then Some i else None
 
-pub only-map : (n v : ℕ) (i : Term) → only n v i ≡ map (bound_at v i) (upto_from 0 n)
+pub only-map : (n v : ℕ) (i : Term) → only n v i ≡ map (bound_at v i) (range_with_len 0 n)
 only-map n v i = ap (λ s. slice_set s v (Some i)) (unbound_is n 0) ∙ set_at (Some i) (λ w. None) n 0 v v (omega arith)
 
 -- the condition over the graph's cell
@@ -87,17 +87,17 @@ module _ (n : ℕ) (d : Dataset) (vs : List ℕ) (v : ℕ) (within : v < n) wher
     compatible_is : compatible (solution_of n vs row) (only n v i) ≡ agree (term v) (Some i)
     compatible_is =
         ap (compatible (solution_of n vs row)) (only-map n v i)
-        ∙ compatible-map term (bound_at v i) (upto_from 0 n)
-        ∙ same_truth (list_all agreed (upto_from 0 n)) (agree (term v) (Some i)) onto back
+        ∙ compatible-map term (bound_at v i) (range_with_len 0 n)
+        ∙ same_truth (list_all agreed (range_with_len 0 n)) (agree (term v) (Some i)) onto back
       where
         agreed : ℕ → Bool
         agreed w = agree (term w) (bound_at v i w)
 
-        onto : list_all agreed (upto_from 0 n) ≡ true → agree (term v) (Some i) ≡ true
-        onto h = ap (agree (term v)) (sym at_v) ∙ all_elim agreed (upto_from 0 n) h v (has-upto n 0 v v within (omega arith))
+        onto : list_all agreed (range_with_len 0 n) ≡ true → agree (term v) (Some i) ≡ true
+        onto h = ap (agree (term v)) (sym at_v) ∙ all_elim agreed (range_with_len 0 n) h v (has-upto n 0 v v within (omega arith))
 
-        back : agree (term v) (Some i) ≡ true → list_all agreed (upto_from 0 n) ≡ true
-        back h = all_intro agreed (upto_from 0 n) (λ w c. of w (nat_eq v w) refl)
+        back : agree (term v) (Some i) ≡ true → list_all agreed (range_with_len 0 n) ≡ true
+        back h = all_intro agreed (range_with_len 0 n) (λ w c. of w (nat_eq v w) refl)
           where
             of : (w : ℕ) (b : Bool) → nat_eq v w ≡ b → agree (term w) (if b then Some i else None) ≡ true
             of w true e = ap (λ u. agree (term u) (Some i)) (sym (eqb-true v w e)) ∙ h
@@ -106,8 +106,8 @@ module _ (n : ℕ) (d : Dataset) (vs : List ℕ) (v : ℕ) (within : v < n) wher
     -- where they agree the row is the merge
     merged_is : agree (term v) (Some i) ≡ true → solution_of n (each_once (v ∷ vs)) (graph_row row) ≡ merge (solution_of n vs row) (only n v i)
     merged_is h =
-        (λ t. map (λ w. each_one w t) (upto_from 0 n))
-        ∙ sym (ap (merge (solution_of n vs row)) (only-map n v i) ∙ merge-map term (bound_at v i) (upto_from 0 n))
+        (λ t. map (λ w. each_one w t) (range_with_len 0 n))
+        ∙ sym (ap (merge (solution_of n vs row)) (only-map n v i) ∙ merge-map term (bound_at v i) (range_with_len 0 n))
       where
         all : List ℕ
         all = each_once (v ∷ vs)
@@ -146,7 +146,7 @@ module _ (n : ℕ) (d : Dataset) (vs : List ℕ) (v : ℕ) (within : v < n) wher
       where
         of : (w : ℕ) (b : Bool) → IsTermCell (value_of (if b then Col (length vs) else left_column vs w) row)
         of w true = p.cells (length vs)
-        of w false = p.cells (place_of (nat_eq w) vs)
+        of w false = p.cells (position_or_len (nat_eq w) vs)
 
   -- the rows of one graph
   in_one : (j : Term) (rows : List Row) → ((row : Row) → Contains rows row → (p : IsRowOf d Each vs row) × (p.graph.0 ≡ j)) →

@@ -2,6 +2,7 @@
 use Rattle.std.proofs.Common.{◌≡◌, ℕ, ◌+◌, Bool, true, false, List, [], ◌∷◌, ◌++◌, map, length, refl, sym, ap, subst, ◌∙◌, append-nil}
 use Rattle.std.specs.Prelude.{Option, Some, None, filter, flat_map, Contains, nat_eq, if◌then◌else◌}
 use Rattle.std.specs.List.Sorted.{IsPermutation}
+use Rattle.std.specs.List.{range_with_len, position_or_len}
 use Rattle.std.proofs.lemmas.List.{map-append}
 use Rattle.std.proofs.lemmas.List.Elements.{filter-append}
 use Rattle.vkg_lists.proofs.Counts.{eq_comm}
@@ -25,9 +26,9 @@ use Rattle.vkg_expr.specs.Logic.{truth_const}
 use Rattle.vkg_expr.specs.Value.{value_of, term_of, holds}
 use Rattle.vkg_plan.specs.Rows.{pairs, product}
 use Rattle.vkg_algebra.specs.Visible.{has}
-use Rattle.vkg_unfold.specs.Unfolded.{place_of, column, visible_column}
+use Rattle.vkg_unfold.specs.Unfolded.{column, visible_column}
 use Rattle.vkg_unfold.specs.declared.mode.Mode.TheVariants.{Default, InGraph, Each}
-use Rattle.vkg_unfold.specs.StandsFor.{IsIn, belongs, hidden_is, term_in, solution_of, solutions_of, upto_from}
+use Rattle.vkg_unfold.specs.StandsFor.{IsIn, belongs, hidden_is, term_in, solution_of, solutions_of}
 use Rattle.vkg_unfold.specs.FineRows.{IsNarrow}
 use Rattle.vkg_answers.proofs.Reading.{AreTermCells, IsTermCell, read, read_there, read_none, read_project}
 use Rattle.vkg_answers.proofs.Modes.{IsRowOf, cell_at-after, hidden_found}
@@ -72,17 +73,17 @@ after_term : (vs : List ℕ) (m : ℕ) (es : List Expr) (l r : Row) → length l
 after_term vs m es l r h v = ap term_of (read_project (column vs m) es vs (l ++ r) v ∙ of (has vs v) refl)
   where
     of : (b : Bool) → has vs v ≡ b → (if b then value_of (column vs m v) (l ++ r) else cell.Null) ≡ read vs r v
-    of true e = cell_at-right l r (m + place_of (nat_eq v) vs) (place_of (nat_eq v) vs) (ap (λ k. k + place_of (nat_eq v) vs) (sym h)) ∙ sym (read_there vs r v e)
+    of true e = cell_at-right l r (m + position_or_len (nat_eq v) vs) (position_or_len (nat_eq v) vs) (ap (λ k. k + position_or_len (nat_eq v) vs) (sym h)) ∙ sym (read_there vs r v e)
     of false e = sym (read_none vs r v e)
 
 after_solution : (n : ℕ) (vs : List ℕ) (m : ℕ) (es : List Expr) (l r : Row) → length l ≡ m → solution_of n vs (after_row vs m es (l ++ r)) ≡ solution_of n vs r
-after_solution n vs m es l r h = λ i. map (λ v. after_term vs m es l r h v i) (upto_from 0 n)
+after_solution n vs m es l r h = λ i. map (λ v. after_term vs m es l r h v i) (range_with_len 0 n)
 
 after_typed : (vs : List ℕ) (m : ℕ) (l r : Row) → length l ≡ m → AreTermCells r → (v : ℕ) → IsTermCell (value_of (column vs m v) (l ++ r))
 after_typed vs m l r h p v = subst IsTermCell (sym (cell_at-right l r (m + k) k (ap (λ j. j + k) (sym h)))) (p k)
   where
     k : ℕ
-    k = place_of (nat_eq v) vs
+    k = position_or_len (nat_eq v) vs
 
 -- the one that has a row without columns, or none
 pub after_exists : (n : ℕ) (d : Dataset) (vs : List ℕ) (b : Bool) (rows : List Row) (S : List Solution) → Plain n d vs rows S →

@@ -1,7 +1,7 @@
 -- Two lists of entries one after another: alike where each is and their solutions are compatible.
 use Rattle.std.proofs.Common.{◌≡◌, ℕ, ◌<◌, ◌⊎◌, inl, inr, Bool, true, false, ⊎_elim, List, [], ◌∷◌, ◌++◌, map, refl, sym, ap, ◌∙◌, arith, true≢false}
 use Rattle.std.specs.Prelude.{Some, None, ◌&&◌, Contains, if◌then◌else◌}
-use Rattle.std.specs.List.{list_all}
+use Rattle.std.specs.List.{list_all, range_with_len}
 use Rattle.std.specs.Option.{option_or}
 use Rattle.std.proofs.lemmas.List.Elements.{Contains-append_left, Contains-append_right, Contains-append_cases}
 use Rattle.vkg_lists.proofs.Counts.{eq_itself, eq_same}
@@ -15,7 +15,6 @@ use Rattle.vkg_cells.specs.declared.cell.Cell.TheVariants as cell
 use Rattle.vkg_algebra.specs.Solutions.{compatible, merge}
 use Rattle.vkg_expr.specs.Value.{term_of}
 use Rattle.vkg_unfold.specs.Unfolded.{Name, name_eq}
-use Rattle.vkg_unfold.specs.StandsFor.{upto_from}
 use Rattle.vkg_unfold.proofs.AlgebraColumns.{name_test}
 use Rattle.vkg_answers.proofs.Joins.{agree, merge-map}
 use Rattle.vkg_answers.proofs.Agreement.{all_elim, all_intro, has-upto, compatible-map}
@@ -58,7 +57,7 @@ first-append x (z ∷ zs) ws h = of (first-append x zs ws (λ y c. h y (Contains
     of rest false = rest
 
 pub solution-append : (n : ℕ) (zs ws : List Entry) → AreTerms zs → named_solution n (zs ++ ws) ≡ merge (named_solution n zs) (named_solution n ws)
-solution-append n zs ws h = (λ i. map (λ v. first-append (Some v) zs ws h i) (upto_from 0 n)) ∙ sym (merge-map (named_term zs) (named_term ws) (upto_from 0 n))
+solution-append n zs ws h = (λ i. map (λ v. first-append (Some v) zs ws h i) (range_with_len 0 n)) ∙ sym (merge-map (named_term zs) (named_term ws) (range_with_len 0 n))
 
 -- ---- between the two
 
@@ -71,8 +70,8 @@ links n zs ws = compatible (named_solution n zs) (named_solution n ws) && names_
 abbrev pub NamesBelow : ℕ → List Entry → Type 0
 NamesBelow n zs = (x : Entry) → Contains zs x → (v : ℕ) → x.0 ≡ Some v → v < n
 
-compatible_names : (n : ℕ) (zs ws : List Entry) → compatible (named_solution n zs) (named_solution n ws) ≡ list_all (λ v. names_agree zs ws (Some v)) (upto_from 0 n)
-compatible_names n zs ws = compatible-map (named_term zs) (named_term ws) (upto_from 0 n)
+compatible_names : (n : ℕ) (zs ws : List Entry) → compatible (named_solution n zs) (named_solution n ws) ≡ list_all (λ v. names_agree zs ws (Some v)) (range_with_len 0 n)
+compatible_names n zs ws = compatible-map (named_term zs) (named_term ws) (range_with_len 0 n)
 
 between_agree : (zs ws : List Entry) → AreTerms zs → AreBetween zs ws → (x : Name) → names_agree zs ws x ≡ true
 between_agree zs ws h b x = ⊎_elim
@@ -125,7 +124,7 @@ alike-append n zs ws h k below = same_truth (alike [] (zs ++ ws)) ((alike [] zs 
         and_true (alike [] zs && alike [] ws) (links n zs ws)
         (and_true (alike [] zs) (alike [] ws) (alike_is zs h (λ x y c d f. whole x y (left x c) (left y d) f)) (alike_is ws k (λ x y c d f. whole x y (right x c) (right y d) f)))
         (and_true (compatible (named_solution n zs) (named_solution n ws)) (names_agree zs ws None)
-        (compatible_names n zs ws ∙ all_intro (λ v. names_agree zs ws (Some v)) (upto_from 0 n) (λ v c. between_agree zs ws h between (Some v)))
+        (compatible_names n zs ws ∙ all_intro (λ v. names_agree zs ws (Some v)) (range_with_len 0 n) (λ v c. between_agree zs ws h between (Some v)))
         (between_agree zs ws h between None))
 
     back : ((alike [] zs && alike [] ws) && links n zs ws) ≡ true → alike [] (zs ++ ws) ≡ true
@@ -139,4 +138,4 @@ alike-append n zs ws h k below = same_truth (alike [] (zs ++ ws)) ((alike [] zs 
       where
         agreed : compatible (named_solution n zs) (named_solution n ws) ≡ true → names_agree zs ws None ≡ true → (x : Entry) → Contains zs x → (m : Name) → x.0 ≡ m → names_agree zs ws m ≡ true
         agreed c g x i None f = g
-        agreed c g x i (Some v) f = all_elim (λ v. names_agree zs ws (Some v)) (upto_from 0 n) (sym (compatible_names n zs ws) ∙ c) v (has-upto n 0 v v (below x i v f) (omega arith))
+        agreed c g x i (Some v) f = all_elim (λ v. names_agree zs ws (Some v)) (range_with_len 0 n) (sym (compatible_names n zs ws) ∙ c) v (has-upto n 0 v v (below x i v f) (omega arith))

@@ -34,6 +34,7 @@ use Rattle.vkg_expr.specs.declared.term_expr.TermExpr.{TermExpr}
 use Rattle.vkg_expr.specs.TermExprs.{term_expr}
 use Rattle.vkg_expr.specs.Value.{value_of, term_of, term_cell}
 use Rattle.vkg_expr.proofs.ReadBack.{term_back}
+use Rattle.vkg_expr.proofs.TermValues.{term_expr_is}
 use Rattle.vkg_plan.specs.Kinds.{Tables}
 use Rattle.vkg_plan.specs.Rows.{rows_of, one_row}
 use Rattle.vkg_plan.proofs.CellLemmas.{rows_apart}
@@ -47,7 +48,7 @@ use Rattle.vkg_unfold.specs.FineRows.{IsFineRow, IsNarrowGraph, IsNarrow, NeverD
 use Rattle.vkg_answers.proofs.Entries.{Entry, entry, same_entry, first, alike, named_solution, AreTerms, AreAlike, AreBetween}
 use Rattle.vkg_answers.proofs.Links.{are_alike, alike_is, alike_parts, terms-append, NamesBelow}
 use Rattle.vkg_answers.proofs.Columns.{hidden_in, graphs_fit, HasGraphEntry, IsPatternRow, PatternStands}
-use Rattle.vkg_answers.proofs.Sources.{all_hold, member_rows, rows_or_none, union_rows, not_nulls, graph_is, graph_passes, graph_passes_is, term_expr_is, not_null_is}
+use Rattle.vkg_answers.proofs.Sources.{all_hold, member_rows, rows_or_none, union_rows, not_nulls, graph_is, graph_passes, graph_passes_is, not_null_is}
 use Rattle.vkg_answers.proofs.Quads.{NodeBelow, node_entries, node_below, pattern_entries, pattern_ok, node_all, entry_from}
 use Rattle.vkg_answers.proofs.Members.{hidden_of, names_are_places, member_exprs, row_cells, member_entries, member_conditions, conditions_are, rules_answer, row_fits, row_solution}
 use Rattle.vkg_answers.proofs.Once.{quads_once}

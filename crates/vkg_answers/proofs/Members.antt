@@ -4,7 +4,7 @@ use Rattle.std.specs.Prelude.{Option, Some, None, not, ◌&&◌, Contains, filte
 use Rattle.std.specs.Option.{option_map_or, option_to_list}
 use Rattle.std.proofs.lemmas.List.{map-append}
 use Rattle.std.proofs.Math.Bool.{and-true}
-use Rattle.std.specs.List.{zip}
+use Rattle.std.specs.List.{zip, range_with_len}
 use Rattle.std.proofs.lemmas.List.Folds.{list_all-append}
 use Rattle.vkg_lists.proofs.Nothing.{flat_map_nothing}
 use Rattle.vkg_unfold.proofs.PlanColumns.{names_of_places}
@@ -29,18 +29,19 @@ use Rattle.vkg_expr.specs.declared.term_expr.TermExpr.{TermExpr}
 use Rattle.vkg_expr.specs.TermExprs.{term_expr}
 use Rattle.vkg_expr.specs.Value.{value_of, term_of, term_cell, holds}
 use Rattle.vkg_expr.proofs.ReadBack.{term_back}
+use Rattle.vkg_expr.proofs.TermValues.{term_expr_is}
 use Rattle.vkg_plan.specs.Kinds.{Tables}
 use Rattle.vkg_row_rules.specs.declared.row_rule.RowRule.{RowRule}
 use Rattle.vkg_row_rules.specs.RowDataset.{rule_rows, term_at, graph_at, quads_of, quad_at}
 use Rattle.vkg_unfold.specs.declared.mode.Mode.{Mode}
 use Rattle.vkg_unfold.specs.declared.mode.Mode.TheVariants.{Default, InGraph, Each}
 use Rattle.vkg_unfold.specs.Unfolded.{Name, name_eq, Named, same_name, named, constants, repeats, places, if_each, graph_exprs, not_null, graph_test, rule_member, pattern_member, pattern_places, pattern_names, graph_terms}
-use Rattle.vkg_unfold.specs.StandsFor.{IsIn, upto_from}
+use Rattle.vkg_unfold.specs.StandsFor.{IsIn}
 use Rattle.vkg_unfold.specs.FineRows.{NeverDefault}
 use Rattle.vkg_unfold.proofs.AlgebraColumns.{name_test}
 use Rattle.vkg_answers.proofs.Entries.{Entry, entry, same_entry, first, alike, named_solution, repeats_alike}
 use Rattle.vkg_answers.proofs.Columns.{hidden_in, graph_fits, graphs_fit}
-use Rattle.vkg_answers.proofs.Sources.{all_hold, member_rows, rows_or_none, not_nulls, graph_is, in_graph, graph_passes_is, term_expr_is, nulls_are}
+use Rattle.vkg_answers.proofs.Sources.{all_hold, member_rows, rows_or_none, not_nulls, graph_is, in_graph, graph_passes_is, nulls_are}
 use Rattle.vkg_answers.proofs.Quads.{NodeBelow, node_entries, pattern_cells, pattern_entries, pattern_ok, quad_answers, constants_are, named_are}
 
 -- ---- the entries of a member's row
@@ -128,7 +129,7 @@ module _ (mode : Mode) (p : TriplePattern) (rule : RowRule) (test : List Expr) (
       ∙ (λ i. (sym (distinct-map same_name same_entry (entry row) (λ x y. refl) (flat_map named (places p rule))) ∙ ap (distinct same_entry) (named_are row (places p rule))) i ++ map (entry row) (hidden_is_of mode rule i))
 
   pub member_solution : (n : ℕ) → named_solution n (zip (pattern_names mode p) (row_cells row (member_exprs mode p rule))) ≡ named_solution n place_entries
-  member_solution n = ap (named_solution n) member_entries ∙ (λ i. map (λ v. ap term_of (hidden_passed row v mode rule.graph (distinct same_entry place_entries) ∙ first-distinct (Some v) place_entries) i) (upto_from 0 n))
+  member_solution n = ap (named_solution n) member_entries ∙ (λ i. map (λ v. ap term_of (hidden_passed row v mode rule.graph (distinct same_entry place_entries) ∙ first-distinct (Some v) place_entries) i) (range_with_len 0 n))
 
   -- the entries of places fit any graph
   named_fit : (o : Option Term) (zs : List (Node × Cell)) → graphs_fit o (flat_map (λ (x : Node × Cell). node_entries x.0 x.1) zs) ≡ true

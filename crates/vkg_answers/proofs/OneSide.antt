@@ -2,6 +2,7 @@
 use Rattle.std.proofs.Common.{◌≡◌, ℕ, Bool, true, false, ⊎_elim, List, ◌++◌, map, length, refl, sym, ap, subst, ◌∙◌, true≢false}
 use Rattle.std.specs.Prelude.{Option, Some, None, filter, if◌then◌else◌}
 use Rattle.std.specs.Option.{option_map_or}
+use Rattle.std.specs.List.{range_with_len}
 use Rattle.std.proofs.lemmas.List.{map-append}
 use Rattle.std.proofs.lemmas.List.Elements.{filter-append, Contains-append_cases}
 use Rattle.vkg_lists.proofs.Bags.{bag_same, bag_trans, bag_append, bag_filter}
@@ -22,7 +23,7 @@ use Rattle.vkg_unfold.specs.declared.mode.Mode.{Mode}
 use Rattle.vkg_unfold.specs.declared.mode.Mode.TheVariants.{Default, InGraph, Each}
 use Rattle.vkg_algebra.specs.Visible.{has}
 use Rattle.vkg_unfold.specs.Unfolded.{if_each, visible_column}
-use Rattle.vkg_unfold.specs.StandsFor.{belongs, term_in, solution_of, solutions_of, upto_from}
+use Rattle.vkg_unfold.specs.StandsFor.{belongs, term_in, solution_of, solutions_of}
 use Rattle.vkg_unfold.specs.FineRows.{IsNarrow}
 use Rattle.vkg_answers.proofs.Values.{IsNarrowCondition}
 use Rattle.vkg_answers.proofs.Reading.{AreBelow, read_typed, read_none, read_project, lookup-solution}
@@ -80,7 +81,7 @@ module _ (n : ℕ) (d : Dataset) (mode : Mode) (all vs : List ℕ) (more : (v : 
       equal g =
           ap (map (solution_of n all)) (filter-map (belongs mode (length all) g) (widened mode all vs) rows)
           ∙ map-map (solution_of n all) (widened mode all vs) (filter (λ row. belongs mode (length all) g (widened mode all vs row)) rows)
-          ∙ (λ i. map (λ row. map (λ v. widened_term row v i) (upto_from 0 n)) (filter (λ row. widened_belongs mode g row i) rows))
+          ∙ (λ i. map (λ row. map (λ v. widened_term row v i) (range_with_len 0 n)) (filter (λ row. widened_belongs mode g row i) rows))
 
 pub append_stands : (n : ℕ) (d : Dataset) (mode : Mode) (vs : List ℕ) (xs ys : List Row) (A B : Option Term → List Solution) → Stands n d mode vs xs A → Stands n d mode vs ys B → Stands n d mode vs (xs ++ ys) (λ g. A g ++ B g)
 append_stands n d mode vs xs ys A B a b = record {

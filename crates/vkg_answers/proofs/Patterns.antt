@@ -3,7 +3,7 @@ use Rattle.std.proofs.Common.{◌≡◌, ℕ, ◌⊎◌, inl, inr, Bool, true, f
 use Rattle.std.specs.Prelude.{Option, Some, None, ◌&&◌, ◌||◌, Contains, filter, flat_map, nat_eq, if◌then◌else◌}
 use Rattle.std.specs.Option.{option_map_or}
 use Rattle.std.specs.List.Sorted.{IsPermutation}
-use Rattle.std.specs.List.{list_any, zip}
+use Rattle.std.specs.List.{list_any, zip, range_with_len, position_or_len}
 use Rattle.std.proofs.lemmas.Bool.{or_cases}
 use Rattle.std.proofs.lemmas.List.{map-append}
 use Rattle.std.proofs.lemmas.List.Elements.{Contains-append_cases}
@@ -36,10 +36,10 @@ use Rattle.vkg_plan.specs.Kinds.{Tables}
 use Rattle.vkg_plan.specs.Plan.{Join, Project, plans}
 use Rattle.vkg_plan.specs.Rows.{rows_of, rows_of_each, product}
 use Rattle.vkg_row_rules.specs.declared.row_rule.RowRule.{RowRule}
-use Rattle.vkg_unfold.specs.Unfolded.{place_of, if_each, Name, name_eq, node_names, pattern_names, pattern_plan, numbered, repeats, bgp_plan, visible_column}
+use Rattle.vkg_unfold.specs.Unfolded.{if_each, Name, name_eq, node_names, pattern_names, pattern_plan, numbered, repeats, bgp_plan, visible_column}
 use Rattle.vkg_unfold.specs.declared.mode.Mode.{Mode}
 use Rattle.vkg_unfold.specs.declared.mode.Mode.TheVariants.{Default, InGraph, Each}
-use Rattle.vkg_unfold.specs.StandsFor.{upto_from, IsIn, belongs, hidden_is, solution_of, solutions_of, term_in}
+use Rattle.vkg_unfold.specs.StandsFor.{IsIn, belongs, hidden_is, solution_of, solutions_of, term_in}
 use Rattle.vkg_unfold.specs.FineRows.{IsNarrow}
 use Rattle.vkg_unfold.proofs.AlgebraColumns.{name_test}
 use Rattle.vkg_answers.proofs.Reading.{AreBelow, IsTermCell, is_term_cell, read_project, has-each_once, set_at}
@@ -51,12 +51,12 @@ use Rattle.vkg_answers.proofs.Columns.{cells-append, place_first, numbered_cells
 
 -- ---- without labels
 
-pub without-map : (n : ℕ) (vs : List ℕ) (f : ℕ → Option Term) → without vs (map f (upto_from 0 n)) ≡ map (λ v. if has vs v then None else f v) (upto_from 0 n)
+pub without-map : (n : ℕ) (vs : List ℕ) (f : ℕ → Option Term) → without vs (map f (range_with_len 0 n)) ≡ map (λ v. if has vs v then None else f v) (range_with_len 0 n)
 without-map n [] f = refl
 without-map n (w ∷ vs) f =
     ap (without vs) (set_at None f n 0 w w (omega arith))
     ∙ without-map n vs (λ u. if nat_eq w u then None else f u)
-    ∙ (λ i. map (λ v. (ap (λ b. if has vs v then None else (if b then None else f v)) (eq_comm nat_test w v) ∙ of v (nat_eq v w) (has vs v)) i) (upto_from 0 n))
+    ∙ (λ i. map (λ v. (ap (λ b. if has vs v then None else (if b then None else f v)) (eq_comm nat_test w v) ∙ of v (nat_eq v w) (has vs v)) i) (range_with_len 0 n))
   where
     of : (v : ℕ) (a b : Bool) → (if b then None else (if a then None else f v)) ≡ (if a || b then None else f v)
     of v true true = refl
@@ -190,10 +190,10 @@ module _ (schema : Tables) (rules : List RowRule) (n : ℕ) (d : Dataset) (db : 
     vis = visible (Bgp (p ∷ ps))
 
     abbrev at : Mode → ℕ → Expr
-    at mode v = Col (place_of (name_eq (Some v)) (names mode (p ∷ ps)))
+    at mode v = Col (position_or_len (name_eq (Some v)) (names mode (p ∷ ps)))
 
     abbrev hidden : Mode → Expr
-    hidden mode = Col (place_of (name_eq None) (names mode (p ∷ ps)))
+    hidden mode = Col (position_or_len (name_eq None) (names mode (p ∷ ps)))
 
     abbrev cells : Mode → Row → List Entry
     cells mode row = zip (names mode (p ∷ ps)) row
@@ -201,10 +201,10 @@ module _ (schema : Tables) (rules : List RowRule) (n : ℕ) (d : Dataset) (db : 
     abbrev proj : Mode → Row → Row
     proj mode row = map (λ e. value_of e row) (map (at mode) vis ++ if_each mode (hidden mode))
 
-    columns_are : (mode : Mode) → map (λ x. Col (place_of (name_eq x) (names mode (p ∷ ps)))) (map Some vis ++ if_each mode None) ≡ map (at mode) vis ++ if_each mode (hidden mode)
-    columns_are Default = map-append (λ x. Col (place_of (name_eq x) (names Default (p ∷ ps)))) (map Some vis) [] ∙ ap (λ es. es ++ []) (map-map (λ x. Col (place_of (name_eq x) (names Default (p ∷ ps)))) Some vis)
-    columns_are (InGraph i) = map-append (λ x. Col (place_of (name_eq x) (names (InGraph i) (p ∷ ps)))) (map Some vis) [] ∙ ap (λ es. es ++ []) (map-map (λ x. Col (place_of (name_eq x) (names (InGraph i) (p ∷ ps)))) Some vis)
-    columns_are Each = map-append (λ x. Col (place_of (name_eq x) (names Each (p ∷ ps)))) (map Some vis) (None ∷ []) ∙ ap (λ es. es ++ hidden Each ∷ []) (map-map (λ x. Col (place_of (name_eq x) (names Each (p ∷ ps)))) Some vis)
+    columns_are : (mode : Mode) → map (λ x. Col (position_or_len (name_eq x) (names mode (p ∷ ps)))) (map Some vis ++ if_each mode None) ≡ map (at mode) vis ++ if_each mode (hidden mode)
+    columns_are Default = map-append (λ x. Col (position_or_len (name_eq x) (names Default (p ∷ ps)))) (map Some vis) [] ∙ ap (λ es. es ++ []) (map-map (λ x. Col (position_or_len (name_eq x) (names Default (p ∷ ps)))) Some vis)
+    columns_are (InGraph i) = map-append (λ x. Col (position_or_len (name_eq x) (names (InGraph i) (p ∷ ps)))) (map Some vis) [] ∙ ap (λ es. es ++ []) (map-map (λ x. Col (position_or_len (name_eq x) (names (InGraph i) (p ∷ ps)))) Some vis)
+    columns_are Each = map-append (λ x. Col (position_or_len (name_eq x) (names Each (p ∷ ps)))) (map Some vis) (None ∷ []) ∙ ap (λ es. es ++ hidden Each ∷ []) (map-map (λ x. Col (position_or_len (name_eq x) (names Each (p ∷ ps)))) Some vis)
 
     module _ (mode : Mode) (row : Row) (a : IsNamedRow n (names mode (p ∷ ps)) row) where
       at_is : (v : ℕ) → value_of (at mode v) row ≡ first (Some v) (cells mode row)
@@ -224,7 +224,7 @@ module _ (schema : Tables) (rules : List RowRule) (n : ℕ) (d : Dataset) (db : 
 
       solution_is : solution_of n vis (proj mode row) ≡ without (labels_of (p ∷ ps)) (named_solution n (cells mode row))
       solution_is =
-          (λ i. map (λ v. one v i) (upto_from 0 n)) ∙ sym (without-map n (labels_of (p ∷ ps)) (named_term (cells mode row)))
+          (λ i. map (λ v. one v i) (range_with_len 0 n)) ∙ sym (without-map n (labels_of (p ∷ ps)) (named_term (cells mode row)))
         where
           kept : (v : ℕ) (b : Bool) → has vis v ≡ b → (c : Bool) → has (labels_of (p ∷ ps)) v ≡ c →
               term_of (if b then value_of (at mode v) row else cell.Null) ≡ (if c then None else named_term (cells mode row) v)
@@ -269,10 +269,10 @@ module _ (schema : Tables) (rules : List RowRule) (n : ℕ) (d : Dataset) (db : 
         condition row = holds (and_of (repeats [] (numbered 0 (names mode (p ∷ ps))))) row
 
         joined_rows : (mode : Mode) →
-            rows_of schema (Project (map (λ x. Col (place_of (name_eq x) (names mode (p ∷ ps)))) (map Some vis ++ if_each mode None)) (Join (plans (map (pattern_plan schema rules mode) (p ∷ ps))) (and_of (repeats [] (numbered 0 (names mode (p ∷ ps))))))) db
+            rows_of schema (Project (map (λ x. Col (position_or_len (name_eq x) (names mode (p ∷ ps)))) (map Some vis ++ if_each mode None)) (Join (plans (map (pattern_plan schema rules mode) (p ∷ ps))) (and_of (repeats [] (numbered 0 (names mode (p ∷ ps))))))) db
             ≡ map (proj mode) (filter (λ row. holds (and_of (repeats [] (numbered 0 (names mode (p ∷ ps))))) row) (product (map (pattern_rows mode) (p ∷ ps))))
         joined_rows mode =
-            project_rows schema db (map (λ x. Col (place_of (name_eq x) (names mode (p ∷ ps)))) (map Some vis ++ if_each mode None)) (Join (plans (map (pattern_plan schema rules mode) (p ∷ ps))) (and_of (repeats [] (numbered 0 (names mode (p ∷ ps))))))
+            project_rows schema db (map (λ x. Col (position_or_len (name_eq x) (names mode (p ∷ ps)))) (map Some vis ++ if_each mode None)) (Join (plans (map (pattern_plan schema rules mode) (p ∷ ps))) (and_of (repeats [] (numbered 0 (names mode (p ∷ ps))))))
             ∙ (λ i. map (λ row. map (λ e. value_of e row) (columns_are mode i)) (filter (holds (and_of (repeats [] (numbered 0 (names mode (p ∷ ps)))))) (product (rows_each mode (p ∷ ps) i))))
 
         plan_rows : (mode : Mode) → rows_of schema (bgp_plan schema rules mode (p ∷ ps)) db ≡ map (proj mode) (filter (λ row. holds (and_of (repeats [] (numbered 0 (names mode (p ∷ ps))))) row) (product (map (pattern_rows mode) (p ∷ ps))))

@@ -4,7 +4,7 @@ use Rattle.std.proofs.Math.Bool.{and-true}
 use Rattle.std.proofs.lemmas.List.Elements.{Contains-append_cases}
 use Rattle.std.specs.Prelude.{Option, Some, None, ◌&&◌, filter, flat_map, nat_eq, is_some, if◌then◌else◌, ⊤, Contains}
 use Rattle.std.specs.Option.{option_map_or, option_to_list}
-use Rattle.std.specs.List.{list_all}
+use Rattle.std.specs.List.{list_all, range_with_len}
 use Rattle.vkg_lists.proofs.Tests.{nat_test}
 use Rattle.vkg_lists.proofs.Counts.{eq_comm}
 use Rattle.vkg_lists.proofs.Members.{Contains-none, Contains-cons_cases}
@@ -23,7 +23,6 @@ use Rattle.vkg_algebra.specs.Patterns.{node_solutions, triple_solutions}
 use Rattle.vkg_expr.specs.Expr.{Expr}
 use Rattle.vkg_expr.specs.Value.{value_of, term_of, term_cell}
 use Rattle.vkg_unfold.specs.Unfolded.{named, constants}
-use Rattle.vkg_unfold.specs.StandsFor.{upto_from}
 use Rattle.vkg_answers.proofs.GraphVariable.{only-map}
 use Rattle.vkg_answers.proofs.Entries.{Entry, entry, alike, is_same, named_solution, AreTerms}
 use Rattle.vkg_answers.proofs.Links.{NamesBelow, names_agree, alike-append, solution-append, terms-append}
@@ -54,7 +53,7 @@ named_are row ((Label v, e) ∷ xs) = ap (λ zs. (Some v, value_of e row) ∷ zs
 
 -- the solutions of a node
 one_bound : (n v : ℕ) (t : Term) → only n v t ≡ named_solution n ((Some v, cell.Term t) ∷ [])
-one_bound n v t = only-map n v t ∙ (λ i. map (λ w. (ap (λ b. if b then Some t else None) (eq_comm nat_test v w) ∙ of (nat_eq w v)) i) (upto_from 0 n))
+one_bound n v t = only-map n v t ∙ (λ i. map (λ w. (ap (λ b. if b then Some t else None) (eq_comm nat_test v w) ∙ of (nat_eq w v)) i) (range_with_len 0 n))
   where
     of : (b : Bool) → (if b then Some t else None) ≡ term_of (if b then cell.Term t else cell.Null)
     of true = refl

@@ -1,7 +1,8 @@
 -- Reading rows: cells of terms, a variable's cell, the columns of a Project and of two rows joined.
 use Rattle.std.proofs.Common.{◌≡◌, ℕ, zero, suc, ◌+◌, ◌<◌, ◌≤◌, ⊎_elim, Bool, true, false, List, [], ◌∷◌, ◌++◌, map, length, refl, sym, ap, ◌∙◌, arith, true≢false}
-use Rattle.std.specs.Prelude.{Option, Some, None, ◌&&◌, ◌||◌, nat_eq, replicate, filter, if◌then◌else◌, slice_set}
+use Rattle.std.specs.Prelude.{Option, Some, None, ◌&&◌, ◌||◌, nat_eq, replicate, filter, if◌then◌else◌, slice_set, cond, not}
 use Rattle.std.specs.Option.{option_or}
+use Rattle.std.specs.List.{range_with_len, position_or_len}
 use Rattle.std.proofs.lemmas.Bool.{eqb-true, cases_lt}
 use Rattle.std.proofs.lemmas.List.Folds.{list_any-append}
 use Rattle.std.proofs.lemmas.Map.Made.{is_member-filter}
@@ -22,9 +23,9 @@ use Rattle.vkg_algebra.specs.Visible.{each_once, has}
 use Rattle.vkg_expr.specs.Expr.{Expr, Coalesce, exprs}
 use Rattle.vkg_expr.specs.Value.{value_of, term_of, term_cell, coalesced}
 use Rattle.vkg_expr.proofs.ReadBack.{term_back}
-use Rattle.vkg_unfold.specs.Unfolded.{place_of, merged, left_column, right_column, visible_column, null_term, columns_in}
+use Rattle.vkg_unfold.specs.Unfolded.{merged, left_column, right_column, visible_column, null_term, columns_in}
 use Rattle.vkg_unfold.specs.declared.mode.Mode.{Mode}
-use Rattle.vkg_unfold.specs.StandsFor.{upto_from, term_in, solution_of}
+use Rattle.vkg_unfold.specs.StandsFor.{term_in, solution_of}
 use Rattle.vkg_unfold.specs.FineRows.{IsNarrow}
 use Rattle.vkg_unfold.proofs.AlgebraColumns.{has_place}
 use Rattle.vkg_answers.proofs.Joins.{merge-map}
@@ -44,11 +45,11 @@ cell_at-nulls n k = unwrap_or-slice_get (replicate n cell.Null) k cell.Null ∙ 
 
 -- ---- places of variables
 
-pub read_place : (g : ℕ → Cell) (vs : List ℕ) (rest : Row) (v : ℕ) → has vs v ≡ true → cell_at (map g vs ++ rest) (place_of (nat_eq v) vs) ≡ g v
+pub read_place : (g : ℕ → Cell) (vs : List ℕ) (rest : Row) (v : ℕ) → has vs v ≡ true → cell_at (map g vs ++ rest) (position_or_len (nat_eq v) vs) ≡ g v
 read_place g [] rest v h = absurd (true≢false (sym h))
 read_place g (w ∷ vs) rest v h = of (λ k. read_place g vs rest v k) (nat_eq v w) refl h
   where
-    of : (has vs v ≡ true → cell_at (map g vs ++ rest) (place_of (nat_eq v) vs) ≡ g v) → (x : Bool) → nat_eq v w ≡ x → (x || has vs v) ≡ true → cell_at (g w ∷ (map g vs ++ rest)) (if x then 0 else suc (place_of (nat_eq v) vs)) ≡ g v
+    of : (has vs v ≡ true → cell_at (map g vs ++ rest) (position_or_len (nat_eq v) vs) ≡ g v) → (x : Bool) → nat_eq v w ≡ x → (x || has vs v) ≡ true → cell_at (g w ∷ (map g vs ++ rest)) (cond (not x) (1 + position_or_len (nat_eq v) vs) 0) ≡ g v
     of more true e k = Prim.rw (eqb-true v w e) refl
     of more false e k = more k
 
@@ -68,7 +69,7 @@ has_union vs ws v = has-each_once (vs ++ ws) v ∙ list_any-append (nat_eq v) vs
 abbrev pub read : List ℕ → Row → ℕ → Cell
 read vs row v = value_of (visible_column vs v) row
 
-pub read_there : (vs : List ℕ) (row : Row) (v : ℕ) → has vs v ≡ true → read vs row v ≡ cell_at row (place_of (nat_eq v) vs)
+pub read_there : (vs : List ℕ) (row : Row) (v : ℕ) → has vs v ≡ true → read vs row v ≡ cell_at row (position_or_len (nat_eq v) vs)
 read_there vs row v h = Prim.rw h refl
 
 pub read_none : (vs : List ℕ) (row : Row) (v : ℕ) → has vs v ≡ false → read vs row v ≡ cell.Null
@@ -82,7 +83,7 @@ pub read_typed : (vs : List ℕ) (row : Row) → AreTermCells row → (v : ℕ) 
 read_typed vs row h v = of (has vs v)
   where
     of : (b : Bool) → IsTermCell (value_of (if b then left_column vs v else null_term) row)
-    of true = h (place_of (nat_eq v) vs)
+    of true = h (position_or_len (nat_eq v) vs)
     of false = (refl, tt)
 
 -- the row of a Project of f of each variable, and then more
@@ -95,16 +96,16 @@ read_project f es vs row v = of (has vs v) refl
     shape (u ∷ us) = ap (λ cs. value_of (f u) row ∷ cs) (shape us)
 
     of : (b : Bool) → has vs v ≡ b → value_of (if b then left_column vs v else null_term) (map (λ e. value_of e row) (map f vs ++ es)) ≡ (if b then value_of (f v) row else cell.Null)
-    of true e = ap (λ cs. cell_at cs (place_of (nat_eq v) vs)) (shape vs) ∙ read_place (λ w. value_of (f w) row) vs (map (λ e. value_of e row) es) v e
+    of true e = ap (λ cs. cell_at cs (position_or_len (nat_eq v) vs)) (shape vs) ∙ read_place (λ w. value_of (f w) row) vs (map (λ e. value_of e row) es) v e
     of false e = refl
 
 -- ---- two rows joined
 
 pub read_left : (vs : List ℕ) (l r : Row) (v : ℕ) → length vs ≤ length l → has vs v ≡ true → value_of (left_column vs v) (l ++ r) ≡ read vs l v
-read_left vs l r v m h = cell_at-left l r (place_of (nat_eq v) vs) (omega (arith, has_place vs v h)) ∙ sym (read_there vs l v h)
+read_left vs l r v m h = cell_at-left l r (position_or_len (nat_eq v) vs) (omega (arith, has_place vs v h)) ∙ sym (read_there vs l v h)
 
 pub read_right : (mode : Mode) (vs ws : List ℕ) (l r : Row) (v : ℕ) → length l ≡ columns_in mode vs → has ws v ≡ true → value_of (right_column mode vs ws v) (l ++ r) ≡ read ws r v
-read_right mode vs ws l r v m h = cell_at-right l r (columns_in mode vs + place_of (nat_eq v) ws) (place_of (nat_eq v) ws) (ap (λ k. k + place_of (nat_eq v) ws) (sym m)) ∙ sym (read_there ws r v h)
+read_right mode vs ws l r v m h = cell_at-right l r (columns_in mode vs + position_or_len (nat_eq v) ws) (position_or_len (nat_eq v) ws) (ap (λ k. k + position_or_len (nat_eq v) ws) (sym m)) ∙ sym (read_there ws r v h)
 
 coalesced_terms : (c d : Cell) (o p : Option Term) → c ≡ term_cell o → d ≡ term_cell p → coalesced (c ∷ d ∷ []) ≡ term_cell (option_or o p)
 coalesced_terms c d None None e f = Prim.rw (e, f) refl
@@ -136,32 +137,32 @@ read_merged mode vs ws l r m k p q v = of (has vs v) refl (has ws v) refl
 
 -- ---- the solution of a row
 
-pub lookup-upto : (f : ℕ → Option Term) (n k v : ℕ) → v < n → lookup (map f (upto_from k n)) v ≡ f (k + v)
+pub lookup-upto : (f : ℕ → Option Term) (n k v : ℕ) → v < n → lookup (map f (range_with_len k n)) v ≡ f (k + v)
 lookup-upto f zero k v h = absurd (omega arith)
 lookup-upto f (suc n) k zero h = let e : k + 0 ≡ k = omega arith in Prim.rw e refl
-lookup-upto f (suc n) k (suc v) h = let e : k + suc v ≡ suc k + v = omega arith in Prim.rw e (lookup-upto f n (suc k) v (omega arith))
+lookup-upto f (suc n) k (suc v) h = let e : k + suc v ≡ k + 1 + v = omega arith in Prim.rw e (lookup-upto f n (k + 1) v (omega arith))
 
-pub lookup-past : (f : ℕ → Option Term) (n k v : ℕ) → n ≤ v → lookup (map f (upto_from k n)) v ≡ None
+pub lookup-past : (f : ℕ → Option Term) (n k v : ℕ) → n ≤ v → lookup (map f (range_with_len k n)) v ≡ None
 lookup-past f zero k v h = refl
 lookup-past f (suc n) k zero h = absurd (omega arith)
-lookup-past f (suc n) k (suc v) h = lookup-past f n (suc k) v (omega arith)
+lookup-past f (suc n) k (suc v) h = lookup-past f n (k + 1) v (omega arith)
 
 -- one place set
-pub set_at : (o : Option Term) (f : ℕ → Option Term) (n k v w : ℕ) → w ≡ k + v → slice_set (map f (upto_from k n)) v o ≡ map (λ u. if nat_eq w u then o else f u) (upto_from k n)
+pub set_at : (o : Option Term) (f : ℕ → Option Term) (n k v w : ℕ) → w ≡ k + v → slice_set (map f (range_with_len k n)) v o ≡ map (λ u. if nat_eq w u then o else f u) (range_with_len k n)
 set_at o f zero k v w e = refl
-set_at o f (suc n) k zero w e = let g : w ≡ k = omega arith in λ i. here g i ∷ past f n (suc k) w (omega arith) i
+set_at o f (suc n) k zero w e = let g : w ≡ k = omega arith in λ i. here g i ∷ past f n (k + 1) w (omega arith) i
   where
     here : w ≡ k → o ≡ (if nat_eq w k then o else f k)
     here g = Prim.rw (ap (nat_eq w) (sym g) ∙ eq_itself nat_test w) refl
 
-    past : (f : ℕ → Option Term) (n k w : ℕ) → w < k → map f (upto_from k n) ≡ map (λ u. if nat_eq w u then o else f u) (upto_from k n)
+    past : (f : ℕ → Option Term) (n k w : ℕ) → w < k → map f (range_with_len k n) ≡ map (λ u. if nat_eq w u then o else f u) (range_with_len k n)
     past f zero k w h = refl
-    past f (suc n) k w h = λ i. one (nat_eq w k) refl i ∷ past f n (suc k) w (omega arith) i
+    past f (suc n) k w h = λ i. one (nat_eq w k) refl i ∷ past f n (k + 1) w (omega arith) i
       where
         one : (b : Bool) → nat_eq w k ≡ b → f k ≡ (if b then o else f k)
         one true e = absurd (omega (arith, h, eqb-true w k e))
         one false e = refl
-set_at o f (suc n) k (suc v) w e = λ i. one (nat_eq w k) refl i ∷ set_at o f n (suc k) v w (omega arith) i
+set_at o f (suc n) k (suc v) w e = λ i. one (nat_eq w k) refl i ∷ set_at o f n (k + 1) v w (omega arith) i
   where
     one : (b : Bool) → nat_eq w k ≡ b → f k ≡ (if b then o else f k)
     one true g = absurd (omega (arith, e, eqb-true w k g))
@@ -204,7 +205,7 @@ pub solution-merged : (n : ℕ) (mode : Mode) (vs ws : List ℕ) (l r : Row) →
     solution_of n (each_once (vs ++ ws)) (map (λ e. value_of e (l ++ r)) (map (merged mode vs ws) (each_once (vs ++ ws)) ++ es))
     ≡ merge (solution_of n vs l) (solution_of n ws r)
 solution-merged n mode vs ws l r m k p q es =
-    (λ i. map (λ v. term_merged mode vs ws l r m k p q es v i) (upto_from 0 n)) ∙ sym (merge-map (term_in (visible_column vs) l) (term_in (visible_column ws) r) (upto_from 0 n))
+    (λ i. map (λ v. term_merged mode vs ws l r m k p q es v i) (range_with_len 0 n)) ∙ sym (merge-map (term_in (visible_column vs) l) (term_in (visible_column ws) r) (range_with_len 0 n))
 
 pub narrow_or : (o p : Option Term) → IsNarrow o → IsNarrow p → IsNarrow (option_or o p)
 narrow_or None p h k = k
@@ -224,7 +225,7 @@ pub nulls_none : (n : ℕ) (vs : List ℕ) (v : ℕ) → term_in (visible_column
 nulls_none n vs v = of (has vs v)
   where
     of : (b : Bool) → term_of (value_of (if b then left_column vs v else null_term) (replicate n cell.Null)) ≡ None
-    of true = ap term_of (cell_at-nulls n (place_of (nat_eq v) vs))
+    of true = ap term_of (cell_at-nulls n (position_or_len (nat_eq v) vs))
     of false = refl
 
 -- rows cell by cell

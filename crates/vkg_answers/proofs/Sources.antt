@@ -19,15 +19,14 @@ use Rattle.vkg_maps.specs.Dataset.{graph_eq, graph_name}
 use Rattle.vkg_maps.specs.declared.quad_rule.Join.{Join}
 use Rattle.vkg_values.specs.Logic.{not3}
 use Rattle.vkg_algebra.specs.Evaluation.{Dataset}
-use Rattle.vkg_expr.specs.declared.term_expr.Sort.TheVariants.{OfIri, OfBlank, OfLit}
 use Rattle.vkg_expr.specs.declared.term_expr.TermExpr.{TermExpr}
 use Rattle.vkg_expr.specs.Expr.{Expr, Same, Not, IsNull}
 use Rattle.vkg_expr.specs.TermExprs.{term_expr, term_const}
 use Rattle.vkg_expr.specs.Value.{value_of, term_cell, truth_of, truth_cell, holds}
 use Rattle.vkg_expr.specs.Logic.{and_of}
 use Rattle.vkg_expr.specs.declared.term_expr.TermExpr.TheVariants as term_form
-use Rattle.vkg_expr.proofs.ReadBack.{term_back}
 use Rattle.vkg_expr.proofs.Conjuncts.{holds-and_of}
+use Rattle.vkg_expr.proofs.TermValues.{term_expr_is}
 use Rattle.vkg_plan.specs.Kinds.{Tables}
 use Rattle.vkg_plan.specs.Plan.{Plan, Project, plans}
 use Rattle.vkg_plan.specs.Rows.{rows_of, rows_of_each, pairs, one_row}
@@ -42,14 +41,6 @@ use Rattle.vkg_unfold.specs.StandsFor.{IsIn}
 use Rattle.vkg_answers.proofs.Steps.{product-two, project_rows}
 use Rattle.vkg_answers.proofs.Entries.{is_same}
 use Rattle.vkg_answers.proofs.Values.{bound_means}
-
--- a term map's expression gives its term, or NULL
-pub term_expr_is : (e : TermExpr) (row : Row) → value_of (term_expr e) row ≡ term_cell (term_at e row)
-term_expr_is (term_form.Fixed t) row = refl
-term_expr_is (term_form.Made OfIri ps) row = ap term_cell (sym (term_back _))
-term_expr_is (term_form.Made OfBlank ps) row = ap term_cell (sym (term_back _))
-term_expr_is (term_form.Made (OfLit k) ps) row = ap term_cell (sym (term_back _))
-term_expr_is (term_form.Resolved base at k) row = ap term_cell (sym (term_back _))
 
 abbrev pub all_hold : List Expr → Row → Bool
 all_hold cs row = list_all (λ c. holds c row) cs

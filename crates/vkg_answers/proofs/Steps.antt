@@ -1,7 +1,7 @@
 -- Each node's rows stand for the solutions of its algebra, if those of its parts do.
 use Rattle.std.proofs.Common.{◌≡◌, ℕ, ◌<◌, Bool, true, false, ⊎_elim, List, [], ◌∷◌, ◌++◌, map, length, refl, sym, ap, subst, ◌∙◌, arith, true≢false, append-nil}
 use Rattle.std.specs.Prelude.{Option, Some, None, not, ◌&&◌, ◌||◌, replicate, filter, Contains, ⊤}
-use Rattle.std.specs.List.{list_all, AllByRecursion as Every}
+use Rattle.std.specs.List.{list_all, AllByRecursion as Every, range_with_len}
 use Rattle.std.specs.Option.{option_or}
 use Rattle.std.specs.List.Sorted.{IsPermutation}
 use Rattle.std.proofs.lemmas.List.Elements.{Contains-append_cases}
@@ -33,7 +33,7 @@ use Rattle.vkg_unfold.specs.Conditions.{truth_expr, expr_of, gives_truth, condit
 use Rattle.vkg_unfold.specs.declared.mode.Mode.{Mode}
 use Rattle.vkg_unfold.specs.declared.mode.Mode.TheVariants.{Default, InGraph, Each}
 use Rattle.vkg_unfold.specs.Unfolded.{merged, agreement, if_each, visible_column}
-use Rattle.vkg_unfold.specs.StandsFor.{IsIn, belongs, term_in, solution_of, solutions_of, upto_from}
+use Rattle.vkg_unfold.specs.StandsFor.{IsIn, belongs, term_in, solution_of, solutions_of}
 use Rattle.vkg_unfold.specs.FineRows.{IsNarrow}
 use Rattle.vkg_answers.proofs.Joins.{bag_join, join_rows, left_rows, merge-map}
 use Rattle.vkg_answers.proofs.Values.{IsNarrowCondition, IsNarrowIfAny, means, truth_meant}
@@ -102,8 +102,8 @@ module _ (n : ℕ) (d : Dataset) (mode : Mode) (vs ws : List ℕ) where
   pub merged_padded : (m : ℕ) (l : Row) → IsRowOf d mode vs l → solution_of n (each_once (vs ++ ws)) (project_merged mode vs ws (l ++ replicate m cell.Null)) ≡ solution_of n vs l
   merged_padded m l p =
       merged_solution l (replicate m cell.Null) p (nulls_typed m)
-      ∙ merge-map (term_in (visible_column vs) l) (term_in (visible_column ws) (replicate m cell.Null)) (upto_from 0 n)
-      ∙ (λ i. map (λ v. (ap (option_or (term_in (visible_column vs) l v)) (nulls_none m ws v) ∙ or_none (term_in (visible_column vs) l v)) i) (upto_from 0 n))
+      ∙ merge-map (term_in (visible_column vs) l) (term_in (visible_column ws) (replicate m cell.Null)) (range_with_len 0 n)
+      ∙ (λ i. map (λ v. (ap (option_or (term_in (visible_column vs) l v)) (nulls_none m ws v) ∙ or_none (term_in (visible_column vs) l v)) i) (range_with_len 0 n))
 
   module _ (below : AreBelow n vs) where
     pub vars_compatible : (l r : Row) → IsRowOf d mode vs l → IsRowOf d mode ws r → list_all (λ c. holds c (l ++ r)) (agreements mode vs ws) ≡ compatible (solution_of n vs l) (solution_of n ws r)

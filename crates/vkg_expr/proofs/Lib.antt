@@ -4,3 +4,4 @@ pub mod Conjuncts
 pub mod ValueFits
 pub mod Weights
 pub mod TypedParts
+pub mod TermValues

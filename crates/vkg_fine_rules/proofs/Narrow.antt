@@ -4,7 +4,7 @@ use Rattle.std.specs.Prelude.{Option, Some, None, option_map, if◌then◌else�
 use Rattle.std.proofs.lemmas.Bool.{not_from_false}
 use Rattle.vkg_terms.specs.declared.term.Annotation.TheVariants.{Plain, Lang, Typed}
 use Rattle.vkg_terms.specs.declared.term.Term.{Term}
-use Rattle.vkg_terms.specs.declared.term.Term.TheVariants.{Iri, Blank, Lit}
+use Rattle.vkg_terms.specs.declared.term.Term.TheVariants.{Iri, Lit}
 use Rattle.vkg_terms.specs.Iri.{is_absolute}
 use Rattle.vkg_cells.specs.Form.{lexical_form}
 use Rattle.vkg_cells.specs.WellTyped.{is_well_typed, is_too_wide, is_wide_number}

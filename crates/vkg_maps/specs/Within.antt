@@ -1,5 +1,5 @@
 -- A mapping whose tables, columns and parents are those of a schema.
-use Rattle.std.specs.Prelude.{◌≡◌, ℕ, ◌<◌, Bool, false, IsFalse, List, [], ◌∷◌, flat_map, map, length, IfSome, slice_get, unwrap_or}
+use Rattle.std.specs.Prelude.{◌≡◌, ℕ, ◌<◌, Bool, false, IsFalse, List, [], ◌∷◌, flat_map, length, IfSome, slice_get, unwrap_or}
 use Rattle.std.specs.List.{AllByRecursion}
 use Rattle.vkg_lists.specs.Lists.{AllBelow}
 use Rattle.vkg_cells.specs.declared.cell.SqlType.{SqlType}

@@ -7,6 +7,7 @@ use Rattle.std.proofs.lemmas.List.{map_push}
 use Rattle.std.proofs.lemmas.Str.{encodes-chars, NoCharPasses-append, NoCharPasses-nil}
 use Rattle.vkg_lists.specs.Options.{joined}
 use Rattle.vkg_lists.proofs.Members.{recursion_push, recursion_append}
+use Rattle.vkg_lists.proofs.Onto.{joined_assoc, joined_nil, nil_joined}
 use lib.Utf8.{encode, encodes}
 use Rattle.vkg_cells.specs.declared.cell.SqlType.{SqlType}
 use Rattle.vkg_schema.specs.Rows.{Row}
@@ -14,11 +15,11 @@ use Rattle.vkg_expr.specs.declared.term_expr.Sort.{Sort}
 use Rattle.vkg_expr.specs.declared.term_expr.Sort.TheVariants.{OfIri, OfBlank, OfLit}
 use Rattle.vkg_expr.specs.declared.term_expr.Piece.{Piece}
 use Rattle.vkg_expr.specs.declared.term_expr.Piece.TheVariants.{Chars, Hole}
+use Rattle.vkg_expr.proofs.TermValues.{Text, piece_text, pieces_text}
 use Rattle.vkg_match.specs.declared.cut.Segment.{Segment}
 use Rattle.vkg_match.specs.Cut.{Cut, cut_at, cut_character, cut_piece, cut_pieces, is_break, last_pieces, text_pieces, uncut, with_character}
 use Rattle.vkg_match.specs.Laws.{IsTextPiece}
 use Rattle.vkg_match.proofs.Splits.{Clear, clear_joined, whole}
-use Rattle.vkg_match.proofs.Values.{Text, joined_assoc, joined_nil, nil_joined, piece_text, pieces_text}
 
 whole-append : (xs : List (Text × ℕ)) (o : Text) (c : ℕ) (l : Text) → whole (xs ++ (o, c) ∷ []) l ≡ joined (whole xs o) (joined (Some (encode c)) l)
 whole-append [] o c l = refl

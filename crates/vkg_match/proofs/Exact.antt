@@ -16,7 +16,7 @@ use Rattle.hex.proofs.HexLemmas.{decode_of-encode_lower}
 use Rattle.vkg_lists.proofs.Bools.{and_true, and_parts, is_false, same_truth, neither}
 use Rattle.vkg_lists.proofs.Counts.{eq_comm}
 use Rattle.vkg_lists.proofs.Texts.{bytes_test}
-use Rattle.vkg_lists.proofs.Onto.{joined_each, map_lacking}
+use Rattle.vkg_lists.proofs.Onto.{joined_each, joined_nil, map_lacking}
 use Rattle.vkg_terms.specs.declared.term.Term.{Term}
 use Rattle.vkg_terms.specs.declared.term.Term.TheVariants.{Iri, Blank, Lit}
 use Rattle.vkg_terms.specs.Label.{blank_label}
@@ -36,7 +36,7 @@ use Rattle.vkg_expr.specs.declared.term_expr.TermExpr.{TermExpr}
 use Rattle.vkg_expr.specs.declared.term_expr.TermExpr.TheVariants.{Fixed, Made, Resolved}
 use Rattle.vkg_expr.specs.TermExprs.{pieces_expr, term_expr}
 use Rattle.vkg_expr.specs.Value.{holds, term_of, value_of}
-use Rattle.vkg_expr.proofs.ReadBack.{term_back}
+use Rattle.vkg_expr.proofs.TermValues.{Text, made_term, piece_text, pieces_text, pieces_value, term_made, term_read, text_at}
 use Rattle.vkg_match.specs.declared.answer.Verdict.{Verdict as VerdictValue}
 use Rattle.vkg_match.specs.declared.cut.Segment.{Segment}
 use Rattle.vkg_match.specs.Seen.{verdict_seen}
@@ -47,7 +47,7 @@ use Rattle.vkg_match.specs.Verdict.{Verdict, Never, All, both, by_constants, by_
 use Rattle.vkg_match.proofs.Cuts.{chars_text, cut_fine, cut_text, last_clear, last_fine, part, IsFineSegment}
 use Rattle.vkg_match.proofs.Holes.{Held, clear_hole, held, hole_met, holes_met, text_kept, text_there}
 use Rattle.vkg_match.proofs.Splits.{ClearPart, agree, split_exact}
-use Rattle.vkg_match.proofs.Values.{Text, joined_nil, piece_text, pieces_text, pieces_value, same_terms, term_at, term_made, term_value, terms_hold, text_at, texts_hold, whole_value}
+use Rattle.vkg_match.proofs.Values.{same_terms, terms_hold, texts_hold, whole_value}
 
 when_met : (row : Row) (b : Bool) → is_met (when b) row ≡ b
 when_met row true = refl
@@ -229,7 +229,7 @@ Known row e = HoldsTexts e × FitsHoles row e
 
 -- ---- expressions whose text has pieces
 record HasPieces (row : Row) (e : TermExpr) (ps : List Piece) : Type 0 where
-  makes : term_at row e ≡ option_map (term_made (sort_of e)) (pieces_text (sort_of e) row ps)
+  makes : made_term row e ≡ option_map (term_made (sort_of e)) (pieces_text (sort_of e) row ps)
   written : AllByRecursion IsTextPiece ps
   fitted : AllByRecursion (FitsPiece row) ps
 
@@ -247,7 +247,7 @@ has_pieces row (Made sort qs) ps e t f = subst (HasPieces row (Made sort qs)) (s
 has_pieces row (Resolved base at k) ps e t f = cc
 
 pieces_exact : (row : Row) (e f : TermExpr) (ps qs : List Piece) → same_sort (sort_of e) (sort_of f) ≡ true → HasPieces row e ps → HasPieces row f qs
-    → same_terms (term_at row e) (term_at row f) ≡ is_met (cuts_agree (sort_of e) (cut_pieces (sort_of e) ps) (cut_pieces (sort_of e) qs)) row
+    → same_terms (made_term row e) (made_term row f) ≡ is_met (cuts_agree (sort_of e) (cut_pieces (sort_of e) ps) (cut_pieces (sort_of e) qs)) row
 pieces_exact row e f ps qs s h g =
     (λ i. same_terms (h.makes i) (g.makes i))
     ∙ terms_made (sort_of e) (sort_of f) (pieces_text (sort_of e) row ps) (pieces_text (sort_of f) row qs) s
@@ -297,7 +297,7 @@ no_pieces (Fixed (Blank l)) e r = record { label = l; is = refl; none = map_lack
 no_pieces (Made sort ps) e r = cc
 no_pieces (Resolved base at k) e r = cc
 
-blank_apart : (row : Row) (l : List ℕ) (f : TermExpr) → labelled_of l ≡ None → is_fixed f ≡ false → is_resolved f ≡ false → same_sort OfBlank (sort_of f) ≡ true → HoldsTexts f → FitsHoles row f → same_terms (Some (Blank l)) (term_at row f) ≡ false
+blank_apart : (row : Row) (l : List ℕ) (f : TermExpr) → labelled_of l ≡ None → is_fixed f ≡ false → is_resolved f ≡ false → same_sort OfBlank (sort_of f) ≡ true → HoldsTexts f → FitsHoles row f → same_terms (Some (Blank l)) (made_term row f) ≡ false
 blank_apart row l (Fixed t) n x r s u h = cc
 blank_apart row l (Made OfBlank ps) n x r s u h = no_text l (pieces_text OfBlank row ps) n (blank_spelled row ps u h)
 blank_apart row l (Made OfIri ps) n x r s u h = cc
@@ -321,25 +321,25 @@ IsComposed e f = (is_fixed e && is_fixed f) ≡ false
 
 cut_exact : (row : Row) (e f : TermExpr) (o p : Option (List Piece)) → pieces_of e ≡ o → pieces_of f ≡ p → IsComposed e f → is_resolved e ≡ false → is_resolved f ≡ false
     → same_sort (sort_of e) (sort_of f) ≡ true → Known row e → Known row f
-    → same_terms (term_at row e) (term_at row f) ≡ is_met (if_cut (sort_of e) (option_map (cut_pieces (sort_of e)) o) (option_map (cut_pieces (sort_of e)) p)) row
+    → same_terms (made_term row e) (made_term row f) ≡ is_met (if_cut (sort_of e) (option_map (cut_pieces (sort_of e)) o) (option_map (cut_pieces (sort_of e)) p)) row
 cut_exact row e f (Some ps) (Some qs) a b c r q s h g = pieces_exact row e f ps qs s (has_pieces row e ps a h.0 h.1) (has_pieces row f qs b g.0 g.1)
 cut_exact row e f None p a b c r q s h g =
     let n = no_pieces e a r in
     let c' : is_fixed f ≡ false = subst (λ x. (is_fixed x && is_fixed f) ≡ false) n.is c in
     let s' : same_sort OfBlank (sort_of f) ≡ true = subst (λ x. same_sort (sort_of x) (sort_of f) ≡ true) n.is s in
-    ap (λ x. same_terms (term_at row x) (term_at row f)) n.is ∙ blank_apart row n.label f n.none c' q s' g.0 g.1
+    ap (λ x. same_terms (made_term row x) (made_term row f)) n.is ∙ blank_apart row n.label f n.none c' q s' g.0 g.1
 cut_exact row e f (Some ps) None a b c r q s h g =
     let n = no_pieces f b q in
     let c' : is_fixed e ≡ false = first (is_fixed e) (subst (λ x. (is_fixed e && is_fixed x) ≡ false) n.is c) in
     let s' : same_sort OfBlank (sort_of e) ≡ true = subst (λ x. same_sort (sort_of x) (sort_of e) ≡ true) n.is (sort_turned (sort_of e) (sort_of f) s) in
-    terms_turned (term_at row e) (term_at row f) ∙ ap (λ x. same_terms (term_at row x) (term_at row e)) n.is ∙ blank_apart row n.label e n.none c' r s' h.0 h.1
+    terms_turned (made_term row e) (made_term row f) ∙ ap (λ x. same_terms (made_term row x) (made_term row e)) n.is ∙ blank_apart row n.label e n.none c' r s' h.0 h.1
   where
     first : (b : Bool) → (b && true) ≡ false → b ≡ false
     first true e = e
     first false e = refl
 
 -- ---- a column over a base
-iri_at : (row : Row) (f : TermExpr) → same_sort OfIri (sort_of f) ≡ true → term_at row f ≡ option_map Iri (text_at row f)
+iri_at : (row : Row) (f : TermExpr) → same_sort OfIri (sort_of f) ≡ true → made_term row f ≡ option_map Iri (text_at row f)
 iri_at row (Fixed (Iri s)) e = refl
 iri_at row (Fixed (Blank s)) e = cc
 iri_at row (Fixed (Lit s a)) e = cc
@@ -349,7 +349,7 @@ iri_at row (Made (OfLit a) ps) e = cc
 iri_at row (Resolved base at k) e = refl
 
 whole_exact : (row : Row) (e f : TermExpr) → same_sort OfIri (sort_of e) ≡ true → same_sort OfIri (sort_of f) ≡ true
-    → same_terms (term_at row e) (term_at row f) ≡ is_met (where_same (whole_text e) (whole_text f)) row
+    → same_terms (made_term row e) (made_term row f) ≡ is_met (where_same (whole_text e) (whole_text f)) row
 whole_exact row e f a b =
     (λ i. same_terms (iri_at row e a i) (iri_at row f b i))
     ∙ terms_made OfIri OfIri (text_at row e) (text_at row f) refl
@@ -370,9 +370,9 @@ either_resolved (Made sort ps) f e = inr (resolved_sort f e)
 either_resolved (Resolved base at k) f e = inl refl
 
 one_sort_exact : (row : Row) (e f : TermExpr) → IsComposed e f → same_sort (sort_of e) (sort_of f) ≡ true → Known row e → Known row f
-    → same_terms (term_at row e) (term_at row f) ≡ is_met (of_one_sort (sort_of e) e f) row
+    → same_terms (made_term row e) (made_term row f) ≡ is_met (of_one_sort (sort_of e) e f) row
 one_sort_exact row e f c s h g =
-    elim (is_resolved e || is_resolved f) as (λ b. (is_resolved e || is_resolved f) ≡ b → same_terms (term_at row e) (term_at row f) ≡ is_met (cond b (where_same (whole_text e) (whole_text f)) (if_cut (sort_of e) (cut_of (sort_of e) e) (cut_of (sort_of e) f))) row) [
+    elim (is_resolved e || is_resolved f) as (λ b. (is_resolved e || is_resolved f) ≡ b → same_terms (made_term row e) (made_term row f) ≡ is_met (cond b (where_same (whole_text e) (whole_text f)) (if_cut (sort_of e) (cut_of (sort_of e) e) (cut_of (sort_of e) f))) row) [
       | true ↦ λ x. let i = iris (sort_of e) (sort_of f) s (either_resolved e f x) in whole_exact row e f i.0 i.1
       | false ↦ λ x. let n = neither (is_resolved e) (is_resolved f) x in cut_exact row e f (pieces_of e) (pieces_of f) refl refl c n.0 n.1 s h g
     ] refl
@@ -384,7 +384,7 @@ made_sort OfIri (Some s) t e = ap sort_of_term (sym (same_Some (Iri s) t e))
 made_sort OfBlank (Some s) t e = ap sort_of_term (sym (same_Some (Blank (blank_label s)) t e))
 made_sort (OfLit a) (Some s) t e = ap sort_of_term (sym (same_Some (Lit s a) t e))
 
-sort_at : (row : Row) (e : TermExpr) (t : Term) → term_at row e ≡ Some t → sort_of_term t ≡ sort_of e
+sort_at : (row : Row) (e : TermExpr) (t : Term) → made_term row e ≡ Some t → sort_of_term t ≡ sort_of e
 sort_at row (Fixed u) t e = ap sort_of_term (sym (same_Some u t e))
 sort_at row (Made sort ps) t e = made_sort sort (pieces_text sort row ps) t e
 sort_at row (Resolved base at k) t e = made_sort OfIri (text_at row (Resolved base at k)) t e
@@ -400,20 +400,20 @@ equal_sort (Blank a) (Lit b y) e = cc
 equal_sort (Lit a x) (Iri b) e = cc
 equal_sort (Lit a x) (Blank b) e = cc
 
-sorts_apart : (row : Row) (e f : TermExpr) (o p : Option Term) → term_at row e ≡ o → term_at row f ≡ p → same_sort (sort_of e) (sort_of f) ≡ false → same_terms o p ≡ false
+sorts_apart : (row : Row) (e f : TermExpr) (o p : Option Term) → made_term row e ≡ o → made_term row f ≡ p → same_sort (sort_of e) (sort_of f) ≡ false → same_terms o p ≡ false
 sorts_apart row e f None p a b s = refl
 sorts_apart row e f (Some t) None a b s = refl
 sorts_apart row e f (Some t) (Some u) a b s =
     is_false _ (λ x. true≢false (sym (equal_sort t u x) ∙ (λ i. same_sort (sort_at row e t a i) (sort_at row f u b i)) ∙ s))
 
-by_sorts_exact : (row : Row) (e f : TermExpr) → IsComposed e f → Known row e → Known row f → same_terms (term_at row e) (term_at row f) ≡ is_met (by_sorts e f) row
+by_sorts_exact : (row : Row) (e f : TermExpr) → IsComposed e f → Known row e → Known row f → same_terms (made_term row e) (made_term row f) ≡ is_met (by_sorts e f) row
 by_sorts_exact row e f c h g =
-    elim (same_sort (sort_of e) (sort_of f)) as (λ b. same_sort (sort_of e) (sort_of f) ≡ b → same_terms (term_at row e) (term_at row f) ≡ is_met (cond b (of_one_sort (sort_of e) e f) Never) row) [
+    elim (same_sort (sort_of e) (sort_of f)) as (λ b. same_sort (sort_of e) (sort_of f) ≡ b → same_terms (made_term row e) (made_term row f) ≡ is_met (cond b (of_one_sort (sort_of e) e f) Never) row) [
       | true ↦ λ s. one_sort_exact row e f c s h g
-      | false ↦ λ s. sorts_apart row e f (term_at row e) (term_at row f) refl refl s
+      | false ↦ λ s. sorts_apart row e f (made_term row e) (made_term row f) refl refl s
     ] refl
 
-pub terms_exact : (row : Row) (e f : TermExpr) → Known row e → Known row f → same_terms (term_at row e) (term_at row f) ≡ is_met (verdict_of e f) row
+pub terms_exact : (row : Row) (e f : TermExpr) → Known row e → Known row f → same_terms (made_term row e) (made_term row f) ≡ is_met (verdict_of e f) row
 terms_exact row (Fixed t) (Fixed u) h g = sym (when_met row (term_eq t u))
 terms_exact row (Fixed t) (Made sort ps) h g = by_sorts_exact row (Fixed t) (Made sort ps) refl h g
 terms_exact row (Fixed t) (Resolved base at k) h g = by_sorts_exact row (Fixed t) (Resolved base at k) refl h g
@@ -424,8 +424,8 @@ terms_exact row (Resolved base at k) f h g = by_sorts_exact row (Resolved base a
 pub exact : (e f : TermExpr) → IsExact e f (verdict_of e f)
 exact e f s t row h g = terms_hold row e f ∙ terms_exact row e f (s, h) (t, g)
 
-pub there_at : (row : Row) (e : TermExpr) (t : Term) → term_of (value_of (term_expr e) row) ≡ Some t → term_at row e ≡ Some t
-there_at row e t m = sym (term_back (term_at row e)) ∙ ap term_of (sym (term_value row e)) ∙ m
+pub there_at : (row : Row) (e : TermExpr) (t : Term) → term_of (value_of (term_expr e) row) ≡ Some t → made_term row e ≡ Some t
+there_at row e t m = sym (term_read row e) ∙ m
 
 -- an expression that never makes a term makes it on no row
 pub never : (row : Row) (e : TermExpr) (t : Term) → Known row e → IsUtf8 (term_name t) → verdict_of e (Fixed t) ≡ Never → term_of (value_of (term_expr e) row) ≡ Some t → ⊥

@@ -32,13 +32,14 @@ use Rattle.vkg_expr.specs.declared.term_expr.Piece.TheVariants.{Hole}
 use Rattle.vkg_expr.specs.Expr.{Col, Const, Lex, Same}
 use Rattle.vkg_expr.specs.Typing.{same_family}
 use Rattle.vkg_expr.specs.Value.{holds}
+use Rattle.vkg_expr.proofs.TermValues.{Text, piece_text}
 use Rattle.vkg_match.specs.Cut.{is_break}
 use Rattle.vkg_match.specs.Laws.{FitsHole, is_met}
 use Rattle.vkg_match.specs.Sources.{cell_if, cell_with, source_of, text_if}
 use Rattle.vkg_match.specs.Verdict.{hole_makes, hole_text, holes_agree, where_cell, where_same}
 use Rattle.vkg_match.proofs.Forms.{Proper, proper}
 use Rattle.vkg_match.proofs.Splits.{Clear}
-use Rattle.vkg_match.proofs.Values.{Text, piece_text, texts_hold}
+use Rattle.vkg_match.proofs.Values.{texts_hold}
 
 -- NULL, or a proper cell
 abbrev pub Held : SqlType → Cell → Type 0

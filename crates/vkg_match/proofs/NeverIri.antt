@@ -19,10 +19,10 @@ use Rattle.vkg_expr.specs.declared.term_expr.TermExpr.{TermExpr}
 use Rattle.vkg_expr.specs.declared.term_expr.TermExpr.TheVariants.{Fixed, Made, Resolved}
 use Rattle.vkg_expr.specs.TermExprs.{term_expr}
 use Rattle.vkg_expr.specs.Value.{term_of, value_of}
+use Rattle.vkg_expr.proofs.TermValues.{Text, made_term, piece_text, pieces_text, term_made}
 use Rattle.vkg_match.specs.Laws.{FitsHoles, HoldsTexts, IsTextPiece}
 use Rattle.vkg_match.specs.Verdict.{Never, verdict_of}
 use Rattle.vkg_match.proofs.Exact.{never, there_at}
-use Rattle.vkg_match.proofs.Values.{Text, piece_text, pieces_text, term_at, term_made}
 
 parts_small : (s t w : List ℕ) → s ++ t ≡ w → small w ≡ true → (small s ≡ true) × (small t ≡ true)
 parts_small s t w e h = and_parts (small s) (small t) (sym (list_all-append (λ b. nat_lt b 128) s t) ∙ ap small e ∙ h)
@@ -49,7 +49,7 @@ no_literal : (a : _) (o : Text) (w : List ℕ) → option_map (term_made (OfLit 
 no_literal a None w e = cc
 no_literal a (Some s) w e = cc
 
-texts_held : (row : Row) (e : TermExpr) (w : List ℕ) → small w ≡ true → term_at row e ≡ Some (Iri w) → HoldsTexts e
+texts_held : (row : Row) (e : TermExpr) (w : List ℕ) → small w ≡ true → made_term row e ≡ Some (Iri w) → HoldsTexts e
 texts_held row (Fixed t) w h e = subst (λ u. IsUtf8 (term_name u)) (sym (same_Some t (Iri w) e)) (IsUtf8-from_ascii w (ascii_small w h))
 texts_held row (Made OfIri ps) w h e = iri_texts row ps w (iri_made (pieces_text OfIri row ps) w e) h
 texts_held row (Made OfBlank ps) w h e = absurd (no_blank (pieces_text OfBlank row ps) w e)

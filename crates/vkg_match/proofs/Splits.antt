@@ -12,7 +12,7 @@ use Rattle.vkg_lists.proofs.Bools.{and_parts, is_false, same_truth}
 use Rattle.vkg_lists.proofs.Onto.{joined_each}
 use Rattle.vkg_terms.proofs.Octets.{not_nothing}
 use Rattle.vkg_cells.specs.Order.{same_form}
-use Rattle.vkg_match.proofs.Values.{Text}
+use Rattle.vkg_expr.proofs.TermValues.{Text}
 
 -- of two parts that hold no such character, and each such a character behind it
 module _ (p : ℕ → Bool) where

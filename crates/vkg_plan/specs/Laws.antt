@@ -1,5 +1,5 @@
 -- What holds of the rows of all plans.
-use Rattle.std.specs.Prelude.{◌≡◌, ℕ, List, Some, true}
+use Rattle.std.specs.Prelude.{◌≡◌, ℕ, List, Some}
 use Rattle.std.specs.List.{AllByRecursion}
 use Rattle.vkg_schema.specs.Rows.{Database, Row, rows_of as table_rows}
 use Rattle.vkg_expr.specs.Laws.{HasKinds}

@@ -11,7 +11,6 @@ use Rattle.vkg_terms.specs.declared.template.Part.TheVariants as part
 use Rattle.vkg_terms.specs.declared.template.Standing.{Standing}
 use Rattle.vkg_terms.specs.declared.template.Standing.TheVariants as stands
 use Rattle.vkg_terms.specs.declared.term.Term.{Term}
-use Rattle.vkg_terms.specs.declared.term.Term.TheVariants.{Iri, Blank}
 use Rattle.vkg_terms.specs.Name.{template_read}
 use Rattle.vkg_terms.specs.TemplateParts.{standing}
 use Rattle.vkg_cells.specs.declared.cell.SqlType.{SqlType}

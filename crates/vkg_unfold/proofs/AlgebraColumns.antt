@@ -1,7 +1,7 @@
 -- The plan of every algebra has a column of terms for each variable, and in mode each one for the graph.
 use Rattle.std.proofs.Common.{◌≡◌, ◌∙◌, ℕ, suc, ◌<◌, ◌≤◌, ◌+◌, Bool, true, false, ◌||◌, ⊎_elim, List, [], ◌∷◌, ◌++◌, map, length, nat_eq, refl, sym, ap, subst, arith, append-nil, length-append}
-use Rattle.std.specs.Prelude.{Option, Some, None, replicate, flat_map, if◌then◌else◌}
-use Rattle.std.specs.List.{AllByRecursion, filter, list_any, Contains}
+use Rattle.std.specs.Prelude.{Option, Some, None, replicate, flat_map, if◌then◌else◌, cond, not}
+use Rattle.std.specs.List.{AllByRecursion, filter, list_any, Contains, position_or_len}
 use Rattle.std.proofs.lemmas.Bool.{true≢false}
 use Rattle.std.proofs.lemmas.List.{length-map, replicate-append-replicate}
 use Rattle.std.proofs.lemmas.List.Elements.{Contains-append_left, Contains-append_right, Contains-append_cases}
@@ -35,7 +35,7 @@ use Rattle.vkg_unfold.specs.declared.mode.Mode.{Mode}
 use Rattle.vkg_unfold.specs.declared.mode.Mode.TheVariants.{Default, InGraph, Each}
 use Rattle.vkg_unfold.specs.Conditions.{condition_of, expr_of, gives_truth, to_term, to_truth, truth_expr}
 use Rattle.vkg_unfold.specs.FittingRules.{AreFitting, HasTermColumns, HasAnswerColumns}
-use Rattle.vkg_unfold.specs.Unfolded.{Name, Named, after, agreement, bgp_plan, column, columns_in, each_graph, exists_plan, graph_column, if_each, in_its_graph, in_mode, is_pattern, join_plan, left_column, left_plan, merged, merged_columns, name_eq, named_graph, names_plan, node_names, null_term, numbered, or_null, pattern_names, pattern_plan, patterns_plan, place_of, repeats, right_column, union_member, union_plan, unfolded, visible_column}
+use Rattle.vkg_unfold.specs.Unfolded.{Name, Named, after, agreement, bgp_plan, column, columns_in, each_graph, exists_plan, graph_column, if_each, in_its_graph, in_mode, is_pattern, join_plan, left_column, left_plan, merged, merged_columns, name_eq, named_graph, names_plan, node_names, null_term, numbered, or_null, pattern_names, pattern_plan, patterns_plan, repeats, right_column, union_member, union_plan, unfolded, visible_column}
 use Rattle.vkg_unfold.proofs.TermKinds.{IsTerm, IsTruth, and_truth, first_term, not_truth, null_truth, or_truth, same_truth, term_at}
 use Rattle.vkg_unfold.proofs.PlanColumns.{HasTermKinds, checked_truth, exists_plan_kinds, names_plan_kinds, pattern_plan_kinds, project_kinds, repeats_truth, union_kinds}
 use Rattle.vkg_algebra.specs.Translation.{algebra_of}
@@ -79,18 +79,18 @@ condition_truth ks at h (Some c) = (filter_truth ks at h c, tt)
 pub name_test : IsEqualityTest name_eq
 name_test = option_test nat_test
 
-place_step : (b c : Bool) (k n : ℕ) → (b || c) ≡ true → (c ≡ true → k < n) → (if b then 0 else suc k) < suc n
+place_step : (b c : Bool) (k n : ℕ) → (b || c) ≡ true → (c ≡ true → k < n) → cond (not b) (1 + k) 0 < suc n
 place_step true c k n h f = omega arith
 place_step false c k n h f = let j = f h in omega (arith, j)
 
-any_place : {X : Type 0} (p : X → Bool) (xs : List X) → list_any p xs ≡ true → place_of p xs < length xs
+any_place : {X : Type 0} (p : X → Bool) (xs : List X) → list_any p xs ≡ true → position_or_len p xs < length xs
 any_place p [] h = absurd (true≢false (sym h))
-any_place p (x ∷ xs) h = place_step (p x) (list_any p xs) (place_of p xs) (length xs) h (any_place p xs)
+any_place p (x ∷ xs) h = place_step (p x) (list_any p xs) (position_or_len p xs) (length xs) h (any_place p xs)
 
-pub has_place : (vs : List ℕ) (v : ℕ) → has vs v ≡ true → place_of (nat_eq v) vs < length vs
+pub has_place : (vs : List ℕ) (v : ℕ) → has vs v ≡ true → position_or_len (nat_eq v) vs < length vs
 has_place vs v h = any_place (nat_eq v) vs h
 
-name_place : (names : List Name) (x : Name) → Contains names x → place_of (name_eq x) names < length names
+name_place : (names : List Name) (x : Name) → Contains names x → position_or_len (name_eq x) names < length names
 name_place names x c = any_place (name_eq x) names ((Decides-list_any name_test names x).1 c)
 
 -- ---- basic graph patterns
@@ -124,7 +124,7 @@ bgp_named mode ps v c =
 
 -- a name that has a column
 abbrev HasPlace : List Name → Name → Type 0
-HasPlace names x = place_of (name_eq x) names < length names
+HasPlace names x = position_or_len (name_eq x) names < length names
 
 graph_place : (mode : Mode) (p : TriplePattern) (ps : List TriplePattern) → AllByRecursion (HasPlace (flat_map (pattern_names mode) (p ∷ ps))) (if_each mode None)
 graph_place Default p ps = tt
@@ -165,7 +165,7 @@ module _ (schema : Tables) (rules : List RowRule) (fit : AreFitting schema rules
   patterns_kinds : (mode : Mode) (p : TriplePattern) (ps : List TriplePattern) → HasTermKinds schema (columns_in mode (visible (Bgp (p ∷ ps)))) (patterns_plan schema rules mode (visible (Bgp (p ∷ ps))) (p ∷ ps))
   patterns_kinds mode p ps =
       project_kinds schema (map to_column wanted) (Join (plans (map (pattern_plan schema rules mode) (p ∷ ps))) c) ks rows
-      (recursion_map_weaken (HasPlace names) (IsTerm ks) to_column (λ x k. term_at (length names) (place_of (name_eq x) names) k) wanted (wanted_places mode p ps))
+      (recursion_map_weaken (HasPlace names) (IsTerm ks) to_column (λ x k. term_at (length names) (position_or_len (name_eq x) names) k) wanted (wanted_places mode p ps))
       ∙ ap (λ n. Some (replicate n kind.Term)) (length-map wanted to_column ∙ wanted_length mode (visible (Bgp (p ∷ ps))))
     where
       names : List Name
@@ -175,7 +175,7 @@ module _ (schema : Tables) (rules : List RowRule) (fit : AreFitting schema rules
       wanted = map Some (visible (Bgp (p ∷ ps))) ++ if_each mode None
 
       to_column : Name → Expr
-      to_column x = Col (place_of (name_eq x) names)
+      to_column x = Col (position_or_len (name_eq x) names)
 
       ks : Kinds
       ks = replicate (length names) kind.Term
@@ -214,10 +214,10 @@ module _ (mode : Mode) (vs ws : List ℕ) where
   both = columns_in mode vs + columns_in mode ws
 
   left_term : (v : ℕ) → has vs v ≡ true → IsTerm (replicate both kind.Term) (left_column vs v)
-  left_term v h = let k = has_place vs v h in let m = columns_most mode vs in term_at both (place_of (nat_eq v) vs) (omega (arith, k, m))
+  left_term v h = let k = has_place vs v h in let m = columns_most mode vs in term_at both (position_or_len (nat_eq v) vs) (omega (arith, k, m))
 
   right_term : (v : ℕ) → has ws v ≡ true → IsTerm (replicate both kind.Term) (right_column mode vs ws v)
-  right_term v h = let k = has_place ws v h in let m = columns_most mode ws in term_at both (columns_in mode vs + place_of (nat_eq v) ws) (omega (arith, k, m))
+  right_term v h = let k = has_place ws v h in let m = columns_most mode ws in term_at both (columns_in mode vs + position_or_len (nat_eq v) ws) (omega (arith, k, m))
 
   merged_term : (v : ℕ) → IsTerm (replicate both kind.Term) (merged mode vs ws v)
   merged_term v = by (has vs v) (has ws v) refl refl
@@ -308,7 +308,7 @@ module _ (schema : Tables) where
   visible_term n vs v m = by (has vs v) refl
     where
       by : (b : Bool) → has vs v ≡ b → IsTerm (replicate n kind.Term) (if b then left_column vs v else null_term)
-      by true h = let k = has_place vs v h in term_at n (place_of (nat_eq v) vs) (omega (arith, k, m))
+      by true h = let k = has_place vs v h in term_at n (position_or_len (nat_eq v) vs) (omega (arith, k, m))
       by false h = refl
 
   graph_term : (mode : Mode) (vs : List ℕ) → AllByRecursion (IsTerm (replicate (columns_in mode vs) kind.Term)) (if_each mode (Col (length vs)))
@@ -337,7 +337,7 @@ module _ (schema : Tables) where
   behind_kinds first vs n p h k = pair_kinds n (length vs) first p (truth_const true) h k refl
 
   column_term : (n : ℕ) (vs : List ℕ) (v : ℕ) → Contains vs v → IsTerm (replicate (n + length vs) kind.Term) (column vs n v)
-  column_term n vs v c = let k = has_place vs v (is_among vs v c) in term_at (n + length vs) (n + place_of (nat_eq v) vs) (omega (arith, k))
+  column_term n vs v c = let k = has_place vs v (is_among vs v c) in term_at (n + length vs) (n + position_or_len (nat_eq v) vs) (omega (arith, k))
 
   after_test_kinds : (first : Plan) (vs : List ℕ) (p : Plan) → HasTermKinds schema 0 first → HasTermKinds schema (length vs) p → HasTermKinds schema (length vs) (after first vs 0 p)
   after_test_kinds first vs p h k =
@@ -366,7 +366,7 @@ module _ (schema : Tables) where
       by : (b : Bool) → has vs v ≡ b → HasTermKinds schema n (if b then Select c p else p)
       by true e =
           let k = has_place vs v e in
-          let l = term_at n (place_of (nat_eq v) vs) (omega (arith, k)) in
+          let l = term_at n (position_or_len (nat_eq v) vs) (omega (arith, k)) in
           select_kinds n p c h (or_truth ks (IsNull (left_column vs v) ∷ Same (left_column vs v) (Col (length vs)) ∷ []) (null_truth ks (left_column vs v) l, (same_truth ks (left_column vs v) (Col (length vs)) l (term_at n (length vs) (omega arith)), tt)))
       by false e = h
 
@@ -378,7 +378,7 @@ module _ (schema : Tables) where
       by false e =
           let there : Contains vs w = ⊎_elim (λ k. absurd (true≢false (sym ((nat_test.decides v w).1 k) ∙ e))) (λ k. k) (Contains-cons_cases v vs w (Contains-from_distinct nat_eq (v ∷ vs) w c)) in
           let k = has_place vs w (is_among vs w there) in
-          term_at (suc (length vs)) (place_of (nat_eq w) vs) (omega (arith, k))
+          term_at (suc (length vs)) (position_or_len (nat_eq w) vs) (omega (arith, k))
 
   each_graph_kinds : (vs : List ℕ) (v : ℕ) (p : Plan) → HasTermKinds schema (suc (length vs)) p → HasTermKinds schema (length (each_once (v ∷ vs))) (each_graph vs v p)
   each_graph_kinds vs v p h =

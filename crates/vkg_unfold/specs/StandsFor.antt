@@ -1,5 +1,6 @@
 -- When a plan stands for an algebra.
-use Rattle.std.specs.Prelude.{◌≡◌, ℕ, zero, suc, Bool, true, false, List, [], ◌∷◌, map, filter, length, Contains, Option, Some, None}
+use Rattle.std.specs.Prelude.{◌≡◌, ℕ, Bool, true, false, List, map, filter, length, Contains, Option, Some, None}
+use Rattle.std.specs.List.{range_with_len}
 use Rattle.std.specs.Option.{option_map_or}
 use Rattle.vkg_terms.specs.declared.term.Term.{Term}
 use Rattle.vkg_terms.specs.declared.term.Term.TheVariants.{Iri}
@@ -22,17 +23,12 @@ use Rattle.vkg_unfold.specs.declared.mode.Mode.{Mode}
 use Rattle.vkg_unfold.specs.declared.mode.Mode.TheVariants.{Default, InGraph, Each}
 use Rattle.vkg_unfold.specs.Unfolded.{visible_column}
 
--- the numbers below n
-abbrev pub upto_from : ℕ → ℕ → List ℕ
-upto_from at zero = []
-upto_from at (suc n) = at ∷ upto_from (suc at) n
-
--- a row over these variables as a solution: each variable's column, unbound where it is NULL or not visible
+-- a row over these variables as a solution of n variables: each variable's column, unbound where it is NULL or not visible
 abbrev pub term_in : (ℕ → Expr) → Row → ℕ → Option Term
 term_in at row v = term_of (value_of (at v) row)
 
 abbrev pub solution_of : ℕ → List ℕ → Row → Solution
-solution_of n vs row = map (term_in (visible_column vs) row) (upto_from 0 n)
+solution_of n vs row = map (term_in (visible_column vs) row) (range_with_len 0 n)
 
 abbrev pub solutions_of : ℕ → List ℕ → List Row → List Solution
 solutions_of n vs rows = map (solution_of n vs) rows

@@ -1,6 +1,7 @@
 -- The plan of an algebra over quad rules: a column for each visible variable, and in mode each the graph last.
 use Rattle.std.specs.Prelude.{ℕ, ◌+◌, Bool, true, false, List, [], ◌∷◌, ◌++◌, map, filter, flat_map, filter_map, length, replicate, Option, Some, None, nat_eq, if◌then◌else◌, find, suc}
 use Rattle.std.specs.Option.{option_eq}
+use Rattle.std.specs.List.{position_or_len}
 use Rattle.vkg_lists.specs.Sets.{distinct}
 use Rattle.vkg_terms.specs.declared.term.Term.TheVariants.{Iri}
 use Rattle.vkg_terms.specs.Vocabulary.{rr_default_graph}
@@ -161,11 +162,6 @@ abbrev pub pattern_names : Mode → TriplePattern → List Name
 pattern_names mode p =
     distinct name_eq (flat_map node_names (p.subject ∷ p.predicate ∷ p.object ∷ [])) ++ if_each mode None
 
--- the first place that passes, or the list's length
-abbrev pub place_of : {X : Type 0} → (X → Bool) → List X → ℕ
-place_of passes [] = 0
-place_of passes (x ∷ xs) = if passes x then 0 else suc (place_of passes xs)
-
 -- the columns of a list of names, from a number on
 abbrev pub numbered : ℕ → List Name → List Named
 numbered n [] = []
@@ -186,7 +182,7 @@ module _ (schema : Tables) (rules : List RowRule) where
   abbrev pub patterns_plan : Mode → List ℕ → List TriplePattern → Plan
   patterns_plan mode vs ps =
       let names = flat_map (pattern_names mode) ps in
-      Project (map (λ x. Col (place_of (name_eq x) names)) (map Some vs ++ if_each mode None))
+      Project (map (λ x. Col (position_or_len (name_eq x) names)) (map Some vs ++ if_each mode None))
       (Join (plans (map (pattern_plan mode) ps)) (and_of (repeats [] (numbered 0 names))))
 
   -- the empty one has one solution, in mode each one in each graph
@@ -197,7 +193,7 @@ module _ (schema : Tables) (rules : List RowRule) where
 
 -- TWO ALGEBRAS: the variables of the left, then those of the right
 abbrev pub column : List ℕ → ℕ → ℕ → Expr
-column vs first v = Col (first + place_of (nat_eq v) vs)
+column vs first v = Col (first + position_or_len (nat_eq v) vs)
 
 -- the number of columns
 abbrev pub columns_in : Mode → List ℕ → ℕ
@@ -205,7 +201,7 @@ columns_in Each vs = suc (length vs)
 columns_in mode vs = length vs
 
 abbrev pub left_column : List ℕ → ℕ → Expr
-left_column vs v = Col (place_of (nat_eq v) vs)
+left_column vs v = Col (position_or_len (nat_eq v) vs)
 
 abbrev pub right_column : Mode → List ℕ → List ℕ → ℕ → Expr
 right_column mode vs ws = column ws (columns_in mode vs)

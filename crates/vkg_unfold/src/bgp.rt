@@ -2,11 +2,12 @@
 ghost use Rattle.std.specs.Prelude.{[], flat_map, IfOk, length, map, OnOk, Some, ◌++◌, ◌∷◌, ◌≡◌};
 ghost use Rattle.vkg_algebra.specs.Algebra.{Bgp};
 ghost use Rattle.vkg_algebra.specs.Visible.{visible};
+ghost use Rattle.std.specs.List.{position_or_len};
 ghost use Rattle.vkg_expr.specs.Expr.{Col};
 ghost use Rattle.vkg_expr.specs.Seen.{expr_seen};
 ghost use Rattle.vkg_plan.specs.Plan.{Plan};
 ghost use Rattle.vkg_plan.specs.Seen.{plan_seen};
-ghost use Rattle.vkg_unfold.specs.Unfolded.{bgp_plan, if_each, name_eq, numbered, pattern_names, pattern_plan, patterns_plan, place_of, repeats};
+ghost use Rattle.vkg_unfold.specs.Unfolded.{bgp_plan, if_each, name_eq, numbered, pattern_names, pattern_plan, patterns_plan, repeats};
 
 use crate::exprs::and_of;
 use crate::mode::Mode;
@@ -97,7 +98,7 @@ fn wanted(
     variables: &[Var],
     names: &[Option<usize>],
 ) -> Result<Items<Expr>, Memory>
-    ensures { IfOk result (λ es. map expr_seen es ≡ map (λ x. Col (place_of (name_eq x) names.now)) (map Some variables.now ++ if_each mode.now None)) }
+    ensures { IfOk result (λ es. map expr_seen es ≡ map (λ x. Col (position_or_len (name_eq x) names.now)) (map Some variables.now ++ if_each mode.now None)) }
 {
     let mut columns = Items::new(alloc);
     for variable in variables {
@@ -108,7 +109,7 @@ fn wanted(
 }
 
 fn push_graph(columns: &mut Items<Expr>, mode: &Mode, names: &[Option<usize>]) -> Result<(), Memory>
-    ensures { OnOk result (map expr_seen columns.new ≡ map expr_seen columns.old ++ map (λ x. Col (place_of (name_eq x) names.now)) (if_each mode.now None)) }
+    ensures { OnOk result (map expr_seen columns.new ≡ map expr_seen columns.old ++ map (λ x. Col (position_or_len (name_eq x) names.now)) (if_each mode.now None)) }
 {
     match mode {
         Mode::Default => Ok(()),
@@ -119,7 +120,7 @@ fn push_graph(columns: &mut Items<Expr>, mode: &Mode, names: &[Option<usize>]) -
 
 /// Where a name first stands; behind the last one where it does not.
 fn place(names: &[Option<usize>], name: Option<usize>) -> usize
-    ensures { result ≡ place_of (name_eq name) names.now }
+    ensures { result ≡ position_or_len (name_eq name) names.now }
 {
     for i in 0..names.len() {
         if same_name(name, names[i]) {

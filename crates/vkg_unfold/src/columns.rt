@@ -1,10 +1,11 @@
 // The columns of an algebra's plan: one for each visible variable, and in mode each the graph's name behind them. Of two algebras
 // the columns of the right one stand behind those of the left one.
 ghost use Rattle.std.specs.Prelude.{◌≡◌, ◌+◌, ◌≤◌, [], ◌∷◌, length, nat_eq, IfOk};
+ghost use Rattle.std.specs.List.{position_or_len};
 ghost use Rattle.vkg_expr.specs.Expr.{Coalesce, Col, exprs};
 ghost use Rattle.vkg_expr.specs.Seen.{expr_seen};
 ghost use Rattle.vkg_algebra.specs.Visible.{has};
-ghost use Rattle.vkg_unfold.specs.Unfolded.{columns_in, merged, null_term, place_of, right_column, visible_column};
+ghost use Rattle.vkg_unfold.specs.Unfolded.{columns_in, merged, null_term, right_column, visible_column};
 
 use crate::mode::Mode;
 use std::alloc::Global;
@@ -22,7 +23,7 @@ pub(crate) fn has(variables: &[Var], variable: Var) -> bool
 
 /// Where a variable first stands; behind the last one where it is not there.
 pub(crate) fn place(variables: &[Var], variable: Var) -> usize
-    ensures value { result ≡ place_of (nat_eq variable) variables.now }
+    ensures value { result ≡ position_or_len (nat_eq variable) variables.now }
     ensures within { result ≤ length variables.now }
 {
     for i in 0..variables.len() {
