@@ -15,15 +15,14 @@ use Rattle.vkg_lists.proofs.Positions.{any_from_member}
 use Rattle.vkg_lists.proofs.Texts.{bytes_test}
 use Rattle.vkg_cells.specs.Order.{same}
 use Rattle.vkg_cells.specs.declared.cell.SqlType.TheVariants as kind
-use Rattle.vkg_cells.specs.declared.cell.Cell.{Cell}
 use Rattle.vkg_cells.specs.declared.cell.Cell.TheVariants as cell
-use Rattle.vkg_schema.specs.declared.table.Column.{Column}
 use Rattle.vkg_schema.specs.Rows.{Row, Database, agree, cell_at, equal_at, has_no_null, is_known, is_known_true}
 use Rattle.vkg_schema.specs.Meets.{FitsColumn, KeyHolds, MeetsSchema, TableMeets}
 use Rattle.vkg_schema.specs.Company.{company, dept, emp, id_key}
 use Rattle.vkg_company.specs.Company.{company_rows, department, department_rows, departments, divides, employee, employee_rows, holding, name, number}
 use Rattle.vkg_tables.specs.Seen.{Seen, columns_of, with_row}
 use Rattle.std.proofs.lemmas.List.FromFn.{map-range_with_len_more}
+use Rattle.std.proofs.lemmas.Bool.{cond_both}
 use Rattle.vkg_company.proofs.Numbers.{number_kind}
 use Rattle.vkg_company.proofs.Counts.{small}
 
@@ -35,14 +34,10 @@ number_fits text b n h = record { kind = inr (number_kind n h); not_null = λ _ 
 tagged_fits : (text letter : List ℕ) (n : ℕ) → n < 2 ^ 64 → IsAscii letter → FitsColumn (record { name = text; kind = kind.Text; not_null = false }) (cell.Text (letter ++ decimal n))
 tagged_fits text letter n h a = record { kind = inr (letter ++ decimal n, IsUtf8-from_ascii (letter ++ decimal n) (IsAscii-append letter (decimal n) a (IsAscii-decimal n h)), refl); not_null = λ _ is. cc }
 
-either_fits : (column : Column) (b : Bool) (c : Cell) → FitsColumn column cell.Null → FitsColumn column c → FitsColumn column (if b then cell.Null else c)
-either_fits column true c h k = h
-either_fits column false c h k = k
-
 pub department_fits : (k : ℕ) → k < 2 ^ 64 → AllZip FitsColumn dept.columns (department k)
 department_fits k h = (
   number_fits _ _ k h,
-  (either_fits _ (divides 5 k) _ (null_fits _ _) (tagged_fits _ (codes "D") k h (IsAscii-push [] 68 IsAscii-nil (lit< tt))), tt),
+  (cond_both (divides 5 k) _ _ (FitsColumn _) (λ _. null_fits _ _) (λ _. tagged_fits _ (codes "D") k h (IsAscii-push [] 68 IsAscii-nil (lit< tt))), tt),
 )
 
 pub employee_fits : (d i : ℕ) → i % 7 < 2 ^ 64 → i % d + 1 < 2 ^ 64 → i < 2 ^ 64 → AllZip FitsColumn emp.columns (employee d i)
@@ -50,7 +45,7 @@ employee_fits d i seven within h = (
   number_fits _ _ i h,
   (
     tagged_fits _ (codes "N") (i % 7) seven (IsAscii-push [] 78 IsAscii-nil (lit< tt)),
-    (either_fits _ (divides 4 i) _ (null_fits _ _) (number_fits _ _ (i % d + 1) within), tt),
+    (cond_both (divides 4 i) _ _ (FitsColumn _) (λ _. null_fits _ _) (λ _. number_fits _ _ (i % d + 1) within), tt),
   ),
 )
 

@@ -1,5 +1,5 @@
 -- The direct mapping of a well-formed schema is within it.
-use Rattle.std.proofs.Common.{◌≡◌, ◌∙◌, ℕ, ◌+◌, ◌<◌, Bool, true, false, cond, inl, inr, List, [], ◌∷◌, map, length, refl, sym, ap, subst, arith}
+use Rattle.std.proofs.Common.{◌≡◌, ◌∙◌, ℕ, ◌+◌, ◌<◌, inl, inr, List, [], ◌∷◌, map, length, refl, sym, ap, subst, arith}
 use Rattle.std.specs.Prelude.{◌≢◌, not, position, Ok, Option, Some, None, option_map, unwrap_or, slice_get, IfSome, flat_map, find, codes, Contains}
 use Rattle.std.specs.List.{AllByRecursion, enumerate_from}
 use Rattle.std.proofs.lemmas.List.{length-map}
@@ -10,6 +10,7 @@ use Rattle.vkg_lists.specs.Lists.{AllBelow}
 use Rattle.vkg_lists.proofs.Members.{each_from_recursion, recursion_from_each, Contains-from_map}
 use Rattle.std.proofs.lemmas.List.Elements.{Contains-append_cases}
 use Rattle.std.proofs.lemmas.List.FromFn.{length-enumerate_from}
+use Rattle.std.proofs.lemmas.Bool.{cond_both}
 use Rattle.vkg_cells.specs.declared.cell.SqlType.{SqlType}
 use Rattle.vkg_cells.specs.Order.{family}
 use Rattle.vkg_schema.specs.declared.table.Column.{Column}
@@ -43,14 +44,11 @@ module _ (table : Table) where
   pieces_below n [] h = tt
   pieces_below n (c ∷ cs) h = (h.0, later_pieces n cs h.1)
 
-  first_below : (b : Bool) (k : Key) (o : Option Key) → AllBelow (length table.columns) k.columns → AllBelow (length table.columns) (unwrap_or (option_map (λ (k : Key). k.columns) o) []) →
-      AllBelow (length table.columns) (unwrap_or (option_map (λ (k : Key). k.columns) (cond b (Some k) o)) [])
-  first_below true k o h g = h
-  first_below false k o h g = g
-
   found_below : (keys : List Key) → AllByRecursion (IsKey table) keys → AllBelow (length table.columns) (unwrap_or (option_map (λ (k : Key). k.columns) (find (λ (k : Key). k.primary) keys)) [])
   found_below [] h = tt
-  found_below (k ∷ keys) h = first_below k.primary k (find (λ (k : Key). k.primary) keys) h.0.columns (found_below keys h.1)
+  found_below (k ∷ keys) h =
+      cond_both k.primary (Some k) (find (λ (k : Key). k.primary) keys) (λ (o : Option Key). AllBelow (length table.columns) (unwrap_or (option_map (λ (k : Key). k.columns) o) []))
+      (λ _. h.0.columns) (λ _. found_below keys h.1)
 
 module _ (base : List ℕ) (schema : List Table) (well : IsWellFormed schema) where
   abbrev maps : List TriplesMap

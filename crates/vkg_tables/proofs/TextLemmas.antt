@@ -5,6 +5,7 @@ use Rattle.std.specs.List.{AllByRecursion}
 use Rattle.std.proofs.lemmas.Str.{IsUtf8-append, IsUtf8-encode, IsUtf8-nil, encode_ascii, encode_same, len_utf8_bounds, length-encode}
 use native.Mathlib.Decide.{dec_lt}
 use Rattle.std.proofs.Math.Utf8.{encode, encodes, scalars, scalar}
+use Rattle.std.proofs.lemmas.Bool.{cond_both}
 use Rattle.csv.specs.Machine.{Read, Runs, ends_at_end, field_after, fields_after, is_end, next_record, step}
 use Rattle.csv.specs.Reading.{default_config, is_bom, records, records_from, records_next, strip_bom}
 use Rattle.csv.specs.Records.{AllText}
@@ -107,10 +108,6 @@ char-high st.AfterCr (b ∷ bs) h u n fields field rest uf = copies-high st.Afte
 abbrev Textual : Option Read → Type 0
 Textual o = IfSome o (λ p. AllText p.0 × IsUtf8 p.2)
 
-either : (b : Bool) (x y : Option Read) → Textual x → Textual y → Textual (if b then x else y)
-either true x y tx ty = tx
-either false x y tx ty = ty
-
 fields-text : (a : Action) (fields : List (List ℕ)) (field : List ℕ) → AllText fields → IsUtf8 field → AllText (fields_after a fields field)
 fields-text act.EndField fields field t u = text-more fields field t u
 fields-text act.Skip fields field t u = t
@@ -126,7 +123,7 @@ field-text act.EndRecord c field uc u = IsUtf8-nil
 text-next : (cs : List ℕ) → scalars cs ≡ true → (s : State) (fields : List (List ℕ)) (field : List ℕ) → AllText fields → IsUtf8 field
     → Textual (next_record default_config s fields field (encodes cs))
 unfolding next_record
-text-next [] e s fields field t u = either (ends_at_end s) _ None (text-more fields field t u, IsUtf8-nil) tt
+text-next [] e s fields field t u = cond_both (ends_at_end s) _ None Textual (λ _. (text-more fields field t u, IsUtf8-nil)) (λ _. tt)
 text-next (c ∷ cs) e s fields field t u =
     let parts = and_parts (scalar c) (scalars cs) e in
     let uc = IsUtf8-encode c parts.0 in
@@ -134,9 +131,9 @@ text-next (c ∷ cs) e s fields field t u =
       | yes low ↦
           let one = encode_ascii c low in
           let a = step default_config s c in
-          rw one (either (is_end a.1) (Some (fields_after a.1 fields field, a.0, encodes cs)) (next_record default_config a.0 (fields_after a.1 fields field) (field_after a.1 c field) (encodes cs))
-          (fields-text a.1 fields field t u, (cs, (parts.1, refl)))
-          (text-next cs parts.1 a.0 (fields_after a.1 fields field) (field_after a.1 c field) (fields-text a.1 fields field t u) (field-text a.1 c field (subst IsUtf8 one uc) u)))
+          rw one (cond_both (is_end a.1) (Some (fields_after a.1 fields field, a.0, encodes cs)) (next_record default_config a.0 (fields_after a.1 fields field) (field_after a.1 c field) (encodes cs)) Textual
+          (λ _. (fields-text a.1 fields field t u, (cs, (parts.1, refl))))
+          (λ _. text-next cs parts.1 a.0 (fields_after a.1 fields field) (field_after a.1 c field) (fields-text a.1 fields field t u) (field-text a.1 c field (subst IsUtf8 one uc) u)))
       | no high ↦
           let long : 0 < length (encode c) = omega (arith, length-encode c, (len_utf8_bounds c).0) in
           let fed = char-high s (encode c) (High-encode c (omega arith)) uc long fields field (encodes cs) u in

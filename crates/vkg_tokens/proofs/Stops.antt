@@ -6,6 +6,7 @@ use Rattle.std.proofs.Math.Bool.{or_comm}
 use Rattle.std.proofs.Math.Seq.{take-add}
 use Rattle.std.proofs.lemmas.List.{get_or-drop, drop-drop}
 use Rattle.std.proofs.lemmas.List.Sums.{fold-append}
+use Rattle.std.proofs.lemmas.Bool.{cond_both}
 use Rattle.vkg_lists.proofs.Bools.{and_parts, implied}
 use Rattle.vkg_tokens.specs.declared.lang.Lang.{Lang}
 use Rattle.vkg_tokens.specs.declared.lang.State.{State}
@@ -73,10 +74,6 @@ learned lang text best i e b leads k a c w n d =
     sym (class_is lang text (suc k + n) _ (state_from lang text (suc k) n (suc k + n) (Some a_prefix) (omega arith) refl (leads k a c w)))
     ∙ above lang text (length text) best (sym e) (suc k + n) (omega arith) (omega arith)
 
-pick : (lang : Lang) (text : List ℕ) (from a b : ℕ) (test : Bool) → IsBarren lang text from a → IsBarren lang text from b → IsBarren lang text from (cond test a b)
-pick lang text from a b true h k = h
-pick lang text from a b false h k = k
-
 -- of fewer places it holds too
 pub known_still : (lang : Lang) (text : List ℕ) (from to : ℕ) → IsBarren lang text 0 to → IsBarren lang text from to
 known_still lang text from to h k a b w = h k (omega arith) b w
@@ -84,7 +81,7 @@ known_still lang text from to h k a b w = h k (omega arith) b w
 -- after a search: what was known, and where it was sure, what it read
 pub known_more : (lang : Lang) (text : List ℕ) (best : Option (ℕ × ℕ)) (known i : ℕ) (sure : Bool) → best ≡ longest lang text → i ≤ length text → IsBarren lang text 0 known
     → (sure ≡ true → LeadsToPrefix lang text (end_of best) i) → IsBarren lang text (end_of best) (cond (sure && nat_lt known i) i known)
-known_more lang text best known i true e b h leads = pick lang text (end_of best) i known (nat_lt known i) (learned lang text best i e b (leads refl)) (known_still lang text (end_of best) known h)
+known_more lang text best known i true e b h leads = cond_both (nat_lt known i) i known (IsBarren lang text (end_of best)) (λ _. learned lang text best i e b (leads refl)) (λ _. known_still lang text (end_of best) known h)
 known_more lang text best known i false e b h leads = known_still lang text (end_of best) known h
 
 prefix_name : (n : Name) → is_prefix (OfScan (Between (OfName n))) ≡ true → OfScan (Between (OfName n)) ≡ a_prefix
