@@ -241,4 +241,4 @@ pub has_kinds : (kinds : ℕ) (g : List Rule) → all_fit kinds g ≡ true → H
 has_kinds kinds g f = λ n k h e. fits_at kinds n k n g h e f
 
 pub certificates_hold : CertificatesHold
-certificates_hold g kinds cs c = (is_grammar g c.some c.closed, has_kinds kinds g c.fits, passes_ll1 g cs c.some c.closed c.claimed c.lower)
+certificates_hold g kinds cs c = (is_grammar g cs c.some c.closed, has_kinds kinds g c.fits, passes_ll1 g cs c.some c.closed c.claimed c.lower)
