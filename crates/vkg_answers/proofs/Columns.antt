@@ -55,10 +55,13 @@ place_first x [] (c ∷ row) e = absurd (omega arith)
 place_first x (y ∷ ns) [] e = absurd (omega arith)
 place_first x (y ∷ ns) (c ∷ row) e = of (place_first x ns row (omega arith)) (name_eq x y)
   where
+    next : 1 + position_or_len (name_eq x) ns ≡ suc (position_or_len (name_eq x) ns)
+    next = omega arith
+
     of : cell_at row (position_or_len (name_eq x) ns) ≡ first x (zip ns row) → (b : Bool) →
         cell_at (c ∷ row) (cond (not b) (1 + position_or_len (name_eq x) ns) 0) ≡ (if b then c else first x (zip ns row))
     of rest true = refl
-    of rest false = rest
+    of rest false = ap (cell_at (c ∷ row)) next ∙ rest
 
 -- the numbered names over a row
 pub numbered_cells : (whole : Row) (ns : List Name) (row : Row) (k : ℕ) → length row ≡ length ns → ((j m : ℕ) → m ≡ k + j → cell_at whole m ≡ cell_at row j) → map (entry whole) (numbered k ns) ≡ zip ns row

@@ -51,7 +51,7 @@ read_place g (w ∷ vs) rest v h = of (λ k. read_place g vs rest v k) (nat_eq v
   where
     of : (has vs v ≡ true → cell_at (map g vs ++ rest) (position_or_len (nat_eq v) vs) ≡ g v) → (x : Bool) → nat_eq v w ≡ x → (x || has vs v) ≡ true → cell_at (g w ∷ (map g vs ++ rest)) (cond (not x) (1 + position_or_len (nat_eq v) vs) 0) ≡ g v
     of more true e k = Prim.rw (eqb-true v w e) refl
-    of more false e k = more k
+    of more false e k = ap (cell_at (g w ∷ (map g vs ++ rest))) (let next : 1 + position_or_len (nat_eq v) vs ≡ suc (position_or_len (nat_eq v) vs) = omega arith in next) ∙ more k
 
 -- ---- has
 

@@ -1,6 +1,7 @@
 -- What holds of the rows of all plans.
 use Rattle.std.specs.Prelude.{◌≡◌, ℕ, List, Some}
 use Rattle.std.specs.List.{AllByRecursion}
+use Rattle.vkg_schema.specs.Kinds.{table_kinds}
 use Rattle.vkg_schema.specs.Rows.{Database, Row, rows_of as table_rows}
 use Rattle.vkg_expr.specs.Laws.{HasKinds}
 use Rattle.vkg_plan.specs.Kinds.{Kinds, Tables}

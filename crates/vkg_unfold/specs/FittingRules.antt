@@ -2,6 +2,7 @@
 use Rattle.std.specs.Prelude.{◌≡◌, ⊤, ℕ, false, List, ◌++◌, length, replicate, slice_get, Option, Some, None, IfSome}
 use Rattle.std.specs.List.{AllByRecursion}
 use Rattle.vkg_cells.specs.declared.cell.SqlType.TheVariants as kind
+use Rattle.vkg_schema.specs.Kinds.{table_kinds}
 use Rattle.vkg_maps.specs.declared.quad_rule.Join.{Join}
 use Rattle.vkg_sparql.specs.Query.{Query}
 use Rattle.vkg_algebra.specs.Algebra.{Algebra}
