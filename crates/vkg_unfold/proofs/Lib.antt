@@ -5,4 +5,4 @@ mod Examples
 pub mod PlanColumns
 pub mod Steps
 pub mod TermKinds
-pub mod Wanted
+pub mod WantedColumns

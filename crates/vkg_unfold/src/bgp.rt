@@ -102,7 +102,7 @@ fn wanted(
 {
     let mut columns = Items::new(alloc);
     for variable in variables {
-        columns.push(Expr::Col(place(names, Some(*variable))))?;
+        columns.push(first_column(names, Some(*variable)))?;
     }
     push_graph(&mut columns, mode, names)?;
     Ok(columns)
@@ -114,8 +114,15 @@ fn push_graph(columns: &mut Items<Expr>, mode: &Mode, names: &[Option<usize>]) -
     match mode {
         Mode::Default => Ok(()),
         Mode::InGraph(_) => Ok(()),
-        Mode::Each => columns.push(Expr::Col(place(names, None))),
+        Mode::Each => columns.push(first_column(names, None)),
     }
+}
+
+/// The column in which a name first stands.
+fn first_column(names: &[Option<usize>], name: Option<usize>) -> Expr
+    ensures { expr_seen result ≡ Col (position_or_len (name_eq name) names.now) }
+{
+    Expr::Col(place(names, name))
 }
 
 /// Where a name first stands; behind the last one where it does not.
