@@ -1,8 +1,8 @@
 // The plan of a basic graph pattern: the join of its patterns' plans (SPARQL 1.1, 18.3).
 ghost use Rattle.std.specs.Prelude.{[], flat_map, IfOk, length, map, OnOk, Some, ◌++◌, ◌∷◌, ◌≡◌};
+ghost use Rattle.std.specs.List.{position_or_len};
 ghost use Rattle.vkg_algebra.specs.Algebra.{Bgp};
 ghost use Rattle.vkg_algebra.specs.Visible.{visible};
-ghost use Rattle.std.specs.List.{position_or_len};
 ghost use Rattle.vkg_expr.specs.Expr.{Col};
 ghost use Rattle.vkg_expr.specs.Seen.{expr_seen};
 ghost use Rattle.vkg_plan.specs.Plan.{Plan};
