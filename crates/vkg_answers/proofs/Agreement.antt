@@ -1,6 +1,6 @@
 -- The condition of a Join over shared variables is that the solutions are compatible.
 use Rattle.std.proofs.Common.{◌≡◌, ℕ, zero, suc, ◌+◌, ◌<◌, ◌≤◌, Bool, true, false, List, [], ◌∷◌, ◌++◌, map, length, refl, sym, ap, ◌∙◌, arith}
-use Rattle.std.specs.Prelude.{Option, Some, None, ◌&&◌, ◌||◌, nat_eq, filter, fold, unwrap_or}
+use Rattle.std.specs.Prelude.{Option, Some, None, ◌&&◌, ◌||◌, nat_eq, filter}
 use Rattle.std.specs.List.{list_all, range_with_len}
 use Rattle.std.proofs.lemmas.List.Folds.{list_all-map}
 use Rattle.std.proofs.Math.Bool.{or-true}
@@ -14,11 +14,12 @@ use Rattle.vkg_terms.specs.Same.{term_eq}
 use Rattle.vkg_cells.specs.declared.cell.Cell.{Cell}
 use Rattle.vkg_cells.specs.Order.{same}
 use Rattle.vkg_cells.specs.declared.cell.Cell.TheVariants as cell
-use Rattle.vkg_schema.specs.Rows.{is_null, Row}
-use Rattle.vkg_values.specs.Logic.{or3}
+use Rattle.vkg_schema.specs.Rows.{is_known_true, is_null, Row}
 use Rattle.vkg_algebra.specs.Solutions.{compatible}
-use Rattle.vkg_expr.specs.Expr.{Expr}
+use Rattle.vkg_expr.specs.Expr.{Expr, exprs, IsNull, Same}
+use Rattle.vkg_expr.specs.Logic.{or_of}
 use Rattle.vkg_expr.specs.Value.{value_of, term_of, term_cell, truth_of, truth_cell, holds}
+use Rattle.vkg_expr.proofs.Conjuncts.{holds-Or}
 use Rattle.vkg_unfold.specs.declared.mode.Mode.{Mode}
 use Rattle.vkg_algebra.specs.Visible.{has}
 use Rattle.vkg_unfold.specs.Unfolded.{left_column, right_column, visible_column, columns_in, or_null}
@@ -27,7 +28,7 @@ use Rattle.vkg_answers.proofs.Joins.{agree}
 use Rattle.vkg_answers.proofs.Reading.{AreTermCells, AreBelow, read, read_left, read_right, read_typed, read_none, has-filter}
 
 or_cells : Cell → Cell → Bool
-or_cells c d = unwrap_or (truth_of (truth_cell (fold or3 (Some false) (map truth_of (cell.Bool (is_null c) ∷ cell.Bool (is_null d) ∷ truth_cell (same c d) ∷ []))))) false
+or_cells c d = is_null c || (is_null d || (is_known_true (truth_of (truth_cell (same c d))) || false))
 
 or_terms : (o p : Option Term) → or_cells (term_cell o) (term_cell p) ≡ agree o p
 unfolding or_cells
@@ -38,7 +39,12 @@ or_terms (Some t) (Some u) = refl
 
 pub holds-or_null : (a b : Expr) (row : Row) (o p : Option Term) → value_of a row ≡ term_cell o → value_of b row ≡ term_cell p → holds (or_null a b) row ≡ agree o p
 unfolding or_cells
-holds-or_null a b row o p e f = (λ i. or_cells (e i) (f i)) ∙ or_terms o p
+holds-or_null a b row o p e f = holds-Or row (exprs (IsNull a ∷ IsNull b ∷ Same a b ∷ [])) ∙ (λ i. or_cells (e i) (f i)) ∙ or_terms o p
+
+-- where the second is bound, its NULL need not be asked for
+pub holds-or_bound : (a b : Expr) (row : Row) (o : Option Term) (i : Term) → value_of a row ≡ term_cell o → value_of b row ≡ cell.Term i → holds (or_of (IsNull a ∷ Same a b ∷ [])) row ≡ agree o (Some i)
+unfolding or_cells
+holds-or_bound a b row o i e f = holds-Or row (exprs (IsNull a ∷ Same a b ∷ [])) ∙ (λ t. is_null (e t) || (is_known_true (truth_of (truth_cell (same (e t) (f t)))) || false)) ∙ or_terms o (Some i)
 
 pub compatible-map : (f g : ℕ → Option Term) (us : List ℕ) → compatible (map f us) (map g us) ≡ list_all (λ v. agree (f v) (g v)) us
 compatible-map f g [] = refl

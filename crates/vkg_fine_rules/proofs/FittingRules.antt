@@ -1,6 +1,7 @@
 -- The rules of a mapping within a well-formed schema fit it.
 use Rattle.std.proofs.Common.{◌≡◌, ◌∙◌, ℕ, zero, suc, ◌+◌, ◌<◌, false, List, [], ◌∷◌, ◌++◌, map, length, refl, sym, ap, subst, arith}
 use Rattle.std.specs.Prelude.{◌≢◌, Contains, flat_map, IfSome, Option, Some, None, option_map, slice_get}
+use Rattle.std.specs.Bool.{then_some}
 use Rattle.std.specs.List.{AllByRecursion}
 use Rattle.std.proofs.lemmas.Option.{none-some}
 use Rattle.vkg_lists.specs.Lists.{AllBelow}
@@ -28,7 +29,7 @@ use Rattle.vkg_expr.specs.declared.term_expr.Piece.TheVariants.{Chars, Hole}
 use Rattle.vkg_expr.specs.declared.term_expr.TermExpr.{TermExpr}
 use Rattle.vkg_expr.specs.declared.term_expr.TermExpr.TheVariants.{Fixed, Made, Resolved}
 use Rattle.vkg_expr.specs.TermExprs.{moved_piece, moved_term}
-use Rattle.vkg_expr.specs.Typing.{equality_kind, giving, same_kind}
+use Rattle.vkg_expr.specs.Typing.{equality_kind, same_kind}
 use Rattle.vkg_plan.specs.Kinds.{Tables}
 use Rattle.vkg_row_rules.specs.declared.row_rule.RowRule.{RowRule}
 use Rattle.vkg_row_rules.specs.RowRules.{object_term, row_rule, row_rules}
@@ -111,7 +112,7 @@ module _ (ks ls : List SqlType) where
 -- ---- joins
 
 families_give : (k l : SqlType) → family k ≡ family l → equality_kind (Some k) (Some l) ≡ Some kind.Bool
-families_give k l e = ap (λ b. giving kind.Bool b) ((nat_test.decides (family k) (family l)).1 e)
+families_give k l e = ap (λ b. then_some b kind.Bool) ((nat_test.decides (family k) (family l)).1 e)
 
 condition_fits : (ks ls : List SqlType) (c : ℕ × ℕ) → IsCondition ks ls c → FitsCondition ks ls c
 condition_fits ks ls c h = of (slice_get ks c.0) refl (slice_get ls c.1) refl h.comparable

@@ -5,10 +5,11 @@ use Rattle.std.proofs.lemmas.Bool.Decides.{nat_tests}
 use Rattle.std.proofs.lemmas.Iterator.Adapters.{option_map_id}
 use Rattle.std.proofs.lemmas.List.{append-nil}
 use Rattle.std.proofs.lemmas.Option.{same_Some, none-some}
-use Rattle.vkg_lists.proofs.Onto.{map_given}
+use Rattle.vkg_lists.specs.Options.{with_first}
+use Rattle.vkg_lists.proofs.Onto.{first_given, map_given}
 use Rattle.vkg_terms.specs.declared.template.Part.{Part}
 use Rattle.vkg_terms.specs.declared.template.Part.TheVariants.{Fixed, Hole}
-use Rattle.vkg_terms.specs.TemplateParts.{Mark, Plain, Open, Close, mark, marks, onto, escape, is_special, onto_fixed, hole, outside, inside, outside_if_any, template_of}
+use Rattle.vkg_terms.specs.TemplateParts.{Mark, Plain, Open, Close, mark, marks, escape, is_special, onto_fixed, hole, outside, inside, outside_if_any, template_of}
 use Rattle.vkg_terms.proofs.TemplateLemmas.{marks-cons, ordinary_cons, glue, glue_end, glue_hole}
 use Rattle.vkg_terms.specs.Name.{is_all_named, if_named, template_read, IsTemplateOf, IsNoTemplate}
 use Rattle.vkg_terms.specs.TemplateText.{escaped, template_text, IsNormal, Reads}
@@ -21,14 +22,14 @@ written Close = 125 ∷ []
 
 -- the marks of a written text
 plain_marks : (b : ℕ) (bs : List ℕ) (ms : List Mark) (s : Bool) → is_special b ≡ s → marks bs ≡ Some ms → marks ((if s then 92 ∷ b ∷ [] else b ∷ []) ++ bs) ≡ Some (Plain b ∷ ms)
-plain_marks b bs ms true e h = ap (λ t. if t then onto (Plain b) (marks bs) else None) e ∙ ap (onto (Plain b)) h
-plain_marks b bs ms false e h = ordinary_cons b bs e ∙ ap (onto (Plain b)) h
+plain_marks b bs ms true e h = ap (λ t. if t then with_first (Some (Plain b)) (marks bs) else None) e ∙ ap (with_first (Some (Plain b))) h
+plain_marks b bs ms false e h = ordinary_cons b bs e ∙ ap (with_first (Some (Plain b))) h
 
 marks-written : (ms : List Mark) → marks (flat_map written ms) ≡ Some ms
 marks-written [] = refl
 marks-written (Plain b ∷ ms) = plain_marks b (flat_map written ms) ms (is_special b) refl (marks-written ms)
-marks-written (Open ∷ ms) = marks-cons 123 (flat_map written ms) refl ∙ ap (onto Open) (marks-written ms)
-marks-written (Close ∷ ms) = marks-cons 125 (flat_map written ms) refl ∙ ap (onto Close) (marks-written ms)
+marks-written (Open ∷ ms) = marks-cons 123 (flat_map written ms) refl ∙ ap (with_first (Some Open)) (marks-written ms)
+marks-written (Close ∷ ms) = marks-cons 125 (flat_map written ms) refl ∙ ap (with_first (Some Close)) (marks-written ms)
 
 mark_written : (b : ℕ) (x y : Bool) → (b == 123) ≡ x → (b == 125) ≡ y → (b == 92) ≡ false → written (if x then Open else if y then Close else Plain b) ≡ b ∷ []
 mark_written b true y e f g = let h : 123 ≡ b = grind (arith, nat_tests) in ap (λ c. c ∷ []) h
@@ -38,26 +39,26 @@ mark_written b false false e f g = let h : is_special b ≡ false = grind (arith
 -- what the marks were written as
 one_mark : (b : ℕ) (bs : List ℕ) (ms : List Mark) → (b == 92) ≡ false → ((rest : List Mark) → marks bs ≡ Some rest → bs ≡ flat_map written rest) → marks (b ∷ bs) ≡ Some ms → b ∷ bs ≡ flat_map written ms
 one_mark b bs ms g more e =
-    let (rest, h, k) = map_given (λ ns. mark b ∷ ns) (marks bs) ms (sym (marks-cons b bs g) ∙ e) in
+    let (m, i, (rest, h, k)) = first_given (Some (mark b)) (marks bs) ms (sym (marks-cons b bs g) ∙ e) in
     ap (λ (t : List ℕ). b ∷ t) (more rest h)
     ∙ ap (λ (t : List ℕ). t ++ flat_map written rest) (sym (mark_written b (b == 123) (b == 125) refl refl g))
-    ∙ ap (flat_map written) k
+    ∙ ap (flat_map written) (ap (λ n. n ∷ rest) (same_Some (mark b) m i) ∙ k)
 
 escaped_mark : (b c : ℕ) (bs : List ℕ) (ms : List Mark) (s : Bool) → is_special c ≡ s → (b == 92) ≡ true → ((rest : List Mark) → marks bs ≡ Some rest → bs ≡ flat_map written rest)
-    → (if s then onto (Plain c) (marks bs) else None) ≡ Some ms → b ∷ c ∷ bs ≡ flat_map written ms
+    → (if s then with_first (Some (Plain c)) (marks bs) else None) ≡ Some ms → b ∷ c ∷ bs ≡ flat_map written ms
 escaped_mark b c bs ms false s g more e = absurd (none-some ms e)
 escaped_mark b c bs ms true s g more e =
-    let (rest, h, k) = map_given (λ ns. Plain c ∷ ns) (marks bs) ms e in
+    let (m, i, (rest, h, k)) = first_given (Some (Plain c)) (marks bs) ms e in
     let back : b ≡ 92 = grind (arith, nat_tests) in
     ap (λ n. n ∷ c ∷ bs) back
     ∙ ap (λ (t : List ℕ). 92 ∷ c ∷ t) (more rest h)
     ∙ ap (λ t. (if t then 92 ∷ c ∷ [] else c ∷ []) ++ flat_map written rest) (sym s)
-    ∙ ap (flat_map written) k
+    ∙ ap (flat_map written) (ap (λ n. n ∷ rest) (same_Some (Plain c) m i) ∙ k)
 
 two_marks : (b c : ℕ) (bs : List ℕ) (ms : List Mark) (x : Bool) → (b == 92) ≡ x → ((rest : List Mark) → marks bs ≡ Some rest → bs ≡ flat_map written rest) → ((rest : List Mark) → marks (c ∷ bs) ≡ Some rest → c ∷ bs ≡ flat_map written rest)
     → marks (b ∷ c ∷ bs) ≡ Some ms → b ∷ c ∷ bs ≡ flat_map written ms
 two_marks b c bs ms true g more one e =
-    escaped_mark b c bs ms (is_special c) refl g more (sym (ap (λ t. if t then escape c (marks bs) else onto (mark b) (marks (c ∷ bs))) g) ∙ e)
+    escaped_mark b c bs ms (is_special c) refl g more (sym (ap (λ t. if t then escape c (marks bs) else with_first (Some (mark b)) (marks (c ∷ bs))) g) ∙ e)
 two_marks b c bs ms false g more one e = one_mark b (c ∷ bs) ms g one e
 
 last_mark : (b : ℕ) (ms : List Mark) (x : Bool) → (b == 92) ≡ x → marks (b ∷ []) ≡ Some ms → b ∷ [] ≡ flat_map written ms

@@ -1,6 +1,7 @@
 -- The plan of every algebra has a column of terms for each variable, and in mode each one for the graph.
 use Rattle.std.proofs.Common.{◌≡◌, ◌∙◌, ℕ, suc, ◌<◌, ◌≤◌, ◌+◌, Bool, true, false, ◌||◌, ⊎_elim, List, [], ◌∷◌, ◌++◌, map, length, nat_eq, refl, sym, ap, subst, arith, append-nil, length-append}
 use Rattle.std.specs.Prelude.{Option, Some, None, replicate, flat_map, if◌then◌else◌, cond, not}
+use Rattle.std.specs.Bool.{then_some}
 use Rattle.std.specs.List.{AllByRecursion, filter, list_any, Contains, position_or_len}
 use Rattle.std.proofs.lemmas.Bool.{true≢false}
 use Rattle.std.proofs.lemmas.List.{length-map, replicate-append-replicate}
@@ -27,7 +28,7 @@ use Rattle.vkg_algebra.proofs.VisibleLemmas.{visible_once}
 use Rattle.vkg_expr.specs.Expr.{Expr, Col, Same, IsNull, exprs}
 use Rattle.vkg_expr.specs.Expr as expr
 use Rattle.vkg_expr.specs.Logic.{and_of, or_of, truth_const}
-use Rattle.vkg_expr.specs.Typing.{are_all, giving, is_one, kind_of, lexical_kind}
+use Rattle.vkg_expr.specs.Typing.{are_all, is_one, kind_of, lexical_kind}
 use Rattle.vkg_plan.specs.Kinds.{Kinds, Tables, beside_all, checked, side_by_side, kinds_of_each, plan_kinds}
 use Rattle.vkg_plan.specs.Plan.{Plan, Select, Project, Join, Left, plans, Distinct}
 use Rattle.vkg_row_rules.specs.declared.row_rule.RowRule.{RowRule}
@@ -48,24 +49,24 @@ truth_or_term true = kind.Bool
 truth_or_term false = kind.Term
 
 to_term_kind : (ks : Kinds) (b : Bool) (e : Expr) → kind_of e ks ≡ Some (truth_or_term b) → IsTerm ks (to_term b e)
-to_term_kind ks true e h = λ i. giving kind.Term (is_one kind.Text (lexical_kind (h i)))
+to_term_kind ks true e h = λ i. then_some (is_one kind.Text (lexical_kind (h i))) kind.Term
 to_term_kind ks false e h = h
 
 to_truth_kind : (ks : Kinds) (b : Bool) (e : Expr) → kind_of e ks ≡ Some (truth_or_term b) → IsTruth ks (to_truth b e)
 to_truth_kind ks true e h = h
-to_truth_kind ks false e h = λ i. giving kind.Bool (is_one kind.Term (h i))
+to_truth_kind ks false e h = λ i. then_some (is_one kind.Term (h i)) kind.Bool
 
 expr_kind : (ks : Kinds) (at : ℕ → Expr) → ((v : ℕ) → IsTerm ks (at v)) → (c : Condition) → kind_of (expr_of at c) ks ≡ Some (truth_or_term (gives_truth c))
 expr_kind ks at h (Variable v) = h v
 expr_kind ks at h (Constant t) = refl
 expr_kind ks at h (Bound v) = not_truth ks (IsNull (at v)) (null_truth ks (at v) (h v))
-expr_kind ks at h (Test f a) = λ i. giving kind.Bool (are_all kind.Term (with_first (to_term_kind ks (gives_truth a) (expr_of at a) (expr_kind ks at h a) i) (Some [])))
-expr_kind ks at h (Take f a) = λ i. giving kind.Term (are_all kind.Term (with_first (to_term_kind ks (gives_truth a) (expr_of at a) (expr_kind ks at h a) i) (Some [])))
-expr_kind ks at h (Compare f a b) = λ i. giving kind.Bool (are_all kind.Term (with_first (to_term_kind ks (gives_truth a) (expr_of at a) (expr_kind ks at h a) i) (with_first (to_term_kind ks (gives_truth b) (expr_of at b) (expr_kind ks at h b) i) (Some []))))
+expr_kind ks at h (Test f a) = λ i. then_some (are_all kind.Term (with_first (to_term_kind ks (gives_truth a) (expr_of at a) (expr_kind ks at h a) i) (Some []))) kind.Bool
+expr_kind ks at h (Take f a) = λ i. then_some (are_all kind.Term (with_first (to_term_kind ks (gives_truth a) (expr_of at a) (expr_kind ks at h a) i) (Some []))) kind.Term
+expr_kind ks at h (Compare f a b) = λ i. then_some (are_all kind.Term (with_first (to_term_kind ks (gives_truth a) (expr_of at a) (expr_kind ks at h a) i) (with_first (to_term_kind ks (gives_truth b) (expr_of at b) (expr_kind ks at h b) i) (Some [])))) kind.Bool
 expr_kind ks at h (SameTerm a b) = same_truth ks (to_term (gives_truth a) (expr_of at a)) (to_term (gives_truth b) (expr_of at b)) (to_term_kind ks (gives_truth a) (expr_of at a) (expr_kind ks at h a)) (to_term_kind ks (gives_truth b) (expr_of at b) (expr_kind ks at h b))
 expr_kind ks at h (Not a) = not_truth ks (to_truth (gives_truth a) (expr_of at a)) (to_truth_kind ks (gives_truth a) (expr_of at a) (expr_kind ks at h a))
-expr_kind ks at h (And a b) = λ i. giving kind.Bool (are_all kind.Bool (with_first (to_truth_kind ks (gives_truth a) (expr_of at a) (expr_kind ks at h a) i) (with_first (to_truth_kind ks (gives_truth b) (expr_of at b) (expr_kind ks at h b) i) (Some []))))
-expr_kind ks at h (Or a b) = λ i. giving kind.Bool (are_all kind.Bool (with_first (to_truth_kind ks (gives_truth a) (expr_of at a) (expr_kind ks at h a) i) (with_first (to_truth_kind ks (gives_truth b) (expr_of at b) (expr_kind ks at h b) i) (Some []))))
+expr_kind ks at h (And a b) = λ i. then_some (are_all kind.Bool (with_first (to_truth_kind ks (gives_truth a) (expr_of at a) (expr_kind ks at h a) i) (with_first (to_truth_kind ks (gives_truth b) (expr_of at b) (expr_kind ks at h b) i) (Some [])))) kind.Bool
+expr_kind ks at h (Or a b) = λ i. then_some (are_all kind.Bool (with_first (to_truth_kind ks (gives_truth a) (expr_of at a) (expr_kind ks at h a) i) (with_first (to_truth_kind ks (gives_truth b) (expr_of at b) (expr_kind ks at h b) i) (Some [])))) kind.Bool
 
 filter_truth : (ks : Kinds) (at : ℕ → Expr) → ((v : ℕ) → IsTerm ks (at v)) → (c : Condition) → IsTruth ks (truth_expr at c)
 filter_truth ks at h c = to_truth_kind ks (gives_truth c) (expr_of at c) (expr_kind ks at h c)

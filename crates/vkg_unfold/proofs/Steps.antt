@@ -29,26 +29,23 @@ use Rattle.vkg_unfold.proofs.Chains.{truth-and, truth-or}
 
 -- ---- each once
 
-abbrev second : Named → Expr
-second n = n.1
-
 first_push : (xs : List NamedValue) (x : NamedValue) →
-    map second (distinct same_name (map named_seen (xs ++ x ∷ [])))
-    ≡ map second (distinct same_name (map named_seen xs)) ++ (if list_any (λ (n : NamedValue). name_eq n.name x.name) xs then [] else expr_seen x.expr ∷ [])
+    map (λ (n : Named). n.1) (distinct same_name (map named_seen (xs ++ x ∷ [])))
+    ≡ map (λ (n : Named). n.1) (distinct same_name (map named_seen xs)) ++ (if list_any (λ (n : NamedValue). name_eq n.name x.name) xs then [] else expr_seen x.expr ∷ [])
 first_push xs x =
-    ap (λ l. map second (distinct same_name l)) (map-append named_seen xs (x ∷ []))
-    ∙ ap (map second) (distinct_push same_name (map named_seen xs) (named_seen x))
-    ∙ map-append second (distinct same_name (map named_seen xs)) (if list_any (λ y. same_name y (named_seen x)) (map named_seen xs) then [] else named_seen x ∷ [])
-    ∙ ap (λ l. map second (distinct same_name (map named_seen xs)) ++ l) (one (list_any (λ y. same_name y (named_seen x)) (map named_seen xs)) ∙ ap (λ b. if b then [] else expr_seen x.expr ∷ []) (list_any-map (λ y. same_name y (named_seen x)) named_seen xs))
+    ap (λ l. map (λ (n : Named). n.1) (distinct same_name l)) (map-append named_seen xs (x ∷ []))
+    ∙ ap (map (λ (n : Named). n.1)) (distinct_push same_name (map named_seen xs) (named_seen x))
+    ∙ map-append (λ (n : Named). n.1) (distinct same_name (map named_seen xs)) (if list_any (λ y. same_name y (named_seen x)) (map named_seen xs) then [] else named_seen x ∷ [])
+    ∙ ap (λ l. map (λ (n : Named). n.1) (distinct same_name (map named_seen xs)) ++ l) (one (list_any (λ y. same_name y (named_seen x)) (map named_seen xs)) ∙ ap (λ b. if b then [] else expr_seen x.expr ∷ []) (list_any-map (λ y. same_name y (named_seen x)) named_seen xs))
   where
-    one : (b : Bool) → map second (if b then [] else named_seen x ∷ []) ≡ (if b then [] else expr_seen x.expr ∷ [])
+    one : (b : Bool) → map (λ (n : Named). n.1) (if b then [] else named_seen x ∷ []) ≡ (if b then [] else expr_seen x.expr ∷ [])
     one true = refl
     one false = refl
 
 pub first_more : (list : List NamedValue) (i : ℕ) (d : NamedValue) → i < length list →
     map (λ (n : Named). n.1) (distinct same_name (map named_seen (take (i + 1) list)))
     ≡ map (λ (n : Named). n.1) (distinct same_name (map named_seen (take i list))) ++ (if list_any (λ (n : NamedValue). name_eq n.name (get_or list i d).name) (take i list) then [] else expr_seen (get_or list i d).expr ∷ [])
-first_more list i d h = ap (λ l. map second (distinct same_name (map named_seen l))) (take_more list i d h) ∙ first_push (take i list) (get_or list i d)
+first_more list i d h = ap (λ l. map (λ (n : Named). n.1) (distinct same_name (map named_seen l))) (take_more list i d h) ∙ first_push (take i list) (get_or list i d)
 
 -- ---- repeats of names
 
@@ -111,7 +108,7 @@ of_one_algebra vs c = refl
 
 -- ---- columns of a pattern
 
-hidden_terms : (mode : Mode) (gs : List Expr) → map second (flat_map (λ g. if_each mode (None, g)) gs) ≡ flat_map (if_each mode) gs
+hidden_terms : (mode : Mode) (gs : List Expr) → map (λ (n : Named). n.1) (flat_map (λ g. if_each mode (None, g)) gs) ≡ flat_map (if_each mode) gs
 hidden_terms Default [] = refl
 hidden_terms Default (g ∷ gs) = hidden_terms Default gs
 hidden_terms (InGraph i) [] = refl
@@ -123,8 +120,8 @@ pub columns_are : (mode : Mode) (p : TriplePattern) (rule : RowRule) →
     map (λ (n : Named). n.1) (pattern_places mode p rule)
     ≡ map (λ (n : Named). n.1) (distinct same_name (flat_map named (places p rule))) ++ flat_map (if_each mode) (graph_terms rule.graph)
 columns_are mode p rule =
-    map-append second (distinct same_name (flat_map named (places p rule))) (flat_map (λ g. if_each mode (None, g)) (graph_terms rule.graph))
-    ∙ ap (λ l. map second (distinct same_name (flat_map named (places p rule))) ++ l) (hidden_terms mode (graph_terms rule.graph))
+    map-append (λ (n : Named). n.1) (distinct same_name (flat_map named (places p rule))) (flat_map (λ g. if_each mode (None, g)) (graph_terms rule.graph))
+    ∙ ap (λ l. map (λ (n : Named). n.1) (distinct same_name (flat_map named (places p rule))) ++ l) (hidden_terms mode (graph_terms rule.graph))
 
 -- ---- the first column of a name
 
