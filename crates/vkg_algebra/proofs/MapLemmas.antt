@@ -1,6 +1,5 @@
 -- Solutions as maps: when two are one, joins of maps by what they bind, the left join in words.
 use Rattle.std.proofs.Common.{◌≡◌, ℕ, Bool, true, false, not, ◌&&◌, List, length, None, inl, inr, ⊎_elim, refl, sym, subst}
-use Rattle.std.specs.Bool.{Decides}
 use Rattle.std.specs.List.{Contains, filter, flat_map, list_all}
 use Rattle.std.proofs.lemmas.Bool.{both_ways}
 use Rattle.std.proofs.lemmas.List.{ext_get_or}
