@@ -13,7 +13,7 @@ use Rattle.vkg_lists.proofs.Tests.{list_test, option_test}
 use Rattle.vkg_terms.proofs.SameLemmas.{terms_apart}
 use Rattle.vkg_terms.specs.Same.{term_eq}
 use Rattle.vkg_algebra.specs.Answer.{solution_eq}
-use Rattle.vkg_algebra.specs.Laws.{AreCompatible, IsAlone, IsJoined, IsLeftJoin, KeepsMaps}
+use Rattle.vkg_algebra.specs.Laws.{IsAlone, IsJoined, IsLeftJoin, KeepsMaps}
 use Rattle.vkg_algebra.specs.Solutions.{Solution, compatible, difference, join, lookup, merge}
 
 -- ---- tests of terms and of solutions
