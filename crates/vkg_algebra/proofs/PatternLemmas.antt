@@ -2,22 +2,23 @@
 use Rattle.std.proofs.Common.{◌≡◌, ◌∙◌, ◌⊎◌, ℕ, zero, suc, Bool, true, false, cond, IsSome, List, [], ◌∷◌, ◌++◌, flat_map, length, Option, Some, None, inl, inr, ⊎_elim, refl, sym, ap, subst, true≢false, arith}
 use Rattle.std.specs.List.{Contains, IsDistinct}
 use Rattle.std.specs.Option.{option_or}
-use Rattle.std.proofs.lemmas.Bool.{cases_Bool}
+use Rattle.std.proofs.lemmas.Bool.{cases_Bool, cond_both}
 use Rattle.std.proofs.lemmas.List.Elements.{Contains-append_left, Contains-append_right, Contains-append_cases}
 use Rattle.vkg_lists.proofs.Counts.{Decides-list_any}
 use Rattle.vkg_lists.proofs.Distinct.{IsDistinct-cons, IsDistinct-flat_map, IsDistinct-nil}
 use Rattle.vkg_lists.proofs.Members.{Contains-none, Contains-from_flat_map, Contains-cond}
 use Rattle.vkg_lists.proofs.Results.{some_if}
-use Rattle.vkg_lists.proofs.Rows.{length-merge, value_at-merge}
+use Rattle.vkg_lists.proofs.Rows.{Decides-compatible, length-merge, value_at-merge}
 use Rattle.vkg_lists.proofs.Tests.{nat_test}
 use Rattle.vkg_lists.specs.Rows.{merged_if_compatible}
 use Rattle.vkg_terms.specs.declared.term.Term.{Term}
+use Rattle.vkg_terms.proofs.SameLemmas.{terms_apart}
 use Rattle.vkg_terms.specs.Same.{term_eq}
 use Rattle.vkg_algebra.specs.Answer.{solution_eq}
 use Rattle.vkg_algebra.specs.Laws.{AreCompatible}
 use Rattle.vkg_algebra.specs.Solutions.{Solution, compatible, join, lookup, merge}
 use Rattle.vkg_algebra.specs.Visible.{has}
-use Rattle.vkg_algebra.proofs.MapLemmas.{Contains-from_join, Contains-join, same_map, says_compatible, solution_test}
+use Rattle.vkg_algebra.proofs.MapLemmas.{Contains-from_join, Contains-join, same_map, solution_test}
 
 -- ---- what a merged map binds
 
@@ -35,12 +36,8 @@ length-restricted : (keep : ℕ → Bool) (s : Solution) → length (restricted 
 length-restricted keep [] = refl
 length-restricted keep (x ∷ s) = ap suc (length-restricted (λ v. keep (suc v)) s)
 
-cond_same : {A : Type 0} (b : Bool) (x : A) → cond b x x ≡ x
-cond_same true x = refl
-cond_same false x = refl
-
 lookup-restricted : (keep : ℕ → Bool) (s : Solution) (v : ℕ) → lookup (restricted keep s) v ≡ cond (keep v) (lookup s v) None
-lookup-restricted keep [] v = sym (cond_same (keep v) None)
+lookup-restricted keep [] v = sym (cond_both {A = Option Term} (keep v) None None (λ o. o ≡ None) (λ e. refl) (λ e. refl))
 lookup-restricted keep (x ∷ s) zero = refl
 lookup-restricted keep (x ∷ s) (suc v) = lookup-restricted (λ w. keep (suc w)) s v
 
@@ -142,12 +139,12 @@ module _ {n : ℕ} {vs ws : List ℕ} {P Q : Solution → Type 0} {ls rs : List 
       value_at-merge l r v
       ∙ (λ i. option_or (lookup-restricted (has vs) s v i) (lookup-restricted (has ws) s v i))
       ∙ or_kept (has vs v) (has ws v) (lookup s v) (λ h. ⊎_elim (λ c. inl (is_among vs v c)) (λ c. inr (is_among ws v c)) (Contains-append_cases vs ws v (m.bound v h)))) in
-      subst (Contains (join ls rs)) whole (Contains-join ls rs l r in_first in_second ((says_compatible l r).1 agree))
+      subst (Contains (join ls rs)) whole (Contains-join ls rs l r in_first in_second ((Decides-compatible terms_apart l r).1 agree))
 
   pub both_join : Describes n (vs ++ ws) (λ s. P s × Q s) (join ls rs)
   both_join = record {
     onto = λ s c. let pair = Contains-from_join ls rs s c in
-        subst (IsMapOf n (vs ++ ws) (λ s. P s × Q s)) pair.is (joined_map pair.first pair.second ((says_compatible pair.first pair.second).0 pair.agree) (d.onto pair.first pair.of_first) (e.onto pair.second pair.of_second));
+        subst (IsMapOf n (vs ++ ws) (λ s. P s × Q s)) pair.is (joined_map pair.first pair.second ((Decides-compatible terms_apart pair.first pair.second).0 pair.agree) (d.onto pair.first pair.of_first) (e.onto pair.second pair.of_second));
     back = split_map;
     binds = λ s f v c. ⊎_elim (d.binds s f.0 v) (e.binds s f.1 v) (Contains-append_cases vs ws v c);
     moves = λ s t f h. (d.moves s t f.0 (λ v c. h v (Contains-append_left vs ws v c)), e.moves s t f.1 (λ v c. h v (Contains-append_right vs ws v c)));
@@ -171,4 +168,4 @@ module _ {n : ℕ} {vs ws : List ℕ} {P Q : Solution → Type 0} {ls rs : List 
       second_same l r t z x y k h =
           let m = e.onto r k in
           let o = e.onto t h in
-          same_bound r t m o (λ v c. sym (at_second l r ((says_compatible l r).0 x.0) m.fact v c) ∙ ap (λ s. lookup s v) (x.1 ∙ sym y.1) ∙ at_second l t ((says_compatible l t).0 y.0) o.fact v c)
+          same_bound r t m o (λ v c. sym (at_second l r ((Decides-compatible terms_apart l r).0 x.0) m.fact v c) ∙ ap (λ s. lookup s v) (x.1 ∙ sym y.1) ∙ at_second l t ((Decides-compatible terms_apart l t).0 y.0) o.fact v c)

@@ -1,16 +1,18 @@
 -- The parts of an expression that is typed on a row are typed on it, and their values are what its step asks for.
-use Rattle.std.proofs.Common.{arith, ◌≡◌, ℕ, zero, suc, ◌<◌, ◌≤◌, true, ◌∙◌, List, [], ◌∷◌, ◌++◌, get_or, length, map, refl, sym, ap, subst}
-use Rattle.std.specs.Prelude.{All, Option, Some, None, Result, Ok, Err, IfOk, ◌==◌}
+use Rattle.std.proofs.Common.{arith, ◌≡◌, ℕ, suc, ◌<◌, ◌≤◌, true, ◌∙◌, List, [], ◌∷◌, ◌++◌, get_or, length, map, refl, sym, ap, subst}
+use Rattle.std.specs.Prelude.{All, Option, Some, None, Result, Ok, Err, IfOk, unwrap_or, ◌==◌}
 use Rattle.std.specs.Bool.{then_some}
 use Rattle.std.specs.List.{AllByRecursion, list_all}
 use Rattle.std.proofs.lemmas.Bool.{eqb-true}
-use Rattle.std.proofs.lemmas.Option.{same_Some, slice_get_within}
+use Rattle.std.proofs.lemmas.Option.{slice_get_within}
 use Rattle.std.proofs.lemmas.List.Elements.{All-from_recursion}
 use Rattle.std.proofs.lemmas.Result.{IfOk-weaker}
+use Rattle.vkg_lists.proofs.Each.{zip_get}
 use Rattle.vkg_lists.proofs.Onto.{first_given, map_given}
 use Rattle.vkg_lists.proofs.Results.{then_given}
 use Rattle.vkg_terms.specs.declared.term.Annotation.{Annotation}
 use Rattle.vkg_cells.specs.declared.cell.Cell.{Cell}
+use Rattle.vkg_cells.specs.declared.cell.Cell.TheVariants as cell
 use Rattle.vkg_cells.specs.declared.cell.SqlType.{SqlType}
 use Rattle.vkg_cells.specs.declared.cell.SqlType.TheVariants as kind
 use Rattle.vkg_schema.specs.Rows.{Row}
@@ -38,10 +40,9 @@ abbrev GotEach : {E : Type 0} → Result (List Cell) E → Exprs → Row → Typ
 GotEach r es row = IfOk r (λ cs. cs ≡ values_of es row)
 
 pub fits_row : (ks : List SqlType) (row : Row) → HasKinds ks row → FitsRow ks row
-fits_row [] row h at k e = cc
-fits_row (l ∷ ks) [] h at k e = absurd h
-fits_row (l ∷ ks) (c ∷ cs) h zero k e = subst (λ m. Fits m c) (same_Some l k e) h.0
-fits_row (l ∷ ks) (c ∷ cs) h (suc at) k e = fits_row ks cs h.1 at k e
+fits_row ks row h at k e =
+    let c = zip_get (λ k c. fits k c ≡ true) ks row at k h e in
+    subst (λ o. fits k (unwrap_or o cell.Null) ≡ true) (sym c.1) c.2
 
 pub kinds-append : (ks ls : List SqlType) (cs ds : Row) → HasKinds ks cs → HasKinds ls ds → HasKinds (ks ++ ls) (cs ++ ds)
 kinds-append [] ls [] ds h k = k

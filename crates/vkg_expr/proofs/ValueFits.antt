@@ -1,8 +1,9 @@
 -- A typed expression has a cell of its kind, or NULL.
-use Rattle.std.proofs.Common.{◌≡◌, ℕ, Bool, true, false, not, List, [], ◌∷◌, refl, sym, subst}
+use Rattle.std.proofs.Common.{◌≡◌, ◌∙◌, ℕ, Bool, true, false, not, List, [], ◌∷◌, refl, sym, ap, subst}
 use Rattle.std.specs.Prelude.{Option, Some, None, find, unwrap_or, if◌then◌else◌}
 use Rattle.std.specs.List.{list_all}
 use Rattle.std.proofs.lemmas.Option.{same_Some, cond_some}
+use Rattle.vkg_lists.specs.Sets.{IsEqualityTest}
 use Rattle.vkg_lists.proofs.Onto.{first_given, map_given}
 use Rattle.vkg_lists.proofs.Results.{then_given}
 use Rattle.vkg_terms.specs.declared.term.Term.{Term}
@@ -120,6 +121,9 @@ kind_same kind.Term kind.Date e = cc
 kind_same kind.Term kind.Stamp e = cc
 kind_same kind.Term kind.Bin e = cc
 kind_same kind.Term kind.Term e = refl
+
+pub kinds_apart : IsEqualityTest same_kind
+kinds_apart = record { decides = λ k l. (kind_same k l, λ e. ap (same_kind k) (sym e) ∙ itself k) }
 
 coalesced-fits : (k : SqlType) (ms : List SqlType) (cs : List Cell) → list_all (same_kind k) ms ≡ true → HasKinds ms cs → Fits k (coalesced cs)
 coalesced-fits k [] [] a h = null_fits k

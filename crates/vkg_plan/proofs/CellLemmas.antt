@@ -1,22 +1,13 @@
 -- Cells and rows that are one are equal.
-use Rattle.std.proofs.Common.{◌≡◌, refl, sym, ◌∙◌, ap, Bool, true, false}
+use Rattle.std.proofs.Common.{◌≡◌, refl, sym, ◌∙◌, ap, true}
+use Rattle.std.specs.Cmp.{booleans_Decides}
 use Rattle.vkg_lists.specs.Sets.{IsEqualityTest}
 use Rattle.vkg_lists.proofs.Counts.{eq_itself, eq_same}
 use Rattle.vkg_lists.proofs.Tests.{list_test}
 use Rattle.vkg_terms.proofs.SameLemmas.{bytes_itself, same_bytes, terms_apart}
 use Rattle.vkg_cells.specs.declared.cell.Cell.{Cell}
 use Rattle.vkg_cells.specs.declared.cell.Cell.TheVariants as cell
-use Rattle.vkg_plan.specs.Rows.{one_cell, one_row, truth_eq}
-
-same_bool : (b c : Bool) → truth_eq b c ≡ true → b ≡ c
-same_bool true true e = refl
-same_bool true false e = cc
-same_bool false true e = cc
-same_bool false false e = refl
-
-bool_itself : (b : Bool) → truth_eq b b ≡ true
-bool_itself true = refl
-bool_itself false = refl
+use Rattle.vkg_plan.specs.Rows.{one_cell, one_row}
 
 same_cell : (a b : Cell) → one_cell a b ≡ true → a ≡ b
 same_cell cell.Null cell.Null e = refl
@@ -59,7 +50,7 @@ same_cell (cell.Bool x) cell.Null e = cc
 same_cell (cell.Bool x) (cell.Text y) e = cc
 same_cell (cell.Bool x) (cell.Int y) e = cc
 same_cell (cell.Bool x) (cell.Dec y) e = cc
-same_cell (cell.Bool x) (cell.Bool y) e = ap cell.Bool (same_bool x y e)
+same_cell (cell.Bool x) (cell.Bool y) e = ap cell.Bool ((booleans_Decides x y).0 e)
 same_cell (cell.Bool x) (cell.Date y) e = cc
 same_cell (cell.Bool x) (cell.Stamp y) e = cc
 same_cell (cell.Bool x) (cell.Bin y) e = cc
@@ -106,7 +97,7 @@ cell_itself cell.Null = refl
 cell_itself (cell.Text x) = bytes_itself x
 cell_itself (cell.Int x) = bytes_itself x
 cell_itself (cell.Dec x) = bytes_itself x
-cell_itself (cell.Bool x) = bool_itself x
+cell_itself (cell.Bool x) = (booleans_Decides x x).1 refl
 cell_itself (cell.Date x) = bytes_itself x
 cell_itself (cell.Stamp x) = bytes_itself x
 cell_itself (cell.Bin x) = bytes_itself x
