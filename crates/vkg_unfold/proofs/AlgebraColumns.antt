@@ -23,7 +23,6 @@ use Rattle.vkg_sparql.specs.Query.{Condition, Variable, Constant, Bound, Test, T
 use Rattle.vkg_algebra.specs.Algebra.{Algebra, Bgp, LeftJoin, Filter, Graph}
 use Rattle.vkg_algebra.specs.Algebra as algebra
 use Rattle.vkg_algebra.specs.Visible.{each_once, has, node_variables, pattern_variables, visible}
-use Rattle.vkg_algebra.proofs.PatternLemmas.{is_among}
 use Rattle.vkg_algebra.proofs.VisibleLemmas.{visible_once}
 use Rattle.vkg_expr.specs.Expr.{Expr, Col, Same, IsNull, exprs}
 use Rattle.vkg_expr.specs.Expr as expr
@@ -256,7 +255,7 @@ agreement_truth mode vs ws =
     recursion_append (IsTruth ks) (map shared (filter (has ws) vs)) (if_each mode (Same (Col (length vs)) (Col (columns_in mode vs + length ws))))
     (map_each (IsTruth ks) shared (filter (has ws) vs) (λ v c.
     let w = Contains-from_filter (has ws) vs v c in
-    let l = left_term mode vs ws v (is_among vs v w.0) in
+    let l = left_term mode vs ws v ((Decides-list_any nat_test vs v).1 w.0) in
     let r = right_term mode vs ws v w.1 in
     or_truth ks (IsNull (left_column vs v) ∷ IsNull (right_column mode vs ws v) ∷ Same (left_column vs v) (right_column mode vs ws v) ∷ [])
     (null_truth ks (left_column vs v) l, (null_truth ks (right_column mode vs ws v) r, (same_truth ks (left_column vs v) (right_column mode vs ws v) l r, tt)))))
@@ -338,7 +337,7 @@ module _ (schema : Tables) where
   behind_kinds first vs n p h k = pair_kinds n (length vs) first p (truth_const true) h k refl
 
   column_term : (n : ℕ) (vs : List ℕ) (v : ℕ) → Contains vs v → IsTerm (replicate (n + length vs) kind.Term) (column vs n v)
-  column_term n vs v c = let k = has_place vs v (is_among vs v c) in term_at (n + length vs) (n + position_or_len (nat_eq v) vs) (omega (arith, k))
+  column_term n vs v c = let k = has_place vs v ((Decides-list_any nat_test vs v).1 c) in term_at (n + length vs) (n + position_or_len (nat_eq v) vs) (omega (arith, k))
 
   after_test_kinds : (first : Plan) (vs : List ℕ) (p : Plan) → HasTermKinds schema 0 first → HasTermKinds schema (length vs) p → HasTermKinds schema (length vs) (after first vs 0 p)
   after_test_kinds first vs p h k =
@@ -378,7 +377,7 @@ module _ (schema : Tables) where
       by true e = term_at (suc (length vs)) (length vs) (omega arith)
       by false e =
           let there : Contains vs w = ⊎_elim (λ k. absurd (true≢false (sym ((nat_test.decides v w).1 k) ∙ e))) (λ k. k) (Contains-cons_cases v vs w (Contains-from_distinct nat_eq (v ∷ vs) w c)) in
-          let k = has_place vs w (is_among vs w there) in
+          let k = has_place vs w ((Decides-list_any nat_test vs w).1 there) in
           term_at (suc (length vs)) (position_or_len (nat_eq w) vs) (omega (arith, k))
 
   each_graph_kinds : (vs : List ℕ) (v : ℕ) (p : Plan) → HasTermKinds schema (suc (length vs)) p → HasTermKinds schema (length (each_once (v ∷ vs))) (each_graph vs v p)
