@@ -95,11 +95,7 @@ fn names_of_turtle(rt: HostRuntime) -> Result<(), Fail> {
 }
 
 fn run_of_words(rt: &HostRuntime, times: usize) -> Result<String, Fail> {
-    let mut text = String::new(rt.alloc());
-    for _ in 0..times {
-        text.push_str("a.b1.")?;
-    }
-    Ok(text)
+    Ok("a.b1.".repeat(rt.alloc(), times)?)
 }
 
 #[test]
