@@ -39,7 +39,7 @@ use Rattle.vkg_unfold.specs.declared.mode.Mode.TheVariants.{Default, InGraph, Ea
 use Rattle.vkg_unfold.specs.FineRows.{IsNarrow, IsFineRow, IsNarrowGraph}
 use Rattle.vkg_unfold.specs.StandsFor.{IsIn, belongs, hidden_is, solution_of, solutions_of}
 use Rattle.vkg_answers.proofs.Graphs.{name_row, Plain, stands_default, stands_named}
-use Rattle.vkg_answers.proofs.Sources.{all_hold, member_rows, rows_or_none, union_rows, not_nulls, in_graph, graph_passes_is}
+use Rattle.vkg_answers.proofs.Sources.{all_hold, member_rows, rows_or_none, union_rows, not_nulls, in_graph, graph_passes_is, three_fail}
 use Rattle.vkg_answers.proofs.Columns.{unbound_is}
 use Rattle.vkg_answers.proofs.Modes.{IsRowOf}
 use Rattle.vkg_answers.proofs.Reading.{cells-nil, cells-cons}
@@ -70,12 +70,6 @@ truths true true false m t = refl
 truths true true true false t = refl
 truths true true true true true = refl
 truths true true true true false = refl
-
-none_of : (a b c : Bool) → no_row ≡ (if a && (b && (c && false)) then [] ∷ [] else no_row)
-none_of false b c = refl
-none_of true false c = refl
-none_of true true false = refl
-none_of true true true = refl
 
 -- rows without columns, each once
 one_empty : (qs : List Quad) → distinct one_row (map empty_row qs) ≡ (if not (is_empty qs) then [] ∷ [] else [])
@@ -143,7 +137,7 @@ module _ (schema : Tables) (rules : List RowRule) (db : Database) (fine : (rule 
 
         of : (t : Option (List Expr)) → graph_test (InGraph i) rule.graph ≡ t → rows_or_none schema db (rule_member schema rule [] [] t) ≡ flat_map pieces rows
         of None e = sym (flat_map_nothing pieces rows (λ row k. sym (
-            none_of (is_some (term_at rule.subject row)) (is_some (term_at rule.predicate row)) (is_some (term_at rule.object row))
+            sym (ap (λ t. if t then [] ∷ [] else no_row) (three_fail (is_some (term_at rule.subject row)) (is_some (term_at rule.predicate row)) (is_some (term_at rule.object row))))
             ∙ ap (λ b. if is_some (term_at rule.subject row) && (is_some (term_at rule.predicate row) && (is_some (term_at rule.object row) && b)) then [] ∷ [] else no_row) (passes row k None e)
             ∙ sym (piece row))))
         of (Some test) e =

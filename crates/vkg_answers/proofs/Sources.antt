@@ -1,5 +1,6 @@
 -- The members of a triple pattern's plan over the rows of their rules, and the graph test of each mode.
 use Rattle.std.proofs.Common.{◌≡◌, ℕ, Bool, true, false, List, [], ◌∷◌, ◌++◌, map, refl, sym, ap, ◌∙◌, true≢false}
+use Rattle.std.proofs.Math.Bool.{and-false}
 use Rattle.std.specs.Prelude.{Option, Some, None, not, ◌&&◌, filter, flat_map, filter_map, is_some, if◌then◌else◌, unwrap_or, option_map}
 use Rattle.std.specs.Option.{option_map_or}
 use Rattle.std.specs.List.{list_all, cons_option}
@@ -118,6 +119,10 @@ not_same_const_is e t row = ap (λ c. not_same_cells c (cell.Term t)) (term_expr
     of : (o : Option Term) → not_same_cells (term_cell o) (cell.Term t) ≡ option_map_or (λ u. not (term_eq u t)) o false
     of None = refl
     of (Some u) = refl
+
+-- a test that fails, behind three
+pub three_fail : (a b c : Bool) → (a && (b && (c && false))) ≡ false
+three_fail a b c = ap (λ t. a && (b && t)) (and-false c) ∙ ap (λ t. a && t) (and-false b) ∙ and-false a
 
 -- in mode each the graph's term is the one that is read
 abbrev pub graph_is : Mode → Option Term → Option TermExpr → Row → Bool
