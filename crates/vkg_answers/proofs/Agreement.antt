@@ -1,14 +1,14 @@
 -- The condition of a Join over shared variables is that the solutions are compatible.
-use Rattle.std.proofs.Common.{◌≡◌, ℕ, zero, suc, ◌+◌, ◌<◌, ◌≤◌, Bool, true, false, List, [], ◌∷◌, ◌++◌, map, length, refl, sym, ap, ◌∙◌, arith}
-use Rattle.std.specs.Prelude.{Option, Some, None, ◌&&◌, ◌||◌, nat_eq, filter}
+use Rattle.std.proofs.Common.{◌≡◌, ℕ, ◌+◌, ◌<◌, ◌≤◌, Bool, true, false, List, [], ◌∷◌, ◌++◌, map, length, refl, sym, ap, ◌∙◌, arith}
+use Rattle.std.specs.Prelude.{Option, Some, None, ◌&&◌, ◌||◌, filter}
 use Rattle.std.specs.List.{list_all, range_with_len}
 use Rattle.std.proofs.lemmas.List.Folds.{list_all-map}
-use Rattle.std.proofs.Math.Bool.{or-true}
 use Rattle.vkg_lists.proofs.Members.{each_of_all, all_of_each}
 use Rattle.vkg_lists.proofs.Tests.{nat_test}
-use Rattle.vkg_lists.proofs.Counts.{eq_itself, Decides-list_any}
+use Rattle.vkg_lists.proofs.Counts.{Decides-list_any}
 use Rattle.vkg_lists.proofs.Bools.{and_parts, same_truth}
 use Rattle.vkg_lists.proofs.Rows.{agree_none}
+use Rattle.vkg_lists.proofs.Each.{member_range}
 use Rattle.vkg_terms.specs.declared.term.Term.{Term}
 use Rattle.vkg_terms.specs.Same.{term_eq}
 use Rattle.vkg_cells.specs.declared.cell.Cell.{Cell}
@@ -57,9 +57,7 @@ pub all_intro : (p : ℕ → Bool) (vs : List ℕ) → ((v : ℕ) → has vs v �
 all_intro p vs h = all_of_each p vs (λ v c. h v ((Decides-list_any nat_test vs v).1 c))
 
 pub has-upto : (n k v w : ℕ) → v < n → w ≡ k + v → has (range_with_len k n) w ≡ true
-has-upto zero k v w h e = absurd (omega arith)
-has-upto (suc n) k zero w h e = let f : w ≡ k = omega arith in ap (λ b. b || has (range_with_len (k + 1) n) w) (ap (nat_eq w) (sym f) ∙ eq_itself nat_test w)
-has-upto (suc n) k (suc v) w h e = ap (λ b. nat_eq w k || b) (has-upto n (k + 1) v w (omega arith) (omega arith)) ∙ or-true (nat_eq w k)
+has-upto n k v w h e = (Decides-list_any nat_test (range_with_len k n) w).1 (member_range k n w (omega arith) (omega arith))
 
 abbrev pub agreements : Mode → List ℕ → List ℕ → List Expr
 agreements mode vs ws = map (λ v. or_null (left_column vs v) (right_column mode vs ws v)) (filter (has ws) vs)

@@ -6,7 +6,7 @@ use Rattle.std.specs.List.{list_all, range_with_len, position_or_len}
 use Rattle.std.specs.List.Sorted.{IsPermutation}
 use Rattle.std.proofs.lemmas.Bool.{eqb-true}
 use Rattle.vkg_lists.proofs.Tests.{nat_test}
-use Rattle.vkg_lists.proofs.Counts.{eq_itself, eq_same}
+use Rattle.vkg_lists.proofs.Counts.{eq_itself, eq_same, eq_comm}
 use Rattle.vkg_lists.proofs.Distinct.{IsDistinct-distinct}
 use Rattle.vkg_lists.proofs.Groups.{bag_groups}
 use Rattle.vkg_lists.proofs.Bags.{bag_refl, bag_same, bag_sym, bag_trans, bag_map, bag_filter}
@@ -108,11 +108,7 @@ module _ (n : ℕ) (d : Dataset) (vs : List ℕ) (v : ℕ) (within : v < n) wher
           where
             of : (c : Bool) → has vs w ≡ c → term_of (value_of (left_column vs w) row) ≡ option_or (term w) None
             of true g = ap term_of (sym (read_there vs row w g)) ∙ sym (or_none (term w))
-            of false g = absurd (true≢false (sym e ∙ has-each_once (v ∷ vs) w ∙ (λ t. swapped (nat_eq w v) refl t || g t)))
-              where
-                swapped : (x : Bool) → nat_eq w v ≡ x → x ≡ false
-                swapped true y = absurd (true≢false (sym (ap (λ u. nat_eq u w) (sym (eqb-true w v y)) ∙ eq_itself nat_test w) ∙ f))
-                swapped false y = refl
+            of false g = absurd (true≢false (sym e ∙ has-each_once (v ∷ vs) w ∙ (λ t. (eq_comm nat_test w v ∙ f) t || g t)))
         columns w false e true f = absurd (true≢false (sym (has-each_once (v ∷ vs) w ∙ ap (λ x. x || has vs w) (ap (λ u. nat_eq w u) (eqb-true v w f) ∙ eq_itself nat_test w)) ∙ e))
         columns w false e false f = of (has vs w) refl
           where

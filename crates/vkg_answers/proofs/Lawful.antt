@@ -4,7 +4,7 @@ use Rattle.std.specs.Prelude.{Option, Contains, flat_map}
 use Rattle.std.proofs.lemmas.List.Elements.{Contains-append_left, Contains-append_right, Contains-append_cases}
 use Rattle.vkg_lists.proofs.Tests.{nat_test}
 use Rattle.vkg_lists.proofs.Counts.{Decides-list_any}
-use Rattle.vkg_lists.proofs.Members.{Contains-none, Contains-here, Contains-there, Contains-cons_cases, Contains-flat_map, Contains-from_flat_map}
+use Rattle.vkg_lists.proofs.Members.{Contains-none, Contains-here, Contains-there, Contains-flat_map, Contains-from_flat_map, Contains-only}
 use Rattle.vkg_sparql.specs.declared.pattern.Node.{Node}
 use Rattle.vkg_sparql.specs.declared.pattern.Node.TheVariants.{Variable, Label, Fixed}
 use Rattle.vkg_sparql.specs.declared.pattern.TriplePattern.{TriplePattern}
@@ -33,13 +33,13 @@ narrow_if_any n c h t k = h.within (Fixed t) k
 -- ---- the nodes of patterns
 
 variable_is : (x : Node) (v : ℕ) → Contains (node_variables x) v → x ≡ Variable v
-variable_is (Variable w) v c = ⊎_elim (λ e. ap Variable e) (λ k. absurd (Contains-none v k)) (Contains-cons_cases w [] v c)
+variable_is (Variable w) v c = ap Variable (Contains-only w v c)
 variable_is (Label w) v c = absurd (Contains-none v c)
 variable_is (Fixed t) v c = absurd (Contains-none v c)
 
 label_is : (x : Node) (v : ℕ) → Contains (node_labels x) v → x ≡ Label v
 label_is (Variable w) v c = absurd (Contains-none v c)
-label_is (Label w) v c = ⊎_elim (λ e. ap Label e) (λ k. absurd (Contains-none v k)) (Contains-cons_cases w [] v c)
+label_is (Label w) v c = ap Label (Contains-only w v c)
 label_is (Fixed t) v c = absurd (Contains-none v c)
 
 module _ (numbers : Node → List ℕ) (node : ℕ → Node) (is : (x : Node) (v : ℕ) → Contains (numbers x) v → x ≡ node v) where

@@ -41,7 +41,7 @@ use Rattle.vkg_unfold.specs.FineRows.{NeverDefault}
 use Rattle.vkg_unfold.proofs.AlgebraColumns.{name_test}
 use Rattle.vkg_answers.proofs.Entries.{Entry, entry, same_entry, first, alike, named_solution, repeats_alike}
 use Rattle.vkg_answers.proofs.Columns.{hidden_in, graph_fits, graphs_fit}
-use Rattle.vkg_answers.proofs.Sources.{all_hold, member_rows, rows_or_none, not_nulls, graph_is, in_graph, graph_passes_is, nulls_are}
+use Rattle.vkg_answers.proofs.Sources.{all_hold, member_rows, rows_or_none, not_nulls, graph_is, in_graph, graph_passes_is, nulls_are, three_fail}
 use Rattle.vkg_answers.proofs.Quads.{NodeBelow, node_entries, pattern_cells, pattern_entries, pattern_ok, quad_answers, constants_are, named_are}
 
 -- ---- the entries of a member's row
@@ -213,7 +213,7 @@ module _ (n : ℕ) (d : Dataset) (mode : Mode) (g : Option Term) (h : IsIn d mod
 
   -- no member: no quad in the graph
   pub row_none : graph_test mode rule.graph ≡ None → (row : Row) → NeverDefault rule.graph row → [] ≡ answers_at row
-  row_none e row k = sym (answers_are row ∙ (λ i. if (is_some (term_at rule.subject row) && (is_some (term_at rule.predicate row) && (is_some (term_at rule.object row) && not_in i))) && x then solution_at row ∷ [] else []) ∙ of (is_some (term_at rule.subject row)) (is_some (term_at rule.predicate row)) (is_some (term_at rule.object row)))
+  row_none e row k = sym (answers_are row ∙ (λ i. if (is_some (term_at rule.subject row) && (is_some (term_at rule.predicate row) && (is_some (term_at rule.object row) && not_in i))) && x then solution_at row ∷ [] else []) ∙ ap (λ t. if t && x then solution_at row ∷ [] else []) (three_fail (is_some (term_at rule.subject row)) (is_some (term_at rule.predicate row)) (is_some (term_at rule.object row))))
     where
       x : Bool
       x = pattern_ok p (value_of (term_expr rule.subject) row) (value_of (term_expr rule.predicate) row) (value_of (term_expr rule.object) row)
@@ -221,12 +221,6 @@ module _ (n : ℕ) (d : Dataset) (mode : Mode) (g : Option Term) (h : IsIn d mod
 
       not_in : in_graph g rule.graph row ≡ false
       not_in = sym (graph_passes_is d mode g rule.graph row h k) ∙ ap (λ o. option_map_or (λ test. (all_hold (not_nulls (graph_terms rule.graph)) row && all_hold test row) && graph_is mode g rule.graph row) o false) e
-
-      of : (a b c : Bool) → (if (a && (b && (c && false))) && x then solution_at row ∷ [] else []) ≡ []
-      of false b c = refl
-      of true false c = refl
-      of true true false = refl
-      of true true true = refl
 
 -- ---- all rows of a rule, and of all rules
 
