@@ -9,7 +9,7 @@ use std::alloc::Global;
 use vkg_base::{Memory, Text, earlier};
 use vkg_grammar::{Forest, Node};
 use vkg_terms::is_absolute;
-use vkg_turtle::{Prefixes, Word, iri_named, prefix_of};
+use vkg_turtle::{Prefixes, Word, iri_named, or_empty, prefix_of};
 
 /// What a query's IRIs are read against: the base and the prefixes, with the place of the first IRI of the prologue that is
 /// not absolute.
@@ -52,10 +52,7 @@ impl Environment {
     pub fn iri_text(&self, alloc: Global, word: &Word) -> Result<Text, Memory>
         ensures { IfOk result (λ t. t ≡ iri_text self.now word.now) }
     {
-        match self.iri_of(alloc, word)? {
-            Some(iri) => Ok(iri),
-            None => Text::new(alloc, ""),
-        }
+        or_empty(alloc, self.iri_of(alloc, word)?)
     }
 
     fn set_base(&mut self, alloc: Global, lexeme: Option<&Lexeme>) -> Result<(), Memory>
