@@ -14,7 +14,7 @@ use crate::vocabulary::{
 };
 use std::alloc::Global;
 use std::marker::Model;
-use vkg_base::{Groups, Items, Memory};
+use vkg_base::{Groups, Items, Memory, numbers_of};
 use vkg_terms::Term;
 use vkg_turtle::Triple;
 
@@ -71,10 +71,7 @@ impl<'a> Graph<'a> {
     fn numbers(&self, node: &Term) -> &[usize]
         ensures { result.now ≡ numbers_named (term_name node.now) (enumerate_from 0 self.now) }
     {
-        match self.index.get(node.name()) {
-            None => &[],
-            Some(numbers) => numbers.as_slice(),
-        }
+        numbers_of(&self.index, node.name())
     }
 }
 
