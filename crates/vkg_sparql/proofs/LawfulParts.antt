@@ -71,21 +71,17 @@ module _ (keys : List (List ℕ)) where
   fits_operand (meaning.Fixed t) h = by_seen _ (seen-Constant t) (h, tt)
   fits_operand m h = absurd (h)
 
-  good_or : (cs : List ConditionValue) (a : Condition) → Good (condition_nodes a) → GoodConditions cs → Good (condition_nodes (fold Or a (map condition_seen cs)))
-  good_or [] a h k = h
-  good_or (c ∷ cs) a h k = good_or cs (Or a (condition_seen c)) (recursion_append (Fits keys) (condition_nodes a) (condition_nodes (condition_seen c)) h k.0) k.1
-
-  good_and : (cs : List ConditionValue) (a : Condition) → Good (condition_nodes a) → GoodConditions cs → Good (condition_nodes (fold And a (map condition_seen cs)))
-  good_and [] a h k = h
-  good_and (c ∷ cs) a h k = good_and cs (And a (condition_seen c)) (recursion_append (Fits keys) (condition_nodes a) (condition_nodes (condition_seen c)) h k.0) k.1
+  good_chain : (join : Condition → Condition → Condition) → ((a b : Condition) → Good (condition_nodes a) → Good (condition_nodes b) → Good (condition_nodes (join a b))) → (cs : List ConditionValue) (a : Condition) → Good (condition_nodes a) → GoodConditions cs → Good (condition_nodes (fold join a (map condition_seen cs)))
+  good_chain join f [] a h k = h
+  good_chain join f (c ∷ cs) a h k = good_chain join f cs (join a (condition_seen c)) (f a (condition_seen c) h k.0) k.1
 
   good_or_joined : (c : ConditionValue) (cs : List ConditionValue) → GoodCondition c → GoodConditions cs → GoodCondition (or_joined c cs)
   good_or_joined c [] h k = h
-  good_or_joined c (d ∷ ds) h k = by_seen _ (seen-Or c (d ∷ ds)) (good_or (d ∷ ds) (condition_seen c) h k)
+  good_or_joined c (d ∷ ds) h k = by_seen _ (seen-Or c (d ∷ ds)) (good_chain Or (λ a b. recursion_append (Fits keys) (condition_nodes a) (condition_nodes b)) (d ∷ ds) (condition_seen c) h k)
 
   good_and_joined : (c : ConditionValue) (cs : List ConditionValue) → GoodCondition c → GoodConditions cs → GoodCondition (and_joined c cs)
   good_and_joined c [] h k = h
-  good_and_joined c (d ∷ ds) h k = by_seen _ (seen-And c (d ∷ ds)) (good_and (d ∷ ds) (condition_seen c) h k)
+  good_and_joined c (d ∷ ds) h k = by_seen _ (seen-And c (d ∷ ds)) (good_chain And (λ a b. recursion_append (Fits keys) (condition_nodes a) (condition_nodes b)) (d ∷ ds) (condition_seen c) h k)
 
   good_negated : (b : Bool) (c : ConditionValue) → GoodCondition c → GoodCondition (negated b c)
   good_negated true c h = by_seen _ (seen-Not c) h
