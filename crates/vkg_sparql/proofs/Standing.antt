@@ -2,7 +2,7 @@
 use Rattle.std.proofs.Common.{◌≡◌, ◌∙◌, ℕ, ◌≤◌, ◌||◌, ◌==◌, Bool, true, false, if◌then◌else◌, zero, suc, List, [], ◌∷◌, codes, drop, Option, Some, None, option_map, refl, sym, ap, subst, arith, eqb-true}
 use Rattle.std.specs.Prelude.{slice_get}
 use Rattle.std.specs.Str.{str_to_ascii_lowercase}
-use Rattle.std.proofs.lemmas.Bool.{and_right}
+use Rattle.std.proofs.lemmas.Bool.{and_right, cond-true}
 use Rattle.std.proofs.lemmas.Option.{slice_get-map}
 use Rattle.vkg_grammar.specs.Kinds.{kinds_of}
 use Rattle.vkg_cells.specs.WellTyped.{is_well_typed, is_too_wide, is_wide_number}
@@ -165,13 +165,9 @@ module _ (keys : List (List ℕ)) where
     marked : (b : Bool) → HasKey (lexeme kind at token) b → Marked keys number b
     marked b k = ap (option_map is_variable_key) (numbers k.key k.is) ∙ ap Some k.mark
 
-    literal_by : (a : Bool) (b : Bool) → a ≡ true → (if a then b else false) ≡ false → b ≡ false
-    literal_by true b h f = f
-    literal_by false b h f = absurd (cc)
-
     literal : is_literal kind ≡ true → is_wide_number (term_of e (lexeme_word kind token) xs) ≡ false
     unfolding fails
-    literal h = literal_by (is_literal kind) (is_wide_number (term_of e (lexeme_word kind token) xs)) h fine
+    literal h = sym (cond-true (is_literal kind) (is_wide_number (term_of e (lexeme_word kind token) xs)) false h) ∙ fine
 
     term : is_term kind ≡ true → is_wide_number (term_of e (lexeme_word kind token) xs) ≡ false
     term h = narrow e token xs kind h literal

@@ -148,16 +148,7 @@ pub fn nodes_over(alloc: Global, lexemes: &[Lexeme]) -> Result<Option<usize>, Me
     ensures { IfOk result (λ at. at ≡ nodes_over lexemes.now) }
 {
     let places = node_places(alloc, lexemes)?;
-    Ok(number_at(&places, 1024))
-}
-
-fn number_at(numbers: &[usize], at: usize) -> Option<usize>
-    ensures { result ≡ slice_get numbers.now at }
-{
-    match numbers.get(at) {
-        Some(number) => Some(*number),
-        None => None,
-    }
+    Ok(places.get(1024).copied())
 }
 
 fn place_in(lexemes: &[Lexeme], token: usize) -> Option<usize>

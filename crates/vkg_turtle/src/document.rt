@@ -53,7 +53,8 @@ fn no_iri(alloc: Global) -> Result<Term, Memory>
     Ok(Term::Iri(Text::new(alloc, "")?))
 }
 
-fn or_empty(alloc: Global, iri: Option<Text>) -> Result<Text, Memory>
+/// An IRI, or no bytes.
+pub fn or_empty(alloc: Global, iri: Option<Text>) -> Result<Text, Memory>
     ensures { IfOk result (λ t. t ≡ unwrap_or iri []) }
 {
     match iri {
