@@ -13,12 +13,12 @@ use Rattle.vkg_maps.proofs.TableKinds.{kinds_of}
 use Rattle.vkg_maps.specs.declared.mapping.Mapping.{Mapping}
 use Rattle.vkg_maps.specs.declared.quad_rule.QuadRule.{QuadRule}
 use Rattle.vkg_maps.specs.DataFaults.{data_faults}
-use Rattle.vkg_maps.specs.Dataset.{dataset, quad_eq, quads_of_rule}
+use Rattle.vkg_maps.specs.Dataset.{quad_eq, quads_of_rule}
 use Rattle.vkg_maps.specs.QuadRules.{quad_rules}
 use Rattle.vkg_plan.specs.Kinds.{Tables}
 use Rattle.vkg_row_rules.specs.Laws.{GivesDataset}
-use Rattle.vkg_row_rules.specs.RowDataset.{dataset_of, quads_of}
-use Rattle.vkg_row_rules.specs.RowRules.{row_rule, row_rules}
+use Rattle.vkg_row_rules.specs.RowDataset.{quads_of}
+use Rattle.vkg_row_rules.specs.RowRules.{row_rule}
 use Rattle.vkg_maps.specs.Within.{IsMapWithin, IsWithin, kinds_at}
 use Rattle.vkg_row_rules.proofs.Faultless.{all_made}
 use Rattle.vkg_row_rules.proofs.RuleQuads.{IsFine, IsSound, rule_quads}
@@ -43,11 +43,8 @@ module _ (schema : Tables) (mapping : Mapping) (db : Database) (within : IsWithi
         }) rule c;
   }
 
-  same_dataset : dataset_of schema (row_rules schema mapping) db ≡ dataset mapping db
-  same_dataset =
-      ap (distinct quad_eq) (flat_map-map (quads_of schema db) (row_rule mapping.base schema) (quad_rules mapping)
-      ∙ flat_map_agree_on (λ rule. quads_of schema db (row_rule mapping.base schema rule)) (quads_of_rule mapping.base db) (quad_rules mapping)
-      (λ rule c. rule_quads mapping.base schema db rule (rule_sound rule c)))
-
 pub gives_dataset : (schema : Tables) (mapping : Mapping) (db : Database) → GivesDataset schema mapping db
-gives_dataset schema mapping db within meets faultless = same_dataset schema mapping db within meets faultless
+gives_dataset schema mapping db within meets faultless =
+    ap (distinct quad_eq) (flat_map-map (quads_of schema db) (row_rule mapping.base schema) (quad_rules mapping)
+    ∙ flat_map_agree_on (λ rule. quads_of schema db (row_rule mapping.base schema rule)) (quads_of_rule mapping.base db) (quad_rules mapping)
+    (λ rule c. rule_quads mapping.base schema db rule (rule_sound schema mapping db within meets faultless rule c)))

@@ -1,9 +1,8 @@
 -- Steps of loops, and lists by their lengths.
 use Rattle.std.proofs.Common.{◌≡◌, ◌≢◌, ◌∙◌, ℕ, ◌<◌, ◌+◌, Bool, true, false, cond, List, [], ◌∷◌, ◌++◌, map, take, drop, length, get_or, refl, sym, ap, arith}
-use Rattle.std.specs.Prelude.{Option, Some, None, slice_get, find, fold, filter_map, flat_map, if◌then◌else◌}
+use Rattle.std.specs.Prelude.{Some, None, slice_get, find, fold, flat_map, if◌then◌else◌}
 use Rattle.std.specs.List.{list_any}
 use Rattle.std.proofs.lemmas.List.{drop_more, map-append, map_more, take_more}
-use Rattle.std.proofs.lemmas.List.Elements.{filter_map-append}
 use Rattle.std.proofs.lemmas.Option.{same_Some}
 use Rattle.vkg_lists.proofs.Distinct.{distinct_push, distinct-take_more}
 use Rattle.vkg_lists.proofs.Walks.{list_any-map}
@@ -17,7 +16,6 @@ use Rattle.vkg_expr.specs.Expr.{Expr, exprs}
 use Rattle.vkg_expr.specs.Expr as expr
 use Rattle.vkg_expr.specs.Logic.{and_of, or_of, truth_const}
 use Rattle.vkg_expr.specs.Seen.{expr_seen}
-use Rattle.vkg_plan.specs.Plan.{Plan}
 use Rattle.vkg_row_rules.specs.declared.row_rule.RowRule.{RowRule}
 use Rattle.vkg_unfold.specs.declared.mode.Mode.{Mode}
 use Rattle.vkg_unfold.specs.declared.mode.Mode.TheVariants.{Default, InGraph, Each}
@@ -130,11 +128,6 @@ pub find_more : (x : Named) (list : List NamedValue) (i : ℕ) (d : NamedValue) 
 find_more x list i d h = ap (λ l. find (same_name x) (map named_seen l)) (drop_more list i d h)
 
 -- ---- steps of loops, from what the call of the body ensures
-
-pub members_more : (f : RowRule → Option Plan) (rules : List RowRule) (i : ℕ) (x : RowRule) (found new : List Plan) →
-    new ≡ found ++ filter_map f (x ∷ []) → i < length rules → x ≡ get_or rules i x → found ≡ filter_map f (take i rules) → new ≡ filter_map f (take (i + 1) rules)
-members_more f rules i x found new e h is inv =
-    e ∙ (λ j. inv j ++ filter_map f (is j ∷ [])) ∙ sym (filter_map-append f (take i rules) (get_or rules i x ∷ [])) ∙ ap (filter_map f) (sym (take_more rules i x h))
 
 pub name_once : (names found new before : List Name) (i : ℕ) (x d : Name) →
     new ≡ found ++ (if list_any (λ n. name_eq n x) before then [] else x ∷ []) → before ≡ take i names → x ≡ get_or names i d → i < length names → found ≡ distinct name_eq (take i names) → new ≡ distinct name_eq (take (i + 1) names)
