@@ -24,6 +24,10 @@ pub some_if : {A : Type 0} (b : Bool) (o : Option A) → is_some (cond b o None)
 some_if true o e = (refl, e)
 some_if false o e = cc
 
+pub none_if : {A : Type 0} (b : Bool) (x : A) (o : Option A) → cond b (Some x) o ≡ None → (b ≡ false) × (o ≡ None)
+none_if true x o e = cc
+none_if false x o e = (refl, e)
+
 pub followed_none : {A F : Type 0} (r : Result (List A) F) → followed_by [] r ≡ r
 followed_none (Ok xs) = refl
 followed_none (Err fault) = refl

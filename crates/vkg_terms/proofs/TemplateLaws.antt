@@ -4,8 +4,9 @@ use Rattle.std.specs.Prelude.{option_map}
 use Rattle.std.proofs.lemmas.Bool.Decides.{nat_tests}
 use Rattle.std.proofs.lemmas.Iterator.Adapters.{option_map_id}
 use Rattle.std.proofs.lemmas.List.{append-nil}
-use Rattle.std.proofs.lemmas.Option.{same_Some, none-some}
+use Rattle.std.proofs.lemmas.Option.{cond_some, same_Some, none-some}
 use Rattle.vkg_lists.proofs.Onto.{map_given}
+use Rattle.vkg_lists.proofs.Results.{none_if}
 use Rattle.vkg_terms.specs.declared.template.Part.{Part}
 use Rattle.vkg_terms.specs.declared.template.Part.TheVariants.{Fixed, Hole}
 use Rattle.vkg_terms.specs.TemplateParts.{Mark, Plain, Open, Close, mark, marks, onto, escape, is_special, onto_fixed, hole, outside, inside, outside_if_any, template_of}
@@ -199,18 +200,10 @@ reads_template text ps r =
 
 named_by : (o : Option (List Part)) (ps : List Part) → if_named o ≡ Some ps → (o ≡ Some ps) × (is_all_named ps ≡ true)
 named_by None ps e = absurd (none-some ps e)
-named_by (Some qs) ps e = by_test (is_all_named qs) refl e
-  where
-    by_test : (b : Bool) → is_all_named qs ≡ b → (if b then Some qs else None) ≡ Some ps → (Some qs ≡ Some ps) × (is_all_named ps ≡ true)
-    by_test true h k = (k, ap is_all_named (sym (same_Some qs ps k)) ∙ h)
-    by_test false h k = absurd (none-some ps k)
-
-unnamed_by : (b : Bool) (ps : List Part) → is_all_named ps ≡ b → (if b then Some ps else None) ≡ None → b ≡ false
-unnamed_by true ps h k = absurd (none-some ps (sym k))
-unnamed_by false ps h k = refl
+named_by (Some qs) ps e = let h = cond_some (is_all_named qs) qs ps e in (ap Some h.1, ap is_all_named (sym h.1) ∙ h.0)
 
 pub read_is : (text : List ℕ) (ps : List Part) → template_read text ≡ Some ps → IsTemplateOf text ps
 read_is text ps e = let h = named_by (template_of text) ps e in record { reads = template_reads text ps h.0; named = h.1 }
 
 pub read_bad : (text : List ℕ) → template_read text ≡ None → IsNoTemplate text
-read_bad text e ps r = unnamed_by (is_all_named ps) ps refl (ap if_named (sym (reads_template text ps r)) ∙ e)
+read_bad text e ps r = (none_if (is_all_named ps) ps None (ap if_named (sym (reads_template text ps r)) ∙ e)).0
