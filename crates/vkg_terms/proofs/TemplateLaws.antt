@@ -1,15 +1,15 @@
 -- A text is read as a template exactly where it is that template's text.
 use Rattle.std.proofs.Common.{◌≡◌, ◌≢◌, ◌==◌, ◌++◌, ◌∷◌, [], List, ℕ, sym, ap, ◌∙◌, subst, refl, Option, Some, None, Bool, true, false, if◌then◌else◌, arith, append_assoc, flat_map, map}
-use Rattle.std.specs.Prelude.{option_map}
+use Rattle.std.specs.Prelude.{option_and_then, option_map}
 use Rattle.std.proofs.lemmas.Bool.Decides.{nat_tests}
 use Rattle.std.proofs.lemmas.Iterator.Adapters.{option_map_id}
 use Rattle.std.proofs.lemmas.List.{append-nil}
-use Rattle.std.proofs.lemmas.Option.{cond_some, same_Some, none-some}
+use Rattle.std.proofs.lemmas.Option.{cond_some, none-some, option_and_then_some, same_Some}
 use Rattle.vkg_lists.proofs.Onto.{map_given}
 use Rattle.vkg_lists.proofs.Results.{none_if}
 use Rattle.vkg_terms.specs.declared.template.Part.{Part}
 use Rattle.vkg_terms.specs.declared.template.Part.TheVariants.{Fixed, Hole}
-use Rattle.vkg_terms.specs.TemplateParts.{Mark, Plain, Open, Close, mark, marks, onto, escape, is_special, onto_fixed, hole, outside, inside, outside_if_any, template_of}
+use Rattle.vkg_terms.specs.TemplateParts.{Mark, Plain, Open, Close, mark, marks, onto, escape, is_special, onto_fixed, hole, outside, inside, template_of}
 use Rattle.vkg_terms.proofs.TemplateLemmas.{marks-cons, ordinary_cons, glue, glue_end, glue_hole}
 use Rattle.vkg_terms.specs.Name.{is_all_named, if_named, template_read, IsTemplateOf, IsNoTemplate}
 use Rattle.vkg_terms.specs.TemplateText.{escaped, template_text, IsNormal, Reads}
@@ -182,21 +182,17 @@ mutual
         normal = more.1;
       }
 
-any_some : (o : Option (List Mark)) (ps : List Part) → outside_if_any o ≡ Some ps → (ms : List Mark) × (o ≡ Some ms) × (outside ms ≡ Some ps)
-any_some None ps e = absurd (none-some ps e)
-any_some (Some ms) ps e = (ms, refl, e)
-
 -- what the function reads is written as the text, and normal
 pub template_reads : (text : List ℕ) (ps : List Part) → template_of text ≡ Some ps → Reads text ps
 template_reads text ps e =
-    let (ms, h, k) = any_some (marks text) ps e in
+    option_and_then_some outside (marks text) ps e (λ ms h k.
     let is = outside_is ms ps k in
-    record { written = written-marks text ms h ∙ ap (flat_map written) is.0 ∙ written_parts ps; normal = is.1 }
+    record { written = written-marks text ms h ∙ ap (flat_map written) is.0 ∙ written_parts ps; normal = is.1 })
 
 -- the text of a normal template is read as that template
 pub reads_template : (text : List ℕ) (ps : List Part) → Reads text ps → template_of text ≡ Some ps
 reads_template text ps r =
-    ap template_of (r.written ∙ sym (written_parts ps)) ∙ ap outside_if_any (marks-written (marks_of ps)) ∙ outside-marks ps r.normal
+    ap template_of (r.written ∙ sym (written_parts ps)) ∙ ap (option_and_then outside) (marks-written (marks_of ps)) ∙ outside-marks ps r.normal
 
 named_by : (o : Option (List Part)) (ps : List Part) → if_named o ≡ Some ps → (o ≡ Some ps) × (is_all_named ps ≡ true)
 named_by None ps e = absurd (none-some ps e)
