@@ -26,6 +26,10 @@ pub some_if : {A : Type 0} (b : Bool) (o : Option A) → is_some (cond b o None)
 some_if true o e = (refl, e)
 some_if false o e = cc
 
+pub none_if : {A : Type 0} (b : Bool) (x : A) (o : Option A) → cond b (Some x) o ≡ None → (b ≡ false) × (o ≡ None)
+none_if true x o e = cc
+none_if false x o e = (refl, e)
+
 -- a value where a test holds
 pub then_given : {A : Type 0} (b : Bool) (x y : A) → then_some b x ≡ Some y → (b ≡ true) × (x ≡ y)
 then_given true x y e = (refl, same_Some x y e)

@@ -1,6 +1,6 @@
 -- The reader of a template gives its parts.
 use Rattle.std.proofs.Common.{◌≡◌, ◌==◌, ◌++◌, ◌∷◌, [], List, ℕ, ◌<◌, ◌≤◌, sym, ap, ◌∙◌, refl, Option, Some, None, Bool, true, false, if◌then◌else◌, not, arith, append_assoc}
-use Rattle.std.specs.Prelude.{option_map, chars, IsUtf8}
+use Rattle.std.specs.Prelude.{fold, option_and_then, option_map, chars, IsUtf8}
 use Rattle.std.specs.List.{list_all}
 use Rattle.std.proofs.lemmas.Bool.Decides.{nat_tests}
 use Rattle.std.proofs.lemmas.Str.{encode_ascii, encodes-chars, scalars-chars}
@@ -12,8 +12,8 @@ use Rattle.vkg_terms.specs.declared.template.Part.{Part}
 use Rattle.vkg_terms.specs.declared.template.Part.TheVariants as part
 use Rattle.vkg_terms.specs.declared.template_reader.Place.{Place}
 use Rattle.vkg_terms.specs.declared.template_reader.Place.TheVariants.{Fixed, Hole, EscapedFixed, EscapedHole, Broken}
-use Rattle.vkg_terms.specs.TemplateParts.{Mark, Plain, Open, Close, mark, marks, escape, is_special, onto_fixed, outside, inside, outside_if_any, template_of}
-use Rattle.vkg_terms.specs.TemplateReader.{State, start, fixed_part, step, at_place, with_char, with_fixed, with_hole, run, finished, finished_at}
+use Rattle.vkg_terms.specs.TemplateParts.{Mark, Plain, Open, Close, mark, marks, escape, is_special, onto_fixed, outside, inside, template_of}
+use Rattle.vkg_terms.specs.TemplateReader.{State, start, fixed_part, step, at_place, with_char, with_fixed, with_hole, finished, finished_at}
 use Rattle.vkg_lists.proofs.Bools.{and_parts, not_true}
 use Rattle.vkg_terms.proofs.Octets.{encode_all, not_nothing, scalar_below}
 
@@ -212,7 +212,7 @@ step_whole EscapedFixed parts text c bs u = escaped_step EscapedFixed parts text
 step_whole EscapedHole parts text c bs u = escaped_step EscapedHole parts text c bs Hole (is_special c) u refl (hole_rest parts) (λ _. refl) (plain_hole parts) (λ _. refl)
 step_whole Broken parts text c bs u = refl
 
-run_whole : (s : State) (cs : List ℕ) → scalars cs ≡ true → whole (run s cs) [] ≡ whole s (encodes cs)
+run_whole : (s : State) (cs : List ℕ) → scalars cs ≡ true → whole (fold step s cs) [] ≡ whole s (encodes cs)
 run_whole s [] u = refl
 run_whole s (c ∷ cs) u =
     let parts = and_parts (scalar c) (scalars cs) u in
@@ -225,19 +225,15 @@ end_whole EscapedFixed parts text = refl
 end_whole EscapedHole parts text = refl
 end_whole Broken parts text = refl
 
-start_whole : (ms : Option (List Mark)) → fixed_rest [] [] ms ≡ outside_if_any ms
+start_whole : (ms : Option (List Mark)) → fixed_rest [] [] ms ≡ option_and_then outside ms
 start_whole None = refl
 start_whole (Some ms) = option_map_id (outside ms)
 
 -- the reader, run over a text, gives the parts of the template
-pub finished-run : (text : List ℕ) → IsUtf8 text → finished (run start (chars text)) ≡ template_of text
+pub finished-run : (text : List ℕ) → IsUtf8 text → finished (fold step start (chars text)) ≡ template_of text
 finished-run text u =
-    let s = run start (chars text) in
+    let s = fold step start (chars text) in
     end_whole s.place s.parts s.text
     ∙ run_whole start (chars text) (scalars-chars text u)
     ∙ ap (λ t. whole start t) (encodes-chars text u)
     ∙ start_whole (marks text)
-
-pub run-push : (s : State) (cs : List ℕ) (c : ℕ) → run s (cs ++ c ∷ []) ≡ step (run s cs) c
-run-push s [] c = refl
-run-push s (d ∷ cs) c = run-push (step s d) cs c
