@@ -2,6 +2,7 @@
 use Rattle.std.proofs.Common.{◌≡◌, ◌∙◌, ◌&&◌, ◌||◌, ◌++◌, ℕ, zero, suc, Bool, true, false, not, List, [], ◌∷◌, Option, Some, None, map, option_map, if◌then◌else◌, refl, sym, ap, ap₂, string_bytes, length, get_or, ◌<◌, ◌≤◌}
 use Rattle.std.specs.List.{list_any}
 use Rattle.std.specs.Cmp.Lexicographic.{bytes_decides, pointwise, pointwise_decides}
+use Rattle.std.specs.Cmp.Derive.Mapped.{pointwise-map}
 use Rattle.std.proofs.lemmas.List.{get_or_past, map-append, map-id}
 use Rattle.std.proofs.lemmas.Option.{slice_get-get_or, unwrap_or-slice_get}
 use Rattle.std.proofs.Math.Bool.{and-false, or-false}
@@ -172,16 +173,10 @@ orphan-missing pairs targets row h =
     ∙ missing (parts (map (λ p. p.0) pairs) row) (all_parts (map (λ p. p.1) pairs) targets)
 
 -- a set of lists of strings, as the texts in it
-strings-eq : {Y : Type 0} (xs ys : List (String Y)) → pointwise string_eq xs ys ≡ texts_eq (map string_bytes xs) (map string_bytes ys)
-strings-eq [] [] = refl
-strings-eq [] (y ∷ ys) = refl
-strings-eq (x ∷ xs) [] = refl
-strings-eq (x ∷ xs) (y ∷ ys) = ap (λ b. bytes_eq (string_bytes x) (string_bytes y) && b) (strings-eq xs ys)
-
 pub any-texts : {Y Z : Type 0} (xs : List (String Y)) (vs : List (Vec (String Y) Z))
     → list_any (λ v. pointwise string_eq xs v.items) vs ≡ list_any (texts_eq (map string_bytes xs)) (texts_of vs)
 any-texts xs [] = refl
-any-texts xs (v ∷ vs) = ap₂ (λ a b. a || b) (strings-eq xs v.items) (any-texts xs vs)
+any-texts xs (v ∷ vs) = ap₂ (λ a b. a || b) (sym (pointwise-map string_bytes bytes_eq xs v.items)) (any-texts xs vs)
 
 -- the walk over the columns
 pub parts-stop : (done : List (List ℕ)) (cs : List ℕ) (c : ℕ) (rest : List ℕ) (row : Row) (whole : Option (List (List ℕ))) → cs ≡ c ∷ rest → part (cell_at row c) ≡ None
@@ -200,16 +195,13 @@ cell_at-past row k h = unwrap_or-slice_get row k cell.Null ∙ get_or_past row k
 pub value-there : {A : Type 0} (xs : List A) (i : ℕ) (d e : A) → i < length xs → unwrap_or (slice_get xs i) e ≡ get_or xs i d
 value-there xs i d e h = ap (λ o. unwrap_or o e) (slice_get-get_or xs i d h)
 
-texts-same : (f t : List (List ℕ)) → texts_eq f t ≡ true → f ≡ t
-texts-same f t e = (pointwise_decides bytes_decides f t).0 e
-
 -- what is among them adds nothing
 settled : (f t : List (List ℕ)) (ks : List (List (List ℕ))) → list_any (texts_eq t) ks ≡ true → list_any (texts_eq f) ks ≡ list_any (texts_eq f) (ks ++ t ∷ [])
 settled f t ks e = by (texts_eq f t) refl ∙ sym (any_more (texts_eq f) ks t)
   where
     by : (b : Bool) → texts_eq f t ≡ b → list_any (texts_eq f) ks ≡ list_any (texts_eq f) ks || texts_eq f t
     by true h =
-        let here : list_any (texts_eq f) ks ≡ true = ap (λ g. list_any (texts_eq g) ks) (texts-same f t h) ∙ e in
+        let here : list_any (texts_eq f) ks ≡ true = ap (λ g. list_any (texts_eq g) ks) ((pointwise_decides bytes_decides f t).0 h) ∙ e in
         here ∙ sym (ap (λ b. b || texts_eq f t) here)
     by false h = sym (ap (λ b. list_any (texts_eq f) ks || b) h ∙ or-false (list_any (texts_eq f) ks))
 
