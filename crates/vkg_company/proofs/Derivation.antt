@@ -1,6 +1,6 @@
 -- A derivation of a list of tokens, found by trying the ways of each symbol in their order.
 use Rattle.std.proofs.Common.{◌≡◌, ℕ, zero, suc, Bool, true, false, List, [], ◌∷◌, ◌++◌, Option, Some, None, refl, subst, nat_eq, eqb-true}
-use Rattle.std.specs.Prelude.{Result, unwrap_or}
+use Rattle.std.specs.Prelude.{IfSome, Result, unwrap_or}
 use Rattle.std.specs.Result.{result_unwrap_or}
 use Rattle.vkg_lists.specs.Options.{with_first}
 use Rattle.vkg_tokens.specs.declared.cutting.Token.{Token}
@@ -36,8 +36,7 @@ found (suc steps) g [] (t ∷ ts) = None
 found (suc steps) g (n ∷ s) ts = by_shape (λ r us. found steps g r us) n (shape_of g n) s ts
 
 IsFound : List Rule → List ℕ → List ℕ → Option (List Note) → Type 0
-IsFound g s ts None = Unit {0}
-IsFound g s ts (Some ws) = Derives g s ts ws
+IsFound g s ts o = IfSome o (Derives g s ts)
 
 module _ (g : List Rule) (more : List ℕ → List ℕ → Option (List Note)) (sound : (s ts : List ℕ) → IsFound g s ts (more s ts)) where
   one : (n k : ℕ) (s ts : List ℕ) → shape_of g n ≡ One k → IsFound g (n ∷ s) ts (by_token more n k s ts)
