@@ -4,7 +4,7 @@ use Rattle.std.specs.List.{Contains, IsDistinct}
 use Rattle.std.specs.Option.{option_or}
 use Rattle.std.proofs.lemmas.Bool.{cases_Bool, cond_both}
 use Rattle.std.proofs.lemmas.List.Elements.{Contains-append_left, Contains-append_right, Contains-append_cases}
-use Rattle.vkg_lists.proofs.Counts.{Decides-list_any}
+use Rattle.std.proofs.lemmas.Map.Made.{is_member-Decides}
 use Rattle.vkg_lists.proofs.Distinct.{IsDistinct-cons, IsDistinct-flat_map, IsDistinct-nil}
 use Rattle.vkg_lists.proofs.Members.{Contains-none, Contains-from_flat_map, Contains-cond}
 use Rattle.vkg_lists.proofs.Results.{some_if}
@@ -78,13 +78,13 @@ pub record Describes (n : ℕ) (vs : List ℕ) (P : Solution → Type 0) (ls : L
   pub moves : (s t : Solution) → P s → ((v : ℕ) → Contains vs v → lookup t v ≡ lookup s v) → P t
 
 kept_at : (vs : List ℕ) (s : Solution) (v : ℕ) → Contains vs v → lookup (restricted (has vs) s) v ≡ lookup s v
-kept_at vs s v c = lookup-restricted (has vs) s v ∙ ap (λ b. cond b (lookup s v) None) ((Decides-list_any nat_test vs v).1 c)
+kept_at vs s v c = lookup-restricted (has vs) s v ∙ ap (λ b. cond b (lookup s v) None) ((is_member-Decides nat_test.decides vs v).1 c)
 
 -- maps that bind the same at the numbers of both are one
 pub same_bound : {n : ℕ} {vs : List ℕ} {P : Solution → Type 0} (s t : Solution) → IsMapOf n vs P s → IsMapOf n vs P t → ((v : ℕ) → Contains vs v → lookup s v ≡ lookup t v) → s ≡ t
 same_bound {n} {vs} s t m k h = same_map s t (m.size ∙ sym k.size) (λ v. ⊎_elim
-    (λ e. h v ((Decides-list_any nat_test vs v).0 e))
-    (λ e. none_if (lookup s v) (λ b. true≢false (sym ((Decides-list_any nat_test vs v).1 (m.bound v b)) ∙ e)) ∙ sym (none_if (lookup t v) (λ b. true≢false (sym ((Decides-list_any nat_test vs v).1 (k.bound v b)) ∙ e))))
+    (λ e. h v ((is_member-Decides nat_test.decides vs v).0 e))
+    (λ e. none_if (lookup s v) (λ b. true≢false (sym ((is_member-Decides nat_test.decides vs v).1 (m.bound v b)) ∙ e)) ∙ sym (none_if (lookup t v) (λ b. true≢false (sym ((is_member-Decides nat_test.decides vs v).1 (k.bound v b)) ∙ e))))
     (cases_Bool (has vs v)))
 
 pub one_distinct : (b : Bool) (x : Solution) → IsDistinct solution_eq (cond b (x ∷ []) [])
@@ -117,12 +117,12 @@ module _ {n : ℕ} {vs ws : List ℕ} {P Q : Solution → Type 0} {ls rs : List 
       let r = restricted (has ws) s in
       let in_first : Contains ls l = d.back l (record {
         size = length-restricted (has vs) s ∙ m.size;
-        bound = λ v h. (Decides-list_any nat_test vs v).0 (some_if (has vs v) (lookup s v) (subst IsSome (lookup-restricted (has vs) s v) h)).0;
+        bound = λ v h. (is_member-Decides nat_test.decides vs v).0 (some_if (has vs v) (lookup s v) (subst IsSome (lookup-restricted (has vs) s v) h)).0;
         fact = d.moves s l m.fact.0 (kept_at vs s);
       }) in
       let in_second : Contains rs r = e.back r (record {
         size = length-restricted (has ws) s ∙ m.size;
-        bound = λ v h. (Decides-list_any nat_test ws v).0 (some_if (has ws v) (lookup s v) (subst IsSome (lookup-restricted (has ws) s v) h)).0;
+        bound = λ v h. (is_member-Decides nat_test.decides ws v).0 (some_if (has ws v) (lookup s v) (subst IsSome (lookup-restricted (has ws) s v) h)).0;
         fact = e.moves s r m.fact.1 (kept_at ws s);
       }) in
       let agree : AreCompatible l r = λ v t u f g.
@@ -132,7 +132,7 @@ module _ {n : ℕ} {vs ws : List ℕ} {P Q : Solution → Type 0} {ls rs : List 
       let whole : merge l r ≡ s = same_map (merge l r) s (omega (arith, length-merge l r, length-restricted (has vs) s, length-restricted (has ws) s)) (λ v.
       value_at-merge l r v
       ∙ (λ i. option_or (lookup-restricted (has vs) s v i) (lookup-restricted (has ws) s v i))
-      ∙ or_kept (has vs v) (has ws v) (lookup s v) (λ h. ⊎_elim (λ c. inl ((Decides-list_any nat_test vs v).1 c)) (λ c. inr ((Decides-list_any nat_test ws v).1 c)) (Contains-append_cases vs ws v (m.bound v h)))) in
+      ∙ or_kept (has vs v) (has ws v) (lookup s v) (λ h. ⊎_elim (λ c. inl ((is_member-Decides nat_test.decides vs v).1 c)) (λ c. inr ((is_member-Decides nat_test.decides ws v).1 c)) (Contains-append_cases vs ws v (m.bound v h)))) in
       subst (Contains (join ls rs)) whole (Contains-join ls rs l r in_first in_second ((Decides-compatible terms_apart l r).1 agree))
 
   pub both_join : Describes n (vs ++ ws) (λ s. P s × Q s) (join ls rs)

@@ -3,9 +3,9 @@ use Rattle.std.proofs.Common.{◌≡◌, ℕ, ◌+◌, ◌<◌, ◌≤◌, Bool,
 use Rattle.std.specs.Prelude.{Option, Some, None, ◌&&◌, ◌||◌, filter}
 use Rattle.std.specs.List.{list_all, range_with_len}
 use Rattle.std.proofs.lemmas.List.Folds.{list_all-map}
+use Rattle.std.proofs.lemmas.Map.Made.{is_member-Decides}
 use Rattle.vkg_lists.proofs.Members.{each_of_all, all_of_each}
 use Rattle.vkg_lists.proofs.Tests.{nat_test}
-use Rattle.vkg_lists.proofs.Counts.{Decides-list_any}
 use Rattle.vkg_lists.proofs.Bools.{and_parts, same_truth}
 use Rattle.vkg_lists.proofs.Rows.{agree_none}
 use Rattle.vkg_lists.proofs.Each.{member_range}
@@ -51,13 +51,13 @@ compatible-map f g [] = refl
 compatible-map f g (u ∷ us) = ap (λ b. agree (f u) (g u) && b) (compatible-map f g us)
 
 pub all_elim : (p : ℕ → Bool) (vs : List ℕ) → list_all p vs ≡ true → (v : ℕ) → has vs v ≡ true → p v ≡ true
-all_elim p vs h v k = each_of_all p vs h v ((Decides-list_any nat_test vs v).0 k)
+all_elim p vs h v k = each_of_all p vs h v ((is_member-Decides nat_test.decides vs v).0 k)
 
 pub all_intro : (p : ℕ → Bool) (vs : List ℕ) → ((v : ℕ) → has vs v ≡ true → p v ≡ true) → list_all p vs ≡ true
-all_intro p vs h = all_of_each p vs (λ v c. h v ((Decides-list_any nat_test vs v).1 c))
+all_intro p vs h = all_of_each p vs (λ v c. h v ((is_member-Decides nat_test.decides vs v).1 c))
 
 pub has-upto : (n k v w : ℕ) → v < n → w ≡ k + v → has (range_with_len k n) w ≡ true
-has-upto n k v w h e = (Decides-list_any nat_test (range_with_len k n) w).1 (member_range k n w (omega arith) (omega arith))
+has-upto n k v w h e = (is_member-Decides nat_test.decides (range_with_len k n) w).1 (member_range k n w (omega arith) (omega arith))
 
 abbrev pub agreements : Mode → List ℕ → List ℕ → List Expr
 agreements mode vs ws = map (λ v. or_null (left_column vs v) (right_column mode vs ws v)) (filter (has ws) vs)

@@ -4,10 +4,11 @@ use Rattle.std.specs.Prelude.{Option, Some, None, not, ◌&&◌, Contains, filte
 use Rattle.std.specs.Option.{option_map_or, option_to_list}
 use Rattle.std.specs.List.Sorted.{IsPermutation}
 use Rattle.std.specs.List.{list_any}
+use Rattle.std.proofs.lemmas.Map.Made.{is_member-Decides}
 use Rattle.vkg_lists.proofs.Nothing.{member_there, there_member, flat_map_nothing}
 use Rattle.vkg_lists.specs.Lists.{is_empty}
 use Rattle.vkg_lists.proofs.Bags.{bag_same, bag_trans, bag_map, bag_filter}
-use Rattle.vkg_lists.proofs.Counts.{eq_itself, eq_comm, Decides-list_any, eq_same}
+use Rattle.vkg_lists.proofs.Counts.{eq_itself, eq_comm, eq_same}
 use Rattle.vkg_lists.proofs.Walks.{filter_map_is_flat_map, map-flat_map, filter-flat_map, map_filter_is_flat_map}
 use Rattle.vkg_lists.proofs.Distinct.{Contains-from_distinct, Contains-distinct, IsDistinct-distinct}
 use Rattle.vkg_lists.proofs.Members.{Contains-from_map, Contains-filter, Contains-from_filter, Contains-from_flat_map, flat_map_agree_on, filter_drops, Contains-option, Contains-filter_map, Contains-from_filter_map, Contains-only}
@@ -154,10 +155,10 @@ module _ (schema : Tables) (rules : List RowRule) (db : Database) (fine : (rule 
         (λ h.
         let x = member_there (filter in_it (all_quads schema rules db)) h in
         let y = Contains-from_filter in_it (all_quads schema rules db) x.0 x.1 in
-        (Decides-list_any terms_apart (graph_names (dataset_of schema rules db)) (Iri i)).1
+        (is_member-Decides terms_apart.decides (graph_names (dataset_of schema rules db)) (Iri i)).1
         (Contains-distinct terms_apart (filter_map (λ q. q.graph) (dataset_of schema rules db)) (Iri i) (Contains-filter_map (λ (q : Quad). q.graph) (dataset_of schema rules db) x.0 (Iri i) (Contains-distinct quads_apart (all_quads schema rules db) x.0 y.0) (eq_same graphs_apart x.0.graph (Some (Iri i)) y.1))))
         (λ h.
-        let c = (Decides-list_any terms_apart (graph_names (dataset_of schema rules db)) (Iri i)).0 h in
+        let c = (is_member-Decides terms_apart.decides (graph_names (dataset_of schema rules db)) (Iri i)).0 h in
         let x = Contains-from_filter_map (λ (q : Quad). q.graph) (dataset_of schema rules db) (Iri i) (Contains-from_distinct term_eq (filter_map (λ q. q.graph) (dataset_of schema rules db)) (Iri i) c) in
         there_member (filter in_it (all_quads schema rules db)) x.0 (Contains-filter in_it (all_quads schema rules db) x.0 (Contains-from_distinct quad_eq (all_quads schema rules db) x.0 x.1) (ap (λ g. graph_eq g (Some (Iri i))) x.2 ∙ eq_itself terms_apart (Iri i))))
 

@@ -2,8 +2,8 @@
 use Rattle.std.proofs.Common.{◌≡◌, ℕ, true, List, [], ◌∷◌, ◌++◌, ⊎_elim, ap, subst}
 use Rattle.std.specs.Prelude.{Option, Contains, flat_map}
 use Rattle.std.proofs.lemmas.List.Elements.{Contains-append_left, Contains-append_right, Contains-append_cases}
+use Rattle.std.proofs.lemmas.Map.Made.{is_member-Decides}
 use Rattle.vkg_lists.proofs.Tests.{nat_test}
-use Rattle.vkg_lists.proofs.Counts.{Decides-list_any}
 use Rattle.vkg_lists.proofs.Members.{Contains-none, Contains-here, Contains-there, Contains-flat_map, Contains-from_flat_map, Contains-only}
 use Rattle.vkg_sparql.specs.declared.pattern.Node.{Node}
 use Rattle.vkg_sparql.specs.declared.pattern.Node.TheVariants.{Variable, Label, Fixed}
@@ -57,7 +57,7 @@ module _ (numbers : Node → List ℕ) (node : ℕ → Node) (is : (x : Node) (v
 
   named_by_patterns : (ps : List TriplePattern) (v : ℕ) → has (flat_map of_pattern ps) v ≡ true → Contains (patterns_nodes ps) (node v)
   named_by_patterns ps v e =
-      let x = Contains-from_flat_map of_pattern ps v ((Decides-list_any nat_test (flat_map of_pattern ps) v).0 e) in
+      let x = Contains-from_flat_map of_pattern ps v ((is_member-Decides nat_test.decides (flat_map of_pattern ps) v).0 e) in
       Contains-flat_map pattern_nodes ps x.0 (node v) x.1 (named_by_pattern x.0 v x.2)
 
 pub variables_named : (ps : List TriplePattern) (v : ℕ) → has (flat_map pattern_variables ps) v ≡ true → Contains (patterns_nodes ps) (Variable v)

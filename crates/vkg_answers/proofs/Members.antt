@@ -8,7 +8,7 @@ use Rattle.std.specs.List.{zip, range_with_len}
 use Rattle.std.proofs.lemmas.List.Folds.{list_all-append}
 use Rattle.vkg_lists.proofs.Nothing.{flat_map_nothing}
 use Rattle.vkg_unfold.proofs.PlanColumns.{names_of_places}
-use Rattle.vkg_lists.proofs.Distinct.{distinct-map, Contains-from_distinct}
+use Rattle.vkg_lists.proofs.Distinct.{Contains-from_distinct, distinct_map_on}
 use Rattle.vkg_lists.proofs.Walks.{filter-map, filter-filter, map-map, filter_map_is_flat_map, filter-flat_map, flat_map-flat_map, map-flat_map, map_filter_is_flat_map}
 use Rattle.vkg_lists.proofs.Members.{flat_map_agree_on, all_of_each, each_of_all}
 use Rattle.vkg_lists.proofs.Counts.{eq_same}
@@ -80,7 +80,7 @@ admitted_names Each (Some g) test e = refl
 pub names_are_places : (mode : Mode) (p : TriplePattern) (rule : RowRule) (test : List Expr) → graph_test mode rule.graph ≡ Some test → map (λ (x : Named). x.0) (pattern_places mode p rule) ≡ pattern_names mode p
 names_are_places mode p rule test e =
     map-append (λ (x : Named). x.0) (distinct same_name (flat_map named (places p rule))) (hidden_places mode rule)
-    ∙ (λ i. (sym (distinct-map same_name name_eq (λ (x : Named). x.0) (λ x y. refl) (flat_map named (places p rule))) ∙ ap (distinct name_eq) (names_of_places (places p rule))) i
+    ∙ (λ i. (distinct_map_on same_name name_eq (λ (x : Named). x.0) (flat_map named (places p rule)) (λ x y c d. refl) ∙ ap (distinct name_eq) (names_of_places (places p rule))) i
     ++ (ap (map (λ (x : Named). x.0)) (hidden_is_of mode rule) ∙ admitted_names mode rule.graph test e) i)
 
 -- first, where each name stands once, and before hidden columns
@@ -126,7 +126,7 @@ module _ (mode : Mode) (p : TriplePattern) (rule : RowRule) (test : List Expr) (
       ap (λ ns. zip ns (row_cells row (member_exprs mode p rule))) (sym (names_are_places mode p rule test admits))
       ∙ entries_of row (pattern_places mode p rule)
       ∙ map-append (entry row) (distinct same_name (flat_map named (places p rule))) (hidden_places mode rule)
-      ∙ (λ i. (sym (distinct-map same_name same_entry (entry row) (λ x y. refl) (flat_map named (places p rule))) ∙ ap (distinct same_entry) (named_are row (places p rule))) i ++ map (entry row) (hidden_is_of mode rule i))
+      ∙ (λ i. (distinct_map_on same_name same_entry (entry row) (flat_map named (places p rule)) (λ x y c d. refl) ∙ ap (distinct same_entry) (named_are row (places p rule))) i ++ map (entry row) (hidden_is_of mode rule i))
 
   pub member_solution : (n : ℕ) → named_solution n (zip (pattern_names mode p) (row_cells row (member_exprs mode p rule))) ≡ named_solution n place_entries
   member_solution n = ap (named_solution n) member_entries ∙ (λ i. map (λ v. ap term_of (hidden_passed row v mode rule.graph (distinct same_entry place_entries) ∙ first-distinct (Some v) place_entries) i) (range_with_len 0 n))

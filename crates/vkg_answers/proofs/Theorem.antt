@@ -4,10 +4,10 @@ use Rattle.std.proofs.Math.Bool.{or-true}
 use Rattle.std.specs.Prelude.{Option, Some, None, ◌||◌, filter, flat_map, filter_map, Contains, if◌then◌else◌}
 use Rattle.std.specs.List.{list_any, cons_option}
 use Rattle.std.specs.List.Sorted.{IsPermutation}
+use Rattle.std.proofs.lemmas.Map.Made.{is_member-Decides}
 use Rattle.vkg_lists.proofs.Tests.{nat_test}
-use Rattle.vkg_lists.proofs.Counts.{eq_comm, Decides-list_any}
-use Rattle.vkg_lists.proofs.Members.{Contains-here, Contains-only}
-use Rattle.vkg_lists.proofs.Walks.{filter_all}
+use Rattle.vkg_lists.proofs.Counts.{eq_comm}
+use Rattle.vkg_lists.proofs.Members.{Contains-here, Contains-only, filter_keeps}
 use Rattle.vkg_lists.proofs.Distinct.{any_of-distinct}
 use Rattle.vkg_terms.specs.declared.term.Term.{Term}
 use Rattle.vkg_terms.specs.declared.term.Term.TheVariants.{Iri}
@@ -55,7 +55,7 @@ named_below : (n w : ℕ) (a : Algebra) → IsLawfulAlgebra n (Graph (name.Each 
 named_below n w a h = h.within (Variable w) (Contains-here (Variable w) (algebra_nodes a))
 
 one_below : (n w : ℕ) → w < n → AreBelow n (w ∷ [])
-one_below n w l v e = subst (λ u. u < n) (Contains-only w v ((Decides-list_any nat_test (w ∷ []) v).0 e)) l
+one_below n w l v e = subst (λ u. u < n) (Contains-only w v ((is_member-Decides nat_test.decides (w ∷ []) v).0 e)) l
 
 pub visible_below : (n : ℕ) (a : Algebra) → IsLawfulAlgebra n a → AreBelow n (visible a)
 visible_below n (Bgp ps) h = λ v e. variables_below n ps h v (sym (has-each_once (flat_map pattern_variables ps) v) ∙ e)
@@ -124,7 +124,7 @@ module _ (schema : Tables) (rules : List RowRule) (n : ℕ) (d : Dataset) (db : 
 
   selected : (b : Bool) (c : Expr) (p : Plan) → rows_of schema (if b then Select c p else p) db ≡ filter (λ row. if b then holds c row else true) (rows_of schema p db)
   selected true c p = refl
-  selected false c p = sym (filter_all (λ row. true) (rows_of schema p db) (λ x. refl))
+  selected false c p = sym (filter_keeps (λ row. true) (rows_of schema p db) (λ x c. refl))
 
   abbrev rows_in : Algebra → Mode → List Row
   rows_in a mode = rows_of schema (unfolded schema rules a mode) db

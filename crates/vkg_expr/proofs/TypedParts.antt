@@ -7,6 +7,7 @@ use Rattle.std.proofs.lemmas.Bool.{eqb-true}
 use Rattle.std.proofs.lemmas.Option.{slice_get_within}
 use Rattle.std.proofs.lemmas.List.Elements.{All-from_recursion}
 use Rattle.std.proofs.lemmas.Result.{IfOk-weaker}
+use Rattle.std.proofs.lemmas.Slice.Zip.{AllZip-long}
 use Rattle.vkg_lists.proofs.Each.{zip_get}
 use Rattle.vkg_lists.proofs.Onto.{first_given, map_given}
 use Rattle.vkg_lists.proofs.Results.{then_given}
@@ -31,7 +32,6 @@ use Rattle.vkg_expr.specs.Value.{value_of, values_of}
 use Rattle.vkg_expr.proofs.ValueFits.{along, common_given, kind_same, value-fits, values-fit}
 use Rattle.vkg_expr.proofs.Weights.{item-weighs, weight, weight_of, weight_of_each}
 use Rattle.vkg_lists.proofs.Bools.{and_parts}
-use Rattle.vkg_lists.proofs.Members.{zip_length}
 
 abbrev Got : {E : Type 0} → Result Cell E → Expr → Row → Type 0
 Got r e row = IfOk r (λ c. c ≡ value_of e row)
@@ -51,7 +51,7 @@ kinds-append (x ∷ ks) ls [] ds h k = absurd h
 kinds-append (x ∷ ks) ls (c ∷ cs) ds h k = (h.0, kinds-append ks ls cs ds h.1 k)
 
 column-within : (at : ℕ) (row : Row) → IsTyped (Col at) row → at < length row
-column-within at row t = subst (λ n. at < n) (zip_length (λ k c. fits k c ≡ true) t.kinds row t.of_row) (slice_get_within t.kinds at t.own t.of_expr)
+column-within at row t = subst (λ n. at < n) (sym (AllZip-long (λ k c. fits k c ≡ true) t.kinds row t.of_row)) (slice_get_within t.kinds at t.own t.of_expr)
 
 -- of one part
 

@@ -35,7 +35,7 @@ use Rattle.vkg_row_rules.specs.declared.row_rule.RowRule.{RowRule}
 use Rattle.vkg_row_rules.specs.RowRules.{object_term, row_rule, row_rules}
 use Rattle.vkg_row_rules.specs.RowTerms.{kind_at, piece_of, row_term}
 use Rattle.vkg_maps.specs.Within.{IsCondition, IsOver, IsWithin, piece_columns, kinds_at}
-use Rattle.vkg_row_rules.proofs.SoundRules.{AreJoined, OfGraph, OfRule, object_table, rules_within}
+use Rattle.vkg_row_rules.proofs.SoundRules.{AreJoined, OfRule, object_table, rules_within}
 use Rattle.vkg_unfold.specs.FittingRules.{AreFitting, FitsCondition, FitsGraph, FitsJoin, FitsPiece, FitsTerm, IsFitting, IsTable, rule_kinds}
 use Rattle.vkg_fine_rules.specs.Laws.{HasFittingRules}
 
@@ -89,7 +89,7 @@ module _ (ks : List SqlType) (none : NoTerms ks) where
   term_fits base (from.Column c (sort.Literal a)) h = (hole_fits ks none c h.columns.0, tt)
   term_fits base (from.Template ps y) h = pieces_fit ps h.columns
 
-  graph_fits : (base : List ℕ) (g : Option TermMap) → OfGraph (IsOver ks) g → FitsGraph ks (option_map (row_term base ks) g)
+  graph_fits : (base : List ℕ) (g : Option TermMap) → IfSome g (IsOver ks) → FitsGraph ks (option_map (row_term base ks) g)
   graph_fits base None h = tt
   graph_fits base (Some g) h = term_fits base g h
 

@@ -11,12 +11,11 @@ use Rattle.vkg_expr.proofs.ReadBack.{truth_back}
 use Rattle.percent_encoding.specs.Percent.{percent_decode}
 use lib.Utf8.{encode, scalar, scalars}
 use Rattle.vkg_lists.proofs.Bools.{and_parts, is_false, same_truth}
-use Rattle.vkg_lists.proofs.Counts.{eq_comm}
-use Rattle.vkg_lists.proofs.Tests.{test_along}
+use Rattle.vkg_lists.proofs.Counts.{eq_comm, eq_itself}
+use Rattle.vkg_lists.proofs.Tests.{test_along, bytes_test}
 use Rattle.vkg_lists.proofs.Texts.{bytes_test}
 use Rattle.vkg_terms.specs.Safe.{is_safe_character, is_unreserved, percent, safe, safe_character}
 use Rattle.vkg_terms.proofs.SafeLemmas.{decode-safe, safe_same, plain, plain_percent, octets}
-use Rattle.vkg_terms.proofs.SameLemmas.{bytes_itself}
 use Rattle.vkg_cells.specs.declared.cell.SqlType.{SqlType}
 use Rattle.vkg_cells.specs.declared.cell.Cell.{Cell}
 use Rattle.vkg_cells.specs.declared.cell.Cell.TheVariants as cell
@@ -82,7 +81,7 @@ null_right c d e = ap (λ x. is_known_true (same c x)) e ∙ of c
 
 -- ---- the cell that has a form
 form_itself : (c : Cell) (s : List ℕ) → lexical_form c ≡ Some s → same_form (lexical_form c) (Some s) ≡ true
-form_itself c s e = ap (λ o. same_form o (Some s)) e ∙ bytes_itself s
+form_itself c s e = ap (λ o. same_form o (Some s)) e ∙ eq_itself bytes_test s
 
 with_form : (k : SqlType) (c : Cell) → (h : Proper k c) → cell_with k h.form ≡ Some c
 with_form k c h = ap (cell_if h.form) h.read ∙ ap (λ b. cond b (Some c) None) (form_itself c h.form h.is)
@@ -135,7 +134,7 @@ text_there s b u e = rw (is_utf8-from_IsUtf8 s u, e) refl
 source_there : (t : List ℕ) → IsUtf8 t → source_of (safe t) ≡ Some t
 source_there t u =
     let d = decode-safe t u in
-    ap (λ x. text_if x (bytes_eq (safe x) (safe t))) d ∙ text_there t (bytes_eq (safe t) (safe t)) u (bytes_itself (safe t))
+    ap (λ x. text_if x (bytes_eq (safe x) (safe t))) d ∙ text_there t (bytes_eq (safe t) (safe t)) u (eq_itself bytes_test (safe t))
 
 source_is : (s t : List ℕ) → source_of s ≡ Some t → IsUtf8 t × (safe t ≡ s)
 source_is s t e =

@@ -2,8 +2,9 @@
 use Rattle.std.proofs.Common.{◌≡◌, ◌∙◌, ℕ, [], length, refl, ap}
 use Rattle.std.specs.Prelude.{Contains}
 use Rattle.std.proofs.lemmas.List.{length-map}
+use Rattle.std.proofs.lemmas.Slice.Zip.{AllZip-long}
 use Rattle.vkg_lists.specs.Sets.{distinct}
-use Rattle.vkg_lists.proofs.Members.{each_from_recursion, flat_map_agree_on, zip_length}
+use Rattle.vkg_lists.proofs.Members.{each_from_recursion, flat_map_agree_on}
 use Rattle.vkg_lists.proofs.Walks.{flat_map-map}
 use Rattle.vkg_schema.specs.declared.table.Column.{Column}
 use Rattle.vkg_schema.specs.Meets.{FitsColumn, MeetsSchema}
@@ -29,7 +30,7 @@ use Rattle.vkg_row_rules.proofs.SoundRules.{listed_over, of_rules}
 row_width : (schema : Tables) (db : Database) → MeetsSchema schema db → (table : ℕ) (row : Row) → Contains (rows_of db table) row → length (kinds_at schema table) ≡ length row
 row_width schema db meets table row c =
     let r = row_of_table db schema db meets table row c in
-    ap length (kinds_of schema table r.0 r.1) ∙ length-map r.0.columns (λ (c : Column). c.kind) ∙ zip_length FitsColumn r.0.columns row r.2
+    ap length (kinds_of schema table r.0 r.1) ∙ length-map r.0.columns (λ (c : Column). c.kind) ∙ sym (AllZip-long FitsColumn r.0.columns row r.2)
 
 module _ (schema : Tables) (mapping : Mapping) (db : Database) (within : IsWithin schema mapping) (meets : MeetsSchema schema db) (faultless : data_faults mapping db ≡ []) where
   pub rule_sound : (rule : QuadRule) → Contains (quad_rules mapping) rule → IsSound mapping.base schema db rule

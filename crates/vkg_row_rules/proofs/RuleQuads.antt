@@ -24,7 +24,7 @@ use Rattle.vkg_row_rules.specs.RowTerms.{row_term}
 use Rattle.vkg_maps.specs.Within.{IsCondition, IsOver, term_columns, kinds_at}
 use Rattle.vkg_row_rules.proofs.PairedRows.{conditions_hold, term_before, term_behind}
 use Rattle.vkg_row_rules.proofs.RowTermValues.{IsMade, row_term_value}
-use Rattle.vkg_row_rules.proofs.SoundRules.{OfGraph, OfRule}
+use Rattle.vkg_row_rules.proofs.SoundRules.{OfRule}
 
 -- ---- what is known of a rule over a database
 
@@ -61,11 +61,11 @@ module _ (base : List ℕ) (ks : List SqlType) where
   graph_same (Some g) row child h = ap (option_map graph_name) h
 
 module _ (base : List ℕ) (schema : Tables) (db : Database) (table : ℕ) where
-  pub graph_of : (g : Option TermMap) (row : Row) → Contains (table_rows db table) row → OfGraph (IsFine base schema db table) g → GraphIs base (kinds_at schema table) g row row
+  pub graph_of : (g : Option TermMap) (row : Row) → Contains (table_rows db table) row → IfSome g (IsFine base schema db table) → GraphIs base (kinds_at schema table) g row row
   graph_of None row c h = tt
   graph_of (Some g) row c h = row_term_value base (kinds_at schema table) g row (h.made row c)
 
-  pub graph_before : (r s : Row) → length (kinds_at schema table) ≡ length r → (g : Option TermMap) → Contains (table_rows db table) r → OfGraph (IsFine base schema db table) g → GraphIs base (kinds_at schema table) g (r ++ s) r
+  pub graph_before : (r s : Row) → length (kinds_at schema table) ≡ length r → (g : Option TermMap) → Contains (table_rows db table) r → IfSome g (IsFine base schema db table) → GraphIs base (kinds_at schema table) g (r ++ s) r
   graph_before r s width None c h = tt
   graph_before r s width (Some g) c h = before base (kinds_at schema table) r s width g h.over (h.made r c)
 

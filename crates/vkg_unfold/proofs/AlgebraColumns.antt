@@ -6,10 +6,10 @@ use Rattle.std.specs.Bool.{then_some}
 use Rattle.std.proofs.lemmas.Bool.{true≢false}
 use Rattle.std.proofs.lemmas.List.{length-map, replicate-append-replicate}
 use Rattle.std.proofs.lemmas.List.Elements.{Contains-append_left, Contains-append_right, Contains-append_cases}
+use Rattle.std.proofs.lemmas.Map.Made.{is_member-Decides}
 use Rattle.vkg_lists.proofs.Each.{recursion_map_weaken, map_each}
 use Rattle.vkg_lists.specs.Options.{with_first, joined}
 use Rattle.vkg_lists.specs.Sets.{IsEqualityTest, distinct}
-use Rattle.vkg_lists.proofs.Counts.{Decides-list_any}
 use Rattle.vkg_lists.proofs.Distinct.{Contains-distinct, Contains-from_distinct}
 use Rattle.vkg_lists.proofs.Members.{Contains-none, Contains-here, Contains-there, Contains-cons_cases, Contains-flat_map, Contains-from_flat_map, Contains-from_filter, recursion_from_each, recursion_append}
 use Rattle.vkg_lists.proofs.Positions.{first_found}
@@ -84,7 +84,7 @@ pub has_place : (vs : List ℕ) (v : ℕ) → has vs v ≡ true → position_or_
 has_place vs v h = (first_found (nat_eq v) vs h).1.inside
 
 name_place : (names : List Name) (x : Name) → Contains names x → position_or_len (name_eq x) names < length names
-name_place names x c = (first_found (name_eq x) names ((Decides-list_any name_test names x).1 c)).1.inside
+name_place names x c = (first_found (name_eq x) names ((is_member-Decides name_test.decides names x).1 c)).1.inside
 
 -- ---- basic graph patterns
 
@@ -243,7 +243,7 @@ agreement_truth mode vs ws =
     recursion_append (IsTruth ks) (map shared (filter (has ws) vs)) (if_each mode (Same (Col (length vs)) (Col (columns_in mode vs + length ws))))
     (map_each (IsTruth ks) shared (filter (has ws) vs) (λ v c.
     let w = Contains-from_filter (has ws) vs v c in
-    let l = left_term mode vs ws v ((Decides-list_any nat_test vs v).1 w.0) in
+    let l = left_term mode vs ws v ((is_member-Decides nat_test.decides vs v).1 w.0) in
     let r = right_term mode vs ws v w.1 in
     or_truth ks (IsNull (left_column vs v) ∷ IsNull (right_column mode vs ws v) ∷ Same (left_column vs v) (right_column mode vs ws v) ∷ [])
     (null_truth ks (left_column vs v) l, (null_truth ks (right_column mode vs ws v) r, (same_truth ks (left_column vs v) (right_column mode vs ws v) l r, tt)))))
@@ -322,7 +322,7 @@ module _ (schema : Tables) where
   -- ---- GRAPH
 
   column_term : (n : ℕ) (vs : List ℕ) (v : ℕ) → Contains vs v → IsTerm (replicate (n + length vs) kind.Term) (column vs n v)
-  column_term n vs v c = let k = has_place vs v ((Decides-list_any nat_test vs v).1 c) in term_at (n + length vs) (n + position_or_len (nat_eq v) vs) (omega (arith, k))
+  column_term n vs v c = let k = has_place vs v ((is_member-Decides nat_test.decides vs v).1 c) in term_at (n + length vs) (n + position_or_len (nat_eq v) vs) (omega (arith, k))
 
   after_test_kinds : (first : Plan) (vs : List ℕ) (p : Plan) → HasTermKinds schema 0 first → HasTermKinds schema (length vs) p → HasTermKinds schema (length vs) (after first vs 0 p)
   after_test_kinds first vs p h k =
@@ -362,7 +362,7 @@ module _ (schema : Tables) where
       by true e = term_at (suc (length vs)) (length vs) (omega arith)
       by false e =
           let there : Contains vs w = ⊎_elim (λ k. absurd (true≢false (sym ((nat_test.decides v w).1 k) ∙ e))) (λ k. k) (Contains-cons_cases v vs w (Contains-from_distinct nat_eq (v ∷ vs) w c)) in
-          let k = has_place vs w ((Decides-list_any nat_test vs w).1 there) in
+          let k = has_place vs w ((is_member-Decides nat_test.decides vs w).1 there) in
           term_at (suc (length vs)) (position_or_len (nat_eq w) vs) (omega (arith, k))
 
   each_graph_kinds : (vs : List ℕ) (v : ℕ) (p : Plan) → HasTermKinds schema (suc (length vs)) p → HasTermKinds schema (length (each_once (v ∷ vs))) (each_graph vs v p)
