@@ -89,9 +89,6 @@ cell_at R m w stamp old new n c size h col r =
     let cell : IsNextCell (R ((n * w + column c) / w) (seen_at ((n * w + column c) % w))) stamp (get_or old (n * w + column c) 0) (get_or new (n * w + column c) 0) = r.cells (n * w + column c) inside in
     rw (in_range old w n c col, in_range new w n c col) (subst (λ y. IsNextCell y stamp (get_or old (n * w + column c) 0) (get_or new (n * w + column c) 0)) reason cell)
 
-pub round_cell : (g : List Rule) {changed : Bool} (w stamp : ℕ) (old new : List ℕ) (n : ℕ) (c : Option ℕ) → length old ≡ w * length g → n < length g → column c < w → IsRound (BeginReason g w old) stamp old new (length old) changed → IsNextCell (ShapeBegins (rank_in old w) c (shape_of g n)) stamp (rank_in old w n c) (rank_in new w n c)
-round_cell g w stamp old new n c size h col r = cell_at (λ n c. ShapeBegins (rank_in old w) c (shape_of g n)) (length g) w stamp old new n c size h col r
-
 pub cell_kept : {reason : Type 0} {stamp old v : ℕ} → IsNextCell reason stamp old v → 0 < old → v ≡ old
 cell_kept (stays h) p = refl
 cell_kept (comes b) p = absurd (omega arith)
@@ -144,17 +141,17 @@ founded_next {g = g} w stamp old new wf size pos f r = record { falls = λ n c h
   where
     kept : (n : ℕ) (c : Option ℕ) → n < length g → 0 < rank_in old w n c → rank_in new w n c ≡ rank_in old w n c
     kept n c h p = elim (column_or_not w c) [
-      | inl col ↦ cell_kept (round_cell g w stamp old new n c size h col r) p
+      | inl col ↦ cell_kept (cell_at (λ n c. ShapeBegins (rank_in old w) c (shape_of g n)) (length g) w stamp old new n c size h col r) p
       | inr out ↦ out_of_range new w n c out ∙ sym (out_of_range old w n c out)
     ]
 
     below : (n : ℕ) (c : Option ℕ) → n < length g → (column c < w) ⊎ (w ≤ column c) → rank_in new w n c < stamp + 1
-    below n c h (inl col) = cell_at_most (round_cell g w stamp old new n c size h col r) (f.below n c h)
+    below n c h (inl col) = cell_at_most (cell_at (λ n c. ShapeBegins (rank_in old w) c (shape_of g n)) (length g) w stamp old new n c size h col r) (f.below n c h)
     below n c h (inr out) = rw (out_of_range new w n c out) (omega arith)
 
     falls : (n : ℕ) (c : Option ℕ) → n < length g → 0 < rank_in new w n c → (column c < w) ⊎ (w ≤ column c) → ShapeFalls (rank_in new w) (rank_in new w n c) c (shape_of g n)
     falls n c h p (inr out) = absurd (let z : rank_in new w n c ≡ 0 = out_of_range new w n c out in omega arith)
-    falls n c h p (inl col) = elim (cell_why (round_cell g w stamp old new n c size h col r) p) [
+    falls n c h p (inl col) = elim (cell_why (cell_at (λ n c. ShapeBegins (rank_in old w) c (shape_of g n)) (length g) w stamp old new n c size h col r) p) [
       | inl q ↦ subst (λ y. ShapeFalls (rank_in new w) y c (shape_of g n)) (sym (kept n c h q)) (shape_kept (rank_in old w n c) c (rank_in old w) (rank_in new w) wf h kept (shape_of g n) refl (f.falls n c h q))
       | inr q ↦ subst (λ y. ShapeFalls (rank_in new w) y c (shape_of g n)) (sym q.0) (shape_found c (rank_in old w) (rank_in new w) wf h kept f.below (shape_of g n) refl q.1)
     ]
@@ -177,7 +174,7 @@ finished {g = g} w stamp old new wf cols wide size pos f r e = record { falls = 
     past c n (Choice xs ys) h q out (inr s) = never_past w c old ys out wide s
 
     closed : (n : ℕ) (c : Option ℕ) → n < length g → ShapeBegins (rank_in old w) c (shape_of g n) → (column c < w) ⊎ (w ≤ column c) → 0 < rank_in old w n c
-    closed n c h s (inl col) = cell_done (round_cell g w stamp old new n c size h col r) (ap (λ y. rank_in y w n c) same) pos s
+    closed n c h s (inl col) = cell_done (cell_at (λ n c. ShapeBegins (rank_in old w) c (shape_of g n)) (length g) w stamp old new n c size h col r) (ap (λ y. rank_in y w n c) same) pos s
     closed n c h s (inr out) = absurd (past c n (shape_of g n) h refl out s)
 
 -- a round that changes a cell leaves fewer empty
