@@ -1,9 +1,9 @@
 -- How often a map is in a filter, a join and a left join.
-use Rattle.std.proofs.Common.{◌≡◌, ◌∙◌, ◌+◌, Bool, true, false, ◌&&◌, cond, List, [], ◌∷◌, inl, inr, refl, sym, ap, true≢false, arith}
+use Rattle.std.proofs.Common.{◌≡◌, ◌∙◌, ◌+◌, Bool, true, false, ◌&&◌, cond, List, [], ◌∷◌, refl, sym, ap, true≢false, arith}
 use Rattle.std.specs.List.{count_by, filter, flat_map, sum_by}
-use Rattle.std.proofs.lemmas.Bool.{cases_Bool}
-use Rattle.std.proofs.Math.Bool.{and-false}
+use Rattle.std.proofs.lemmas.Bool.{cond_both}
 use Rattle.vkg_lists.specs.Rows.{merged_if_compatible}
+use Rattle.vkg_lists.proofs.Bools.{and_absorbs}
 use Rattle.vkg_lists.proofs.Counts.{count_by-append, count_by-filter, count_by-flat_map, count_none, eq_same}
 use Rattle.vkg_lists.proofs.Members.{Contains-from_filter}
 use Rattle.vkg_terms.specs.Same.{term_eq}
@@ -19,16 +19,13 @@ module _ (p : Solution → Bool) (ms : List Solution) (m : Solution) where
   card-filter_passes h = count_by-filter (solution_eq m) p ms ∙ (λ i. count_by (λ x. same x i) ms)
     where
       same : (x : Solution) → p x && solution_eq m x ≡ solution_eq m x
-      same x = elim (cases_Bool (solution_eq m x)) [
-        | inl e ↦ let q : p x ≡ true = ap p (sym (eq_same solution_test m x e)) ∙ h in rw q refl
-        | inr e ↦ rw e (and-false (p x))
-      ]
+      same x = and_absorbs (p x) (solution_eq m x) (λ e. ap p (sym (eq_same solution_test m x e)) ∙ h)
 
   card-filter_fails : p m ≡ false → card (filter p ms) m ≡ 0
   card-filter_fails h = count_none solution_test (filter p ms) m (λ c. true≢false (sym (Contains-from_filter p ms m c).1 ∙ h))
 
   card-filter : card (filter p ms) m ≡ cond (p m) (card ms m) 0
-  card-filter = elim (cases_Bool (p m)) [ inl e ↦ rw e (card-filter_passes e) | inr e ↦ rw e (card-filter_fails e) ]
+  card-filter = cond_both (p m) (card ms m) 0 (λ n. card (filter p ms) m ≡ n) card-filter_passes card-filter_fails
 
 -- ---- the join
 

@@ -31,14 +31,11 @@ use Rattle.vkg_algebra.proofs.PatternLemmas.{Describes, IsMapOf, both_join, once
 
 -- ---- a place of a pattern
 
-lookup-unbound : (n v : ℕ) → lookup (unbound n) v ≡ None
-lookup-unbound n v = replicate_same n v None
-
 lookup-only : (n v : ℕ) (t : Term) → v < n → lookup (only n v t) v ≡ Some t
 lookup-only n v t l = get_or-set_same (unbound n) v (Some t) None (subst (λ k. v < k) (sym (length-replicate {A = Option Term} n None)) l)
 
 lookup-only_other : (n v w : ℕ) (t : Term) → w ≢ v → lookup (only n v t) w ≡ None
-lookup-only_other n v w t h = get_or-set_other (unbound n) v w (Some t) None h ∙ lookup-unbound n w
+lookup-only_other n v w t h = get_or-set_other (unbound n) v w (Some t) None h ∙ replicate_same {A = Option Term} n w None
 
 length-only : (n v : ℕ) (t : Term) → length (only n v t) ≡ n
 length-only n v t = length-set (unbound n) v (Some t) ∙ length-replicate n None
@@ -65,7 +62,7 @@ numbered n v t l = record {
 is_unbound : (n : ℕ) {P : Solution → Type 0} (s : Solution) → s ≡ unbound n → P s → IsMapOf n [] P s
 is_unbound n s e p = record {
   size = ap length e ∙ length-replicate n None;
-  bound = λ w h. let none : lookup s w ≡ None = ap (λ m. lookup m w) e ∙ lookup-unbound n w in cc;
+  bound = λ w h. let none : lookup s w ≡ None = ap (λ m. lookup m w) e ∙ replicate_same {A = Option Term} n w None in cc;
   fact = p;
 }
 

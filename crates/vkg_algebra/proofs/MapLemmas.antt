@@ -1,6 +1,5 @@
 -- Solutions as maps: when two are one, joins of maps by what they bind, the left join in words.
 use Rattle.std.proofs.Common.{◌≡◌, ℕ, Bool, true, false, not, ◌&&◌, List, length, None, inl, inr, ⊎_elim, refl, sym, subst}
-use Rattle.std.specs.Bool.{Decides}
 use Rattle.std.specs.List.{Contains, filter, flat_map, list_all}
 use Rattle.std.proofs.lemmas.Bool.{both_ways}
 use Rattle.std.proofs.lemmas.List.{ext_get_or}
@@ -14,7 +13,7 @@ use Rattle.vkg_lists.proofs.Tests.{list_test, option_test}
 use Rattle.vkg_terms.proofs.SameLemmas.{terms_apart}
 use Rattle.vkg_terms.specs.Same.{term_eq}
 use Rattle.vkg_algebra.specs.Answer.{solution_eq}
-use Rattle.vkg_algebra.specs.Laws.{AreCompatible, IsAlone, IsJoined, IsLeftJoin, KeepsMaps}
+use Rattle.vkg_algebra.specs.Laws.{IsAlone, IsJoined, IsLeftJoin, KeepsMaps}
 use Rattle.vkg_algebra.specs.Solutions.{Solution, compatible, difference, join, lookup, merge}
 
 -- ---- tests of terms and of solutions
@@ -28,12 +27,8 @@ solution_test = list_test (option_test terms_apart)
 pub same_map : (s t : Solution) → length s ≡ length t → ((v : ℕ) → lookup s v ≡ lookup t v) → s ≡ t
 same_map s t e h = ext_get_or None s t e (λ v l. h v)
 
--- compatible in words
-pub says_compatible : (l r : Solution) → Decides (compatible l r) (AreCompatible l r)
-says_compatible l r = Decides-compatible terms_apart l r
-
 pub keeps_maps : (l r : Solution) → KeepsMaps l r
-keeps_maps l r = record { tested = says_compatible l r; merged = value_at-merge l r }
+keeps_maps l r = record { tested = Decides-compatible terms_apart l r; merged = value_at-merge l r }
 
 -- a map of a join is merged from two
 pub record IsPair (ls rs : List Solution) (m : Solution) : Type 0 where
@@ -76,14 +71,14 @@ module _ (holds : Solution → Bool) (ls rs : List Solution) where
         second = pair.second;
         of_first = pair.of_first;
         of_second = pair.of_second;
-        agree = (says_compatible pair.first pair.second).0 pair.agree;
+        agree = (Decides-compatible terms_apart pair.first pair.second).0 pair.agree;
         is = sym pair.is;
         passes = kept.1;
       }
 
   of_joined : (m : Solution) → IsJoined holds ls rs m → Contains (filter holds (join ls rs)) m
   of_joined m j =
-      let in_join = Contains-join ls rs j.first j.second j.of_first j.of_second ((says_compatible j.first j.second).1 j.agree) in
+      let in_join = Contains-join ls rs j.first j.second j.of_first j.of_second ((Decides-compatible terms_apart j.first j.second).1 j.agree) in
       Contains-filter holds (join ls rs) m (subst (Contains (join ls rs)) (sym j.is) in_join) j.passes
 
   pub alone_of : (m : Solution) → Contains (difference holds ls rs) m → IsAlone holds ls rs m
@@ -93,12 +88,12 @@ module _ (holds : Solution → Bool) (ls rs : List Solution) where
         of_first = kept.0;
         fails = λ r d a h. both_ways (compatible m r && holds (merge m r))
             (not_true (compatible m r && holds (merge m r)) (each_of_all (λ r. not (compatible m r && holds (merge m r))) rs kept.1 r d))
-            (and_true (compatible m r) (holds (merge m r)) ((says_compatible m r).1 a) h);
+            (and_true (compatible m r) (holds (merge m r)) ((Decides-compatible terms_apart m r).1 a) h);
       }
 
   pub of_alone : (m : Solution) → IsAlone holds ls rs m → Contains (difference holds ls rs) m
   of_alone m a = Contains-filter (λ l. list_all (λ r. not (compatible l r && holds (merge l r))) rs) ls m a.of_first
-      (all_of_each (λ r. not (compatible m r && holds (merge m r))) rs (λ r c. both_not (compatible m r) (holds (merge m r)) (λ e h. a.fails r c ((says_compatible m r).0 e) h)))
+      (all_of_each (λ r. not (compatible m r && holds (merge m r))) rs (λ r c. both_not (compatible m r) (holds (merge m r)) (λ e h. a.fails r c ((Decides-compatible terms_apart m r).0 e) h)))
 
   pub is_left_join : IsLeftJoin holds ls rs
   is_left_join m = (

@@ -2,22 +2,23 @@
 use Rattle.std.proofs.Common.{◌≡◌, ◌∙◌, ◌⊎◌, ℕ, zero, suc, Bool, true, false, cond, IsSome, List, [], ◌∷◌, ◌++◌, flat_map, length, Option, Some, None, inl, inr, ⊎_elim, refl, sym, ap, subst, true≢false, arith}
 use Rattle.std.specs.List.{Contains, IsDistinct}
 use Rattle.std.specs.Option.{option_or}
-use Rattle.std.proofs.lemmas.Bool.{cases_Bool}
+use Rattle.std.proofs.lemmas.Bool.{cases_Bool, cond_both}
 use Rattle.std.proofs.lemmas.List.Elements.{Contains-append_left, Contains-append_right, Contains-append_cases}
-use Rattle.vkg_lists.proofs.Counts.{Decides-list_any}
+use Rattle.std.proofs.lemmas.Map.Made.{is_member-Decides}
 use Rattle.vkg_lists.proofs.Distinct.{IsDistinct-cons, IsDistinct-flat_map, IsDistinct-nil}
 use Rattle.vkg_lists.proofs.Members.{Contains-none, Contains-from_flat_map, Contains-cond}
 use Rattle.vkg_lists.proofs.Results.{some_if}
-use Rattle.vkg_lists.proofs.Rows.{length-merge, value_at-merge}
+use Rattle.vkg_lists.proofs.Rows.{Decides-compatible, length-merge, value_at-merge}
 use Rattle.vkg_lists.proofs.Tests.{nat_test}
 use Rattle.vkg_lists.specs.Rows.{merged_if_compatible}
 use Rattle.vkg_terms.specs.declared.term.Term.{Term}
+use Rattle.vkg_terms.proofs.SameLemmas.{terms_apart}
 use Rattle.vkg_terms.specs.Same.{term_eq}
 use Rattle.vkg_algebra.specs.Answer.{solution_eq}
 use Rattle.vkg_algebra.specs.Laws.{AreCompatible}
 use Rattle.vkg_algebra.specs.Solutions.{Solution, compatible, join, lookup, merge}
 use Rattle.vkg_algebra.specs.Visible.{has}
-use Rattle.vkg_algebra.proofs.MapLemmas.{Contains-from_join, Contains-join, same_map, says_compatible, solution_test}
+use Rattle.vkg_algebra.proofs.MapLemmas.{Contains-from_join, Contains-join, same_map, solution_test}
 
 -- ---- what a merged map binds
 
@@ -35,12 +36,8 @@ length-restricted : (keep : ℕ → Bool) (s : Solution) → length (restricted 
 length-restricted keep [] = refl
 length-restricted keep (x ∷ s) = ap suc (length-restricted (λ v. keep (suc v)) s)
 
-cond_same : {A : Type 0} (b : Bool) (x : A) → cond b x x ≡ x
-cond_same true x = refl
-cond_same false x = refl
-
 lookup-restricted : (keep : ℕ → Bool) (s : Solution) (v : ℕ) → lookup (restricted keep s) v ≡ cond (keep v) (lookup s v) None
-lookup-restricted keep [] v = sym (cond_same (keep v) None)
+lookup-restricted keep [] v = sym (cond_both {A = Option Term} (keep v) None None (λ o. o ≡ None) (λ e. refl) (λ e. refl))
 lookup-restricted keep (x ∷ s) zero = refl
 lookup-restricted keep (x ∷ s) (suc v) = lookup-restricted (λ w. keep (suc w)) s v
 
@@ -80,20 +77,14 @@ pub record Describes (n : ℕ) (vs : List ℕ) (P : Solution → Type 0) (ls : L
   pub binds : (s : Solution) → P s → (v : ℕ) → Contains vs v → IsSome (lookup s v)
   pub moves : (s t : Solution) → P s → ((v : ℕ) → Contains vs v → lookup t v ≡ lookup s v) → P t
 
-pub is_among : (vs : List ℕ) (v : ℕ) → Contains vs v → has vs v ≡ true
-is_among vs v c = (Decides-list_any nat_test vs v).1 c
-
-from_among : (vs : List ℕ) (v : ℕ) → has vs v ≡ true → Contains vs v
-from_among vs v h = (Decides-list_any nat_test vs v).0 h
-
 kept_at : (vs : List ℕ) (s : Solution) (v : ℕ) → Contains vs v → lookup (restricted (has vs) s) v ≡ lookup s v
-kept_at vs s v c = lookup-restricted (has vs) s v ∙ ap (λ b. cond b (lookup s v) None) (is_among vs v c)
+kept_at vs s v c = lookup-restricted (has vs) s v ∙ ap (λ b. cond b (lookup s v) None) ((is_member-Decides nat_test.decides vs v).1 c)
 
 -- maps that bind the same at the numbers of both are one
 pub same_bound : {n : ℕ} {vs : List ℕ} {P : Solution → Type 0} (s t : Solution) → IsMapOf n vs P s → IsMapOf n vs P t → ((v : ℕ) → Contains vs v → lookup s v ≡ lookup t v) → s ≡ t
 same_bound {n} {vs} s t m k h = same_map s t (m.size ∙ sym k.size) (λ v. ⊎_elim
-    (λ e. h v (from_among vs v e))
-    (λ e. none_if (lookup s v) (λ b. true≢false (sym (is_among vs v (m.bound v b)) ∙ e)) ∙ sym (none_if (lookup t v) (λ b. true≢false (sym (is_among vs v (k.bound v b)) ∙ e))))
+    (λ e. h v ((is_member-Decides nat_test.decides vs v).0 e))
+    (λ e. none_if (lookup s v) (λ b. true≢false (sym ((is_member-Decides nat_test.decides vs v).1 (m.bound v b)) ∙ e)) ∙ sym (none_if (lookup t v) (λ b. true≢false (sym ((is_member-Decides nat_test.decides vs v).1 (k.bound v b)) ∙ e))))
     (cases_Bool (has vs v)))
 
 pub one_distinct : (b : Bool) (x : Solution) → IsDistinct solution_eq (cond b (x ∷ []) [])
@@ -126,12 +117,12 @@ module _ {n : ℕ} {vs ws : List ℕ} {P Q : Solution → Type 0} {ls rs : List 
       let r = restricted (has ws) s in
       let in_first : Contains ls l = d.back l (record {
         size = length-restricted (has vs) s ∙ m.size;
-        bound = λ v h. from_among vs v (some_if (has vs v) (lookup s v) (subst IsSome (lookup-restricted (has vs) s v) h)).0;
+        bound = λ v h. (is_member-Decides nat_test.decides vs v).0 (some_if (has vs v) (lookup s v) (subst IsSome (lookup-restricted (has vs) s v) h)).0;
         fact = d.moves s l m.fact.0 (kept_at vs s);
       }) in
       let in_second : Contains rs r = e.back r (record {
         size = length-restricted (has ws) s ∙ m.size;
-        bound = λ v h. from_among ws v (some_if (has ws v) (lookup s v) (subst IsSome (lookup-restricted (has ws) s v) h)).0;
+        bound = λ v h. (is_member-Decides nat_test.decides ws v).0 (some_if (has ws v) (lookup s v) (subst IsSome (lookup-restricted (has ws) s v) h)).0;
         fact = e.moves s r m.fact.1 (kept_at ws s);
       }) in
       let agree : AreCompatible l r = λ v t u f g.
@@ -141,13 +132,13 @@ module _ {n : ℕ} {vs ws : List ℕ} {P Q : Solution → Type 0} {ls rs : List 
       let whole : merge l r ≡ s = same_map (merge l r) s (omega (arith, length-merge l r, length-restricted (has vs) s, length-restricted (has ws) s)) (λ v.
       value_at-merge l r v
       ∙ (λ i. option_or (lookup-restricted (has vs) s v i) (lookup-restricted (has ws) s v i))
-      ∙ or_kept (has vs v) (has ws v) (lookup s v) (λ h. ⊎_elim (λ c. inl (is_among vs v c)) (λ c. inr (is_among ws v c)) (Contains-append_cases vs ws v (m.bound v h)))) in
-      subst (Contains (join ls rs)) whole (Contains-join ls rs l r in_first in_second ((says_compatible l r).1 agree))
+      ∙ or_kept (has vs v) (has ws v) (lookup s v) (λ h. ⊎_elim (λ c. inl ((is_member-Decides nat_test.decides vs v).1 c)) (λ c. inr ((is_member-Decides nat_test.decides ws v).1 c)) (Contains-append_cases vs ws v (m.bound v h)))) in
+      subst (Contains (join ls rs)) whole (Contains-join ls rs l r in_first in_second ((Decides-compatible terms_apart l r).1 agree))
 
   pub both_join : Describes n (vs ++ ws) (λ s. P s × Q s) (join ls rs)
   both_join = record {
     onto = λ s c. let pair = Contains-from_join ls rs s c in
-        subst (IsMapOf n (vs ++ ws) (λ s. P s × Q s)) pair.is (joined_map pair.first pair.second ((says_compatible pair.first pair.second).0 pair.agree) (d.onto pair.first pair.of_first) (e.onto pair.second pair.of_second));
+        subst (IsMapOf n (vs ++ ws) (λ s. P s × Q s)) pair.is (joined_map pair.first pair.second ((Decides-compatible terms_apart pair.first pair.second).0 pair.agree) (d.onto pair.first pair.of_first) (e.onto pair.second pair.of_second));
     back = split_map;
     binds = λ s f v c. ⊎_elim (d.binds s f.0 v) (e.binds s f.1 v) (Contains-append_cases vs ws v c);
     moves = λ s t f h. (d.moves s t f.0 (λ v c. h v (Contains-append_left vs ws v c)), e.moves s t f.1 (λ v c. h v (Contains-append_right vs ws v c)));
@@ -171,4 +162,4 @@ module _ {n : ℕ} {vs ws : List ℕ} {P Q : Solution → Type 0} {ls rs : List 
       second_same l r t z x y k h =
           let m = e.onto r k in
           let o = e.onto t h in
-          same_bound r t m o (λ v c. sym (at_second l r ((says_compatible l r).0 x.0) m.fact v c) ∙ ap (λ s. lookup s v) (x.1 ∙ sym y.1) ∙ at_second l t ((says_compatible l t).0 y.0) o.fact v c)
+          same_bound r t m o (λ v c. sym (at_second l r ((Decides-compatible terms_apart l r).0 x.0) m.fact v c) ∙ ap (λ s. lookup s v) (x.1 ∙ sym y.1) ∙ at_second l t ((Decides-compatible terms_apart l t).0 y.0) o.fact v c)

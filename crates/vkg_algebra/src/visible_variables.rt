@@ -1,6 +1,5 @@
 // The variables of an algebra (SPARQL 1.1, 18.2.1).
-ghost use Rattle.std.specs.Prelude.{◌≡◌, [], ◌∷◌, IfOk, OnOk, flat_map, nat_eq};
-ghost use Rattle.std.specs.List.{list_any};
+ghost use Rattle.std.specs.Prelude.{◌≡◌, [], ◌∷◌, IfOk, OnOk, flat_map};
 ghost use Rattle.vkg_algebra.specs.Algebra.{Bgp};
 ghost use Rattle.vkg_algebra.specs.Seen.{algebra_seen};
 ghost use Rattle.vkg_algebra.specs.Visible.{AddsEach, appearing, each_once, name_variables, node_variables, pattern_variables, visible as visible_of};
@@ -97,15 +96,9 @@ fn add_name(found: &mut Items<Var>, name: &GraphName) -> Result<(), Memory>
 pub(crate) fn add(found: &mut Items<Var>, number: usize) -> Result<(), Memory>
     ensures { OnOk result (AddsEach (number ∷ []) found.old found.new) }
 {
-    if contains(found.as_slice(), number) {
+    if found.as_slice().contains(&number) {
         return Ok(());
     }
     found.push(number)?;
     Ok(())
-}
-
-fn contains(numbers: &[usize], number: usize) -> bool
-    ensures { result ≡ list_any (λ k. nat_eq k number) numbers.now }
-{
-    numbers.iter().any(|k| *k == number)
 }

@@ -1,24 +1,25 @@
 -- The condition of a Join over shared variables is that the solutions are compatible.
-use Rattle.std.proofs.Common.{◌≡◌, ℕ, zero, suc, ◌+◌, ◌<◌, ◌≤◌, Bool, true, false, List, [], ◌∷◌, ◌++◌, map, length, refl, sym, ap, ◌∙◌, arith}
-use Rattle.std.specs.Prelude.{Option, Some, None, ◌&&◌, ◌||◌, nat_eq, filter, fold, unwrap_or}
+use Rattle.std.proofs.Common.{◌≡◌, ℕ, ◌+◌, ◌<◌, ◌≤◌, Bool, true, false, List, [], ◌∷◌, ◌++◌, map, length, refl, sym, ap, ◌∙◌, arith}
+use Rattle.std.specs.Prelude.{Option, Some, None, ◌&&◌, ◌||◌, filter}
 use Rattle.std.specs.List.{list_all, range_with_len}
 use Rattle.std.proofs.lemmas.List.Folds.{list_all-map}
-use Rattle.std.proofs.Math.Bool.{or-true}
+use Rattle.std.proofs.lemmas.Map.Made.{is_member-Decides}
 use Rattle.vkg_lists.proofs.Members.{each_of_all, all_of_each}
 use Rattle.vkg_lists.proofs.Tests.{nat_test}
-use Rattle.vkg_lists.proofs.Counts.{eq_itself, Decides-list_any}
 use Rattle.vkg_lists.proofs.Bools.{and_parts, same_truth}
 use Rattle.vkg_lists.proofs.Rows.{agree_none}
+use Rattle.vkg_lists.proofs.Each.{member_range}
 use Rattle.vkg_terms.specs.declared.term.Term.{Term}
 use Rattle.vkg_terms.specs.Same.{term_eq}
 use Rattle.vkg_cells.specs.declared.cell.Cell.{Cell}
 use Rattle.vkg_cells.specs.Order.{same}
 use Rattle.vkg_cells.specs.declared.cell.Cell.TheVariants as cell
-use Rattle.vkg_schema.specs.Rows.{is_null, Row}
-use Rattle.vkg_values.specs.Logic.{or3}
+use Rattle.vkg_schema.specs.Rows.{is_known_true, is_null, Row}
 use Rattle.vkg_algebra.specs.Solutions.{compatible}
-use Rattle.vkg_expr.specs.Expr.{Expr}
+use Rattle.vkg_expr.specs.Expr.{Expr, exprs, IsNull, Same}
+use Rattle.vkg_expr.specs.Logic.{or_of}
 use Rattle.vkg_expr.specs.Value.{value_of, term_of, term_cell, truth_of, truth_cell, holds}
+use Rattle.vkg_expr.proofs.Conjuncts.{holds-Or}
 use Rattle.vkg_unfold.specs.declared.mode.Mode.{Mode}
 use Rattle.vkg_algebra.specs.Visible.{has}
 use Rattle.vkg_unfold.specs.Unfolded.{left_column, right_column, visible_column, columns_in, or_null}
@@ -27,7 +28,7 @@ use Rattle.vkg_answers.proofs.Joins.{agree}
 use Rattle.vkg_answers.proofs.Reading.{AreTermCells, AreBelow, read, read_left, read_right, read_typed, read_none, has-filter}
 
 or_cells : Cell → Cell → Bool
-or_cells c d = unwrap_or (truth_of (truth_cell (fold or3 (Some false) (map truth_of (cell.Bool (is_null c) ∷ cell.Bool (is_null d) ∷ truth_cell (same c d) ∷ []))))) false
+or_cells c d = is_null c || (is_null d || (is_known_true (truth_of (truth_cell (same c d))) || false))
 
 or_terms : (o p : Option Term) → or_cells (term_cell o) (term_cell p) ≡ agree o p
 unfolding or_cells
@@ -38,22 +39,25 @@ or_terms (Some t) (Some u) = refl
 
 pub holds-or_null : (a b : Expr) (row : Row) (o p : Option Term) → value_of a row ≡ term_cell o → value_of b row ≡ term_cell p → holds (or_null a b) row ≡ agree o p
 unfolding or_cells
-holds-or_null a b row o p e f = (λ i. or_cells (e i) (f i)) ∙ or_terms o p
+holds-or_null a b row o p e f = holds-Or row (exprs (IsNull a ∷ IsNull b ∷ Same a b ∷ [])) ∙ (λ i. or_cells (e i) (f i)) ∙ or_terms o p
+
+-- where the second is bound, its NULL need not be asked for
+pub holds-or_bound : (a b : Expr) (row : Row) (o : Option Term) (i : Term) → value_of a row ≡ term_cell o → value_of b row ≡ cell.Term i → holds (or_of (IsNull a ∷ Same a b ∷ [])) row ≡ agree o (Some i)
+unfolding or_cells
+holds-or_bound a b row o i e f = holds-Or row (exprs (IsNull a ∷ Same a b ∷ [])) ∙ (λ t. is_null (e t) || (is_known_true (truth_of (truth_cell (same (e t) (f t)))) || false)) ∙ or_terms o (Some i)
 
 pub compatible-map : (f g : ℕ → Option Term) (us : List ℕ) → compatible (map f us) (map g us) ≡ list_all (λ v. agree (f v) (g v)) us
 compatible-map f g [] = refl
 compatible-map f g (u ∷ us) = ap (λ b. agree (f u) (g u) && b) (compatible-map f g us)
 
 pub all_elim : (p : ℕ → Bool) (vs : List ℕ) → list_all p vs ≡ true → (v : ℕ) → has vs v ≡ true → p v ≡ true
-all_elim p vs h v k = each_of_all p vs h v ((Decides-list_any nat_test vs v).0 k)
+all_elim p vs h v k = each_of_all p vs h v ((is_member-Decides nat_test.decides vs v).0 k)
 
 pub all_intro : (p : ℕ → Bool) (vs : List ℕ) → ((v : ℕ) → has vs v ≡ true → p v ≡ true) → list_all p vs ≡ true
-all_intro p vs h = all_of_each p vs (λ v c. h v ((Decides-list_any nat_test vs v).1 c))
+all_intro p vs h = all_of_each p vs (λ v c. h v ((is_member-Decides nat_test.decides vs v).1 c))
 
 pub has-upto : (n k v w : ℕ) → v < n → w ≡ k + v → has (range_with_len k n) w ≡ true
-has-upto zero k v w h e = absurd (omega arith)
-has-upto (suc n) k zero w h e = let f : w ≡ k = omega arith in ap (λ b. b || has (range_with_len (k + 1) n) w) (ap (nat_eq w) (sym f) ∙ eq_itself nat_test w)
-has-upto (suc n) k (suc v) w h e = ap (λ b. nat_eq w k || b) (has-upto n (k + 1) v w (omega arith) (omega arith)) ∙ or-true (nat_eq w k)
+has-upto n k v w h e = (is_member-Decides nat_test.decides (range_with_len k n) w).1 (member_range k n w (omega arith) (omega arith))
 
 abbrev pub agreements : Mode → List ℕ → List ℕ → List Expr
 agreements mode vs ws = map (λ v. or_null (left_column vs v) (right_column mode vs ws v)) (filter (has ws) vs)

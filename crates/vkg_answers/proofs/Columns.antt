@@ -9,7 +9,7 @@ use Rattle.std.proofs.lemmas.List.Folds.{list_all-append}
 use Rattle.std.proofs.Math.Seq.{drop-append_seam}
 use Rattle.vkg_lists.proofs.Bags.{bag_same, bag_trans}
 use Rattle.vkg_lists.proofs.Counts.{eq_itself, eq_same}
-use Rattle.vkg_lists.proofs.Members.{Contains-none, Contains-here, Contains-there, Contains-cons_cases, Contains-from_map, Contains-from_filter, Contains-from_flat_map, each_of_all, recursion_from_each}
+use Rattle.vkg_lists.proofs.Members.{Contains-none, Contains-here, Contains-there, Contains-from_map, Contains-from_filter, Contains-from_flat_map, each_of_all, recursion_from_each, Contains-only}
 use Rattle.vkg_lists.proofs.Rows.{agree_none}
 use Rattle.vkg_terms.specs.declared.term.Term.{Term}
 use Rattle.vkg_terms.specs.Same.{term_eq}
@@ -156,7 +156,7 @@ module _ (n : ℕ) (d : Dataset) (mode : Mode) (R : TriplePattern → List Row) 
   fits g ps row = alike [] (zip (names mode ps) row) && graphs_fit (hidden_in mode g) (zip (names mode ps) row)
 
   pub product_row : (ps : List TriplePattern) → ((p : TriplePattern) → Contains ps p → PatternStands n d mode p (R p)) → (row : Row) → Contains (product (map R ps)) row → IsNamedRow n (names mode ps) row
-  product_row [] h row c = ⊎_elim (λ e. subst (IsNamedRow n []) e (nothing_named n)) (λ k. absurd (Contains-none row k)) (Contains-cons_cases [] [] row c)
+  product_row [] h row c = subst (IsNamedRow n []) (Contains-only {A = Row} [] row c) (nothing_named n)
   product_row (p ∷ ps) h row c =
       let y = Contains-from_flat_map (λ l. map (λ r. l ++ r) (product (map R ps))) (R p) row c in
       let z = Contains-from_map (λ r. y.0 ++ r) (product (map R ps)) row y.2 in

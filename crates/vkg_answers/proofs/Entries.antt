@@ -8,7 +8,7 @@ use Rattle.std.proofs.lemmas.List.Elements.{Contains-append_left, Contains-appen
 use Rattle.std.proofs.Math.Bool.{and-true}
 use Rattle.std.proofs.lemmas.List.Folds.{list_all-append}
 use Rattle.vkg_lists.proofs.Counts.{eq_same}
-use Rattle.vkg_lists.proofs.Members.{Contains-none, Contains-here, Contains-there, Contains-cons_cases}
+use Rattle.vkg_lists.proofs.Members.{Contains-none, Contains-here, Contains-there, Contains-cons_cases, Contains-only}
 use Rattle.vkg_lists.proofs.Bools.{and_parts}
 use Rattle.vkg_terms.specs.declared.term.Term.{Term}
 use Rattle.vkg_terms.proofs.SameLemmas.{terms_apart}
@@ -120,13 +120,10 @@ found x zs = of (find (λ y. name_eq x y.0) zs) refl
 
 one_more : (before : List Entry) (x : Entry) → AreTerms (before ++ x ∷ []) → AreAlike before → again_alike x (find (same_entry x) before) ≡ true → AreAlike (before ++ x ∷ [])
 one_more before x terms h k y z c d e = ⊎_elim
-    (λ a. ⊎_elim (λ b. h y z a b e) (λ b. at_x y a (e ∙ ap (λ (w : Entry). w.0) (sym (alone b))) ∙ ap (λ (w : Entry). w.1) (alone b)) (Contains-append_cases before (x ∷ []) z d))
-    (λ a. ⊎_elim (λ b. ap (λ (w : Entry). w.1) (sym (alone a)) ∙ sym (at_x z b (sym e ∙ ap (λ (w : Entry). w.0) (sym (alone a))))) (λ b. ap (λ (w : Entry). w.1) (sym (alone a) ∙ alone b)) (Contains-append_cases before (x ∷ []) z d))
+    (λ a. ⊎_elim (λ b. h y z a b e) (λ b. at_x y a (e ∙ ap (λ (w : Entry). w.0) (sym (Contains-only x z b))) ∙ ap (λ (w : Entry). w.1) (Contains-only x z b)) (Contains-append_cases before (x ∷ []) z d))
+    (λ a. ⊎_elim (λ b. ap (λ (w : Entry). w.1) (sym (Contains-only x y a)) ∙ sym (at_x z b (sym e ∙ ap (λ (w : Entry). w.0) (sym (Contains-only x y a))))) (λ b. ap (λ (w : Entry). w.1) (sym (Contains-only x y a) ∙ Contains-only x z b)) (Contains-append_cases before (x ∷ []) z d))
     (Contains-append_cases before (x ∷ []) y c)
   where
-    alone : {w : Entry} → Contains (x ∷ []) w → x ≡ w
-    alone {w} q = ⊎_elim (λ f. f) (λ f. absurd (Contains-none w f)) (Contains-cons_cases x [] w q)
-
     at_x : (y : Entry) → Contains before y → y.0 ≡ x.0 → y.1 ≡ x.1
     at_x y a f = ⊎_elim
         (λ none. absurd (find_none x.0 before none y a (sym f)))

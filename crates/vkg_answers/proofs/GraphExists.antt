@@ -1,16 +1,17 @@
 -- One graph's existence, the numbers in the names, and the empty pattern.
-use Rattle.std.proofs.Common.{◌≡◌, ℕ, Bool, true, false, ⊎_elim, List, [], ◌∷◌, ◌++◌, map, refl, sym, ap, subst, ◌∙◌}
+use Rattle.std.proofs.Common.{◌≡◌, ℕ, Bool, true, false, List, [], ◌∷◌, ◌++◌, map, refl, sym, ap, subst, ◌∙◌}
 use Rattle.std.specs.Prelude.{Option, Some, None, not, ◌&&◌, Contains, filter, flat_map, filter_map, is_some, if◌then◌else◌, option_map}
 use Rattle.std.specs.Option.{option_map_or, option_to_list}
 use Rattle.std.specs.List.Sorted.{IsPermutation}
 use Rattle.std.specs.List.{list_any}
+use Rattle.std.proofs.lemmas.Map.Made.{is_member-Decides}
 use Rattle.vkg_lists.proofs.Nothing.{member_there, there_member, flat_map_nothing}
 use Rattle.vkg_lists.specs.Lists.{is_empty}
 use Rattle.vkg_lists.proofs.Bags.{bag_same, bag_trans, bag_map, bag_filter}
-use Rattle.vkg_lists.proofs.Counts.{eq_itself, eq_comm, Decides-list_any, eq_same}
+use Rattle.vkg_lists.proofs.Counts.{eq_itself, eq_comm, eq_same}
 use Rattle.vkg_lists.proofs.Walks.{filter_map_is_flat_map, map-flat_map, filter-flat_map, map_filter_is_flat_map}
 use Rattle.vkg_lists.proofs.Distinct.{Contains-from_distinct, Contains-distinct, IsDistinct-distinct}
-use Rattle.vkg_lists.proofs.Members.{Contains-none, Contains-cons_cases, Contains-from_map, Contains-filter, Contains-from_filter, Contains-from_flat_map, flat_map_agree_on, filter_drops, Contains-option, Contains-filter_map, Contains-from_filter_map}
+use Rattle.vkg_lists.proofs.Members.{Contains-from_map, Contains-filter, Contains-from_filter, Contains-from_flat_map, flat_map_agree_on, filter_drops, Contains-option, Contains-filter_map, Contains-from_filter_map, Contains-only}
 use Rattle.vkg_lists.specs.Sets.{distinct}
 use Rattle.vkg_lists.proofs.Groups.{flat_map_only}
 use Rattle.vkg_lists.proofs.SameMembers.{members_bag}
@@ -39,7 +40,7 @@ use Rattle.vkg_unfold.specs.declared.mode.Mode.TheVariants.{Default, InGraph, Ea
 use Rattle.vkg_unfold.specs.FineRows.{IsNarrow, IsFineRow, IsNarrowGraph}
 use Rattle.vkg_unfold.specs.StandsFor.{IsIn, belongs, hidden_is, solution_of, solutions_of}
 use Rattle.vkg_answers.proofs.Graphs.{name_row, Plain, stands_default, stands_named}
-use Rattle.vkg_answers.proofs.Sources.{all_hold, member_rows, rows_or_none, union_rows, not_nulls, in_graph, graph_passes_is}
+use Rattle.vkg_answers.proofs.Sources.{all_hold, member_rows, rows_or_none, union_rows, not_nulls, in_graph, graph_passes_is, three_fail}
 use Rattle.vkg_answers.proofs.Columns.{unbound_is}
 use Rattle.vkg_answers.proofs.Modes.{IsRowOf}
 use Rattle.vkg_answers.proofs.Reading.{cells-nil, cells-cons}
@@ -70,12 +71,6 @@ truths true true false m t = refl
 truths true true true false t = refl
 truths true true true true true = refl
 truths true true true true false = refl
-
-none_of : (a b c : Bool) → no_row ≡ (if a && (b && (c && false)) then [] ∷ [] else no_row)
-none_of false b c = refl
-none_of true false c = refl
-none_of true true false = refl
-none_of true true true = refl
 
 -- rows without columns, each once
 one_empty : (qs : List Quad) → distinct one_row (map empty_row qs) ≡ (if not (is_empty qs) then [] ∷ [] else [])
@@ -143,7 +138,7 @@ module _ (schema : Tables) (rules : List RowRule) (db : Database) (fine : (rule 
 
         of : (t : Option (List Expr)) → graph_test (InGraph i) rule.graph ≡ t → rows_or_none schema db (rule_member schema rule [] [] t) ≡ flat_map pieces rows
         of None e = sym (flat_map_nothing pieces rows (λ row k. sym (
-            none_of (is_some (term_at rule.subject row)) (is_some (term_at rule.predicate row)) (is_some (term_at rule.object row))
+            sym (ap (λ t. if t then [] ∷ [] else no_row) (three_fail (is_some (term_at rule.subject row)) (is_some (term_at rule.predicate row)) (is_some (term_at rule.object row))))
             ∙ ap (λ b. if is_some (term_at rule.subject row) && (is_some (term_at rule.predicate row) && (is_some (term_at rule.object row) && b)) then [] ∷ [] else no_row) (passes row k None e)
             ∙ sym (piece row))))
         of (Some test) e =
@@ -160,10 +155,10 @@ module _ (schema : Tables) (rules : List RowRule) (db : Database) (fine : (rule 
         (λ h.
         let x = member_there (filter in_it (all_quads schema rules db)) h in
         let y = Contains-from_filter in_it (all_quads schema rules db) x.0 x.1 in
-        (Decides-list_any terms_apart (graph_names (dataset_of schema rules db)) (Iri i)).1
+        (is_member-Decides terms_apart.decides (graph_names (dataset_of schema rules db)) (Iri i)).1
         (Contains-distinct terms_apart (filter_map (λ q. q.graph) (dataset_of schema rules db)) (Iri i) (Contains-filter_map (λ (q : Quad). q.graph) (dataset_of schema rules db) x.0 (Iri i) (Contains-distinct quads_apart (all_quads schema rules db) x.0 y.0) (eq_same graphs_apart x.0.graph (Some (Iri i)) y.1))))
         (λ h.
-        let c = (Decides-list_any terms_apart (graph_names (dataset_of schema rules db)) (Iri i)).0 h in
+        let c = (is_member-Decides terms_apart.decides (graph_names (dataset_of schema rules db)) (Iri i)).0 h in
         let x = Contains-from_filter_map (λ (q : Quad). q.graph) (dataset_of schema rules db) (Iri i) (Contains-from_distinct term_eq (filter_map (λ q. q.graph) (dataset_of schema rules db)) (Iri i) c) in
         there_member (filter in_it (all_quads schema rules db)) x.0 (Contains-filter in_it (all_quads schema rules db) x.0 (Contains-from_distinct quad_eq (all_quads schema rules db) x.0 x.1) (ap (λ g. graph_eq g (Some (Iri i))) x.2 ∙ eq_itself terms_apart (Iri i))))
 
@@ -179,17 +174,17 @@ module _ (schema : Tables) (rules : List RowRule) (db : Database) (fine : (rule 
 no_columns : (n : ℕ) (row : Row) → solution_of n [] row ≡ unbound n
 no_columns n row = sym (unbound_is n 0)
 
+plain_unit : (n : ℕ) (d : Dataset) → Plain n d [] ([] ∷ []) (unbound n ∷ [])
+plain_unit n d = record {
+  are_rows = λ row c. subst (IsRowOf d Default []) (Contains-only {A = Row} [] row c) (record { size = refl; cells = cells-nil; graph = tt });
+  bag = bag_same (ap (λ s. s ∷ []) (no_columns n []));
+}
+
 pub empty_stands : (schema : Tables) (rules : List RowRule) (n : ℕ) (d : Dataset) (db : Database) →
     IsPermutation (rows_of schema (names_plan schema rules) db) (map name_row (graph_names d)) → ((i : Term) → Contains (graph_names d) i → IsNarrow (Some i)) →
     (mode : Mode) → Stands n d mode [] (rows_of schema (bgp_plan schema rules mode []) db) (evaluate n d (Bgp []))
 empty_stands schema rules n d db p narrow Default = stands_default n d [] ([] ∷ []) (unbound n ∷ []) (plain_unit n d)
-  where
-    plain_unit : (n : ℕ) (d : Dataset) → Plain n d [] ([] ∷ []) (unbound n ∷ [])
-    plain_unit n d = record { are_rows = λ row c. ⊎_elim (λ e. subst (IsRowOf d Default []) e (record { size = refl; cells = cells-nil; graph = tt })) (λ k. absurd (Contains-none row k)) (Contains-cons_cases [] [] row c); bag = bag_same (ap (λ s. s ∷ []) (no_columns n [])) }
 empty_stands schema rules n d db p narrow (InGraph i) = stands_named n d i [] ([] ∷ []) (unbound n ∷ []) (plain_unit n d)
-  where
-    plain_unit : (n : ℕ) (d : Dataset) → Plain n d [] ([] ∷ []) (unbound n ∷ [])
-    plain_unit n d = record { are_rows = λ row c. ⊎_elim (λ e. subst (IsRowOf d Default []) e (record { size = refl; cells = cells-nil; graph = tt })) (λ k. absurd (Contains-none row k)) (Contains-cons_cases [] [] row c); bag = bag_same (ap (λ s. s ∷ []) (no_columns n [])) }
 empty_stands schema rules n d db p narrow Each = record { are_rows = fine; bag = whole }
   where
     N : List Row

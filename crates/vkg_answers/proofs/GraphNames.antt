@@ -11,7 +11,7 @@ use Rattle.vkg_lists.proofs.Bags.{bag_same, bag_trans, bag_map}
 use Rattle.vkg_lists.proofs.Counts.{eq_same}
 use Rattle.vkg_lists.proofs.SameMembers.{members_refl, members_flat_map}
 use Rattle.vkg_lists.proofs.Walks.{filter_map_is_flat_map, flat_map-flat_map, map-flat_map, map_filter_is_flat_map}
-use Rattle.vkg_lists.proofs.Distinct.{HasSameMembers-distinct, bag_distinct_members, distinct-map}
+use Rattle.vkg_lists.proofs.Distinct.{HasSameMembers-distinct, bag_distinct_members, distinct_map_on}
 use Rattle.vkg_lists.proofs.Members.{flat_map_agree_on}
 use Rattle.vkg_terms.specs.declared.term.Term.{Term}
 use Rattle.vkg_terms.specs.NQuads.{Quad}
@@ -145,7 +145,7 @@ module _ (schema : Tables) (rules : List RowRule) (db : Database) (fine : (rule 
       (union_rows schema db 1 (λ rule. rule_member schema rule (graph_exprs rule) [] (graph_test Each rule.graph)) rules
       ∙ ap (distinct one_row) (flat_map_agree_on (λ rule. rows_or_none schema db (rule_member schema rule (graph_exprs rule) [] (graph_test Each rule.graph))) (λ rule. map name_row (names_of rule)) rules names_rule
       ∙ sym (map-flat_map name_row names_of rules) ∙ ap (map name_row) (sym all_names))
-      ∙ distinct-map term_eq one_row name_row (λ x y. and-true (term_eq x y)) (filter_map (λ q. q.graph) (all_quads schema rules db))))
+      ∙ sym (distinct_map_on term_eq one_row name_row (filter_map (λ q. q.graph) (all_quads schema rules db)) (λ x y c d. and-true (term_eq x y)))))
       (bag_map name_row (bag_distinct_members terms_apart same_names))
     where
       same_names : HasSameMembers (filter_map (λ q. q.graph) (all_quads schema rules db)) (filter_map (λ q. q.graph) (dataset_of schema rules db))

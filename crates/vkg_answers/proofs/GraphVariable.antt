@@ -6,7 +6,7 @@ use Rattle.std.specs.List.{list_all, range_with_len, position_or_len}
 use Rattle.std.specs.List.Sorted.{IsPermutation}
 use Rattle.std.proofs.lemmas.Bool.{eqb-true}
 use Rattle.vkg_lists.proofs.Tests.{nat_test}
-use Rattle.vkg_lists.proofs.Counts.{eq_itself, eq_same}
+use Rattle.vkg_lists.proofs.Counts.{eq_itself, eq_same, eq_comm}
 use Rattle.vkg_lists.proofs.Distinct.{IsDistinct-distinct}
 use Rattle.vkg_lists.proofs.Groups.{bag_groups}
 use Rattle.vkg_lists.proofs.Bags.{bag_refl, bag_same, bag_sym, bag_trans, bag_map, bag_filter}
@@ -22,7 +22,6 @@ use Rattle.vkg_cells.specs.declared.cell.Cell.{Cell}
 use Rattle.vkg_cells.specs.Order.{same}
 use Rattle.vkg_cells.specs.declared.cell.Cell.TheVariants as cell
 use Rattle.vkg_schema.specs.Rows.{is_null, Row, cell_at}
-use Rattle.vkg_values.specs.Logic.{or3}
 use Rattle.vkg_algebra.specs.Solutions.{Solution, compatible, merge, join, only}
 use Rattle.vkg_algebra.specs.Evaluation.{Dataset, graph_names}
 use Rattle.vkg_algebra.specs.Visible.{each_once, has}
@@ -34,7 +33,7 @@ use Rattle.vkg_unfold.specs.declared.mode.Mode.TheVariants.{Default, Each}
 use Rattle.vkg_unfold.specs.StandsFor.{belongs, term_in, solution_of, solutions_of}
 use Rattle.vkg_answers.proofs.Joins.{agree, merge-map, bag_join}
 use Rattle.vkg_answers.proofs.Reading.{IsTermCell, read_there, read_typed, read_none, read_project, has-each_once, set_at}
-use Rattle.vkg_answers.proofs.Agreement.{all_elim, all_intro, has-upto, compatible-map}
+use Rattle.vkg_answers.proofs.Agreement.{all_elim, all_intro, has-upto, holds-or_bound, compatible-map}
 use Rattle.vkg_answers.proofs.Modes.{IsRowOf, hidden_found}
 use Rattle.vkg_answers.proofs.Steps.{Stands, projected}
 use Rattle.vkg_answers.proofs.Graphs.{Plain}
@@ -46,19 +45,6 @@ bound_at v i w = if nat_eq v w then Some i else None
 
 pub only-map : (n v : ℕ) (i : Term) → only n v i ≡ map (bound_at v i) (range_with_len 0 n)
 only-map n v i = ap (λ s. slice_set s v (Some i)) (unbound_is n 0) ∙ set_at (Some i) (λ w. None) n 0 v v (omega arith)
-
--- the condition over the graph's cell
-graph_cells : Cell → Cell → Bool
-graph_cells c g = unwrap_or (truth_of (truth_cell (fold or3 (Some false) (map truth_of (cell.Bool (is_null c) ∷ truth_cell (same c g) ∷ []))))) false
-
-graph_terms : (o : Option Term) (i : Term) → graph_cells (term_cell o) (cell.Term i) ≡ agree o (Some i)
-unfolding graph_cells
-graph_terms None i = refl
-graph_terms (Some t) i = refl
-
-holds_graph : (a b : Expr) (row : Row) (o : Option Term) (i : Term) → value_of a row ≡ term_cell o → value_of b row ≡ cell.Term i → holds (or_of (IsNull a ∷ Same a b ∷ [])) row ≡ agree o (Some i)
-unfolding graph_cells
-holds_graph a b row o i e f = (λ t. graph_cells (e t) (f t)) ∙ graph_terms o i
 
 module _ (n : ℕ) (d : Dataset) (vs : List ℕ) (v : ℕ) (within : v < n) where
   abbrev pub graph_row : Row → Row
@@ -78,7 +64,7 @@ module _ (n : ℕ) (d : Dataset) (vs : List ℕ) (v : ℕ) (within : v < n) wher
     test_agrees = of (has vs v) refl
       where
         of : (b : Bool) → has vs v ≡ b → (if b then holds (or_of (IsNull (left_column vs v) ∷ Same (left_column vs v) (Col (length vs)) ∷ [])) row else true) ≡ agree (term v) (Some i)
-        of true e = holds_graph (left_column vs v) (Col (length vs)) row (term v) i (sym (read_there vs row v e) ∙ (read_typed vs row p.cells v).0) p.graph.2
+        of true e = holds-or_bound (left_column vs v) (Col (length vs)) row (term v) i (sym (read_there vs row v e) ∙ (read_typed vs row p.cells v).0) p.graph.2
         of false e = sym (ap (λ c. agree (term_of c) (Some i)) (read_none vs row v e))
 
     at_v : bound_at v i v ≡ Some i
@@ -122,11 +108,7 @@ module _ (n : ℕ) (d : Dataset) (vs : List ℕ) (v : ℕ) (within : v < n) wher
           where
             of : (c : Bool) → has vs w ≡ c → term_of (value_of (left_column vs w) row) ≡ option_or (term w) None
             of true g = ap term_of (sym (read_there vs row w g)) ∙ sym (or_none (term w))
-            of false g = absurd (true≢false (sym e ∙ has-each_once (v ∷ vs) w ∙ (λ t. swapped (nat_eq w v) refl t || g t)))
-              where
-                swapped : (x : Bool) → nat_eq w v ≡ x → x ≡ false
-                swapped true y = absurd (true≢false (sym (ap (λ u. nat_eq u w) (sym (eqb-true w v y)) ∙ eq_itself nat_test w) ∙ f))
-                swapped false y = refl
+            of false g = absurd (true≢false (sym e ∙ has-each_once (v ∷ vs) w ∙ (λ t. (eq_comm nat_test w v ∙ f) t || g t)))
         columns w false e true f = absurd (true≢false (sym (has-each_once (v ∷ vs) w ∙ ap (λ x. x || has vs w) (ap (λ u. nat_eq w u) (eqb-true v w f) ∙ eq_itself nat_test w)) ∙ e))
         columns w false e false f = of (has vs w) refl
           where

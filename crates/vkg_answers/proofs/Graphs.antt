@@ -10,8 +10,8 @@ use Rattle.vkg_lists.proofs.Distinct.{IsDistinct-distinct}
 use Rattle.vkg_lists.proofs.SameMembers.{members_bag}
 use Rattle.vkg_lists.proofs.Groups.{flat_map_only}
 use Rattle.vkg_lists.proofs.Bags.{bag_refl, bag_same, bag_trans, bag_map, bag_filter, bag_flat_map}
-use Rattle.vkg_lists.proofs.Walks.{filter_all, map-map}
-use Rattle.vkg_lists.proofs.Members.{Contains-none, Contains-from_map, Contains-from_flat_map}
+use Rattle.vkg_lists.proofs.Walks.{map-map}
+use Rattle.vkg_lists.proofs.Members.{Contains-none, Contains-from_map, Contains-from_flat_map, filter_keeps}
 use Rattle.vkg_terms.specs.declared.term.Term.{Term}
 use Rattle.vkg_terms.specs.declared.term.Term.TheVariants.{Iri}
 use Rattle.vkg_terms.specs.Same.{term_eq}
@@ -49,19 +49,19 @@ to_named d i vs row h = record { size = h.size; cells = h.cells; graph = tt }
 pub plain_named : (n : ℕ) (d : Dataset) (i : List ℕ) (vs : List ℕ) (rows : List Row) (A : Option Term → List Solution) → Stands n d (InGraph i) vs rows A → Plain n d vs rows (A (Some (Iri i)))
 plain_named n d i vs rows A a = record {
   are_rows = λ row c. in_named d i vs row (a.are_rows row c);
-  bag = bag_trans (bag_same (ap (map (solution_of n vs)) (sym (filter_all (belongs (InGraph i) (length vs) (Some (Iri i))) rows (λ x. refl))))) (a.bag (Some (Iri i)) refl);
+  bag = bag_trans (bag_same (ap (map (solution_of n vs)) (sym (filter_keeps (belongs (InGraph i) (length vs) (Some (Iri i))) rows (λ x c. refl))))) (a.bag (Some (Iri i)) refl);
 }
 
 pub stands_default : (n : ℕ) (d : Dataset) (vs : List ℕ) (rows : List Row) (S : List Solution) → Plain n d vs rows S → Stands n d Default vs rows (λ g. S)
 stands_default n d vs rows S a = record {
   are_rows = a.are_rows;
-  bag = λ g h. bag_trans (bag_same (ap (map (solution_of n vs)) (filter_all (belongs Default (length vs) g) rows (λ x. refl)))) a.bag;
+  bag = λ g h. bag_trans (bag_same (ap (map (solution_of n vs)) (filter_keeps (belongs Default (length vs) g) rows (λ x c. refl)))) a.bag;
 }
 
 pub stands_named : (n : ℕ) (d : Dataset) (i : List ℕ) (vs : List ℕ) (rows : List Row) (S : List Solution) → Plain n d vs rows S → Stands n d (InGraph i) vs rows (λ g. S)
 stands_named n d i vs rows S a = record {
   are_rows = λ row c. to_named d i vs row (a.are_rows row c);
-  bag = λ g h. bag_trans (bag_same (ap (map (solution_of n vs)) (filter_all (belongs (InGraph i) (length vs) g) rows (λ x. refl)))) a.bag;
+  bag = λ g h. bag_trans (bag_same (ap (map (solution_of n vs)) (filter_keeps (belongs (InGraph i) (length vs) g) rows (λ x c. refl)))) a.bag;
 }
 
 -- ---- a plan after another one, whose rows have m columns
@@ -89,7 +89,7 @@ after_typed vs m l r h p v = subst IsTermCell (sym (cell_at-right l r (m + k) k 
 pub after_exists : (n : ℕ) (d : Dataset) (vs : List ℕ) (b : Bool) (rows : List Row) (S : List Solution) → Plain n d vs rows S →
     Plain n d vs (map (after_row vs 0 []) (filter (holds (truth_const true)) (product ((if b then [] ∷ [] else []) ∷ rows ∷ [])))) (if b then S else [])
 after_exists n d vs false rows S a = record { are_rows = λ row c. absurd (Contains-none row c); bag = bag_refl }
-after_exists n d vs true rows S a = Prim.rw (product-two ([] ∷ []) rows, filter_all (holds (truth_const true)) (pairs ([] ∷ []) rows) (λ x. refl), append-nil (map (λ r. [] ++ r) rows)) (record {
+after_exists n d vs true rows S a = Prim.rw (product-two ([] ∷ []) rows, filter_keeps (holds (truth_const true)) (pairs ([] ∷ []) rows) (λ x c. refl), append-nil (map (λ r. [] ++ r) rows)) (record {
   are_rows = λ row c.
       let x = Contains-from_map (after_row vs 0 []) (map (λ r. [] ++ r) rows) row c in
       let y = Contains-from_map (λ r. [] ++ r) rows x.0 x.1 in
@@ -117,7 +117,7 @@ all_or_none f k s t false h e (r ∷ rs) = Prim.rw (h r) (all_or_none f k s t fa
 pub after_names : (n : ℕ) (d : Dataset) (vs : List ℕ) (names rows : List Row) (S : List Solution) →
     IsPermutation names (map name_row (graph_names d)) → ((i : Term) → Contains (graph_names d) i → IsNarrow (Some i)) → Plain n d vs rows S →
     Stands n d Each vs (map (after_row vs 1 (Col 0 ∷ [])) (filter (holds (truth_const true)) (product (names ∷ rows ∷ [])))) (λ g. S)
-after_names n d vs names rows S p narrow a = Prim.rw (product-two names rows, filter_all (holds (truth_const true)) (pairs names rows) (λ x. refl)) (record {
+after_names n d vs names rows S p narrow a = Prim.rw (product-two names rows, filter_keeps (holds (truth_const true)) (pairs names rows) (λ x c. refl)) (record {
   are_rows = rows_fine;
   bag = in_each;
 })

@@ -10,7 +10,8 @@ use Rattle.std.proofs.Math.Bool.{and-true}
 use Rattle.vkg_lists.specs.Rows.{merged_if_compatible}
 use Rattle.vkg_lists.specs.Rows as rows
 use Rattle.vkg_lists.proofs.Joins as joins
-use Rattle.vkg_lists.proofs.Walks.{map_filter_is_flat_map, filter_all}
+use Rattle.vkg_lists.proofs.Walks.{map_filter_is_flat_map}
+use Rattle.vkg_lists.proofs.Members.{filter_keeps}
 use Rattle.vkg_terms.specs.declared.term.Term.{Term}
 use Rattle.vkg_terms.specs.Same.{term_eq}
 use Rattle.vkg_cells.specs.declared.cell.Cell.TheVariants as cell
@@ -104,5 +105,5 @@ module _ (P Q : Row → Type 0) (a b c : Row → Solution) (holds : Row → Bool
   pub join_rows : (ls rs : List Row) → AllByRecursion P ls → AllByRecursion Q rs → map c (filter holds (pairs ls rs)) ≡ join (map a ls) (map b rs)
   join_rows ls rs p q =
       all_passing P Q a b c holds (λ s. true) (λ l r x y. agrees l r x y ∙ sym (and-true (compatible (a l) (b r)))) merged ls rs p q
-      ∙ filter_all (λ s. true) (flat_map (λ s. merges s (map b rs)) (map a ls)) (λ s. refl)
+      ∙ filter_keeps (λ s. true) (flat_map (λ s. merges s (map b rs)) (map a ls)) (λ s c. refl)
       ∙ sym (join_is (map a ls) (map b rs))

@@ -2,9 +2,9 @@
 use Rattle.std.proofs.Common.{◌≡◌, ℕ, true, List, [], ◌∷◌, ◌++◌, ⊎_elim, ap, subst}
 use Rattle.std.specs.Prelude.{Option, Contains, flat_map}
 use Rattle.std.proofs.lemmas.List.Elements.{Contains-append_left, Contains-append_right, Contains-append_cases}
+use Rattle.std.proofs.lemmas.Map.Made.{is_member-Decides}
 use Rattle.vkg_lists.proofs.Tests.{nat_test}
-use Rattle.vkg_lists.proofs.Counts.{Decides-list_any}
-use Rattle.vkg_lists.proofs.Members.{Contains-none, Contains-here, Contains-there, Contains-cons_cases, Contains-flat_map, Contains-from_flat_map}
+use Rattle.vkg_lists.proofs.Members.{Contains-none, Contains-here, Contains-there, Contains-flat_map, Contains-from_flat_map, Contains-only}
 use Rattle.vkg_sparql.specs.declared.pattern.Node.{Node}
 use Rattle.vkg_sparql.specs.declared.pattern.Node.TheVariants.{Variable, Label, Fixed}
 use Rattle.vkg_sparql.specs.declared.pattern.TriplePattern.{TriplePattern}
@@ -33,13 +33,13 @@ narrow_if_any n c h t k = h.within (Fixed t) k
 -- ---- the nodes of patterns
 
 variable_is : (x : Node) (v : ℕ) → Contains (node_variables x) v → x ≡ Variable v
-variable_is (Variable w) v c = ⊎_elim (λ e. ap Variable e) (λ k. absurd (Contains-none v k)) (Contains-cons_cases w [] v c)
+variable_is (Variable w) v c = ap Variable (Contains-only w v c)
 variable_is (Label w) v c = absurd (Contains-none v c)
 variable_is (Fixed t) v c = absurd (Contains-none v c)
 
 label_is : (x : Node) (v : ℕ) → Contains (node_labels x) v → x ≡ Label v
 label_is (Variable w) v c = absurd (Contains-none v c)
-label_is (Label w) v c = ⊎_elim (λ e. ap Label e) (λ k. absurd (Contains-none v k)) (Contains-cons_cases w [] v c)
+label_is (Label w) v c = ap Label (Contains-only w v c)
 label_is (Fixed t) v c = absurd (Contains-none v c)
 
 module _ (numbers : Node → List ℕ) (node : ℕ → Node) (is : (x : Node) (v : ℕ) → Contains (numbers x) v → x ≡ node v) where
@@ -57,7 +57,7 @@ module _ (numbers : Node → List ℕ) (node : ℕ → Node) (is : (x : Node) (v
 
   named_by_patterns : (ps : List TriplePattern) (v : ℕ) → has (flat_map of_pattern ps) v ≡ true → Contains (patterns_nodes ps) (node v)
   named_by_patterns ps v e =
-      let x = Contains-from_flat_map of_pattern ps v ((Decides-list_any nat_test (flat_map of_pattern ps) v).0 e) in
+      let x = Contains-from_flat_map of_pattern ps v ((is_member-Decides nat_test.decides (flat_map of_pattern ps) v).0 e) in
       Contains-flat_map pattern_nodes ps x.0 (node v) x.1 (named_by_pattern x.0 v x.2)
 
 pub variables_named : (ps : List TriplePattern) (v : ℕ) → has (flat_map pattern_variables ps) v ≡ true → Contains (patterns_nodes ps) (Variable v)

@@ -9,7 +9,7 @@ use Rattle.vkg_lists.proofs.Results.{some_of}
 use Rattle.vkg_lists.proofs.Bags.{bag_same, bag_trans, bag_sym}
 use Rattle.vkg_lists.proofs.Counts.{eq_itself, eq_same}
 use Rattle.vkg_lists.proofs.Distinct.{Contains-from_distinct, Contains-distinct, distinct_map_on, filter-distinct}
-use Rattle.vkg_lists.proofs.Members.{Contains-none, Contains-here, Contains-there, Contains-cons_cases, Contains-from_map, Contains-from_filter, Contains-from_flat_map, Contains-flat_map, Contains-filter_map}
+use Rattle.vkg_lists.proofs.Members.{Contains-none, Contains-here, Contains-there, Contains-from_map, Contains-from_filter, Contains-from_flat_map, Contains-flat_map, Contains-filter_map, Contains-only}
 use Rattle.vkg_lists.specs.Sets.{distinct}
 use Rattle.vkg_lists.proofs.Bools.{and_parts}
 use Rattle.vkg_terms.specs.declared.term.Term.{Term}
@@ -61,8 +61,8 @@ value_narrow : (e : TermExpr) (row : Row) → IsNarrow (term_at e row) → IsNar
 value_narrow e row h = subst IsNarrow (sym (ap term_of (term_expr_is e row) ∙ term_back (term_at e row))) h
 
 node_named : (x : Node) (c : Cell) (e : Entry) → Contains (node_entries x c) e → e.0 ≡ None → ⊥
-node_named (Variable v) c e k m = ⊎_elim (λ f. let g : Some v ≡ None = ap (λ (z : Entry). z.0) f ∙ m in cc) (λ f. Contains-none e f) (Contains-cons_cases (Some v, c) [] e k)
-node_named (Label v) c e k m = ⊎_elim (λ f. let g : Some v ≡ None = ap (λ (z : Entry). z.0) f ∙ m in cc) (λ f. Contains-none e f) (Contains-cons_cases (Some v, c) [] e k)
+node_named (Variable v) c e k m = let g : Some v ≡ None = ap (λ (z : Entry). z.0) (Contains-only (Some v, c) e k) ∙ m in cc
+node_named (Label v) c e k m = let g : Some v ≡ None = ap (λ (z : Entry). z.0) (Contains-only (Some v, c) e k) ∙ m in cc
 node_named (Fixed t) c e k m = Contains-none e k
 
 no_first : (zs ws : List Entry) → ((x : Entry) → Contains zs x → x.0 ≡ None → ⊥) → first None (zs ++ ws) ≡ first None ws
@@ -164,7 +164,7 @@ module _ (schema : Tables) (rules : List RowRule) (db : Database) (n : ℕ) (p :
         }
       where
         is : (x : Entry) → Contains ((None, value_of (term_expr e) row) ∷ []) x → (None, value_of (term_expr e) row) ≡ x
-        is x c = ⊎_elim (λ f. f) (λ f. absurd (Contains-none x f)) (Contains-cons_cases (None, value_of (term_expr e) row) [] x c)
+        is x c = Contains-only (None, value_of (term_expr e) row) x c
 
     hidden : Hidden mode rule.graph
     hidden = hidden_fine mode rule.graph parts.nulls fine.graph

@@ -8,7 +8,7 @@ use Rattle.std.specs.List.{zip, range_with_len}
 use Rattle.std.proofs.lemmas.List.Folds.{list_all-append}
 use Rattle.vkg_lists.proofs.Nothing.{flat_map_nothing}
 use Rattle.vkg_unfold.proofs.PlanColumns.{names_of_places}
-use Rattle.vkg_lists.proofs.Distinct.{distinct-map, Contains-from_distinct}
+use Rattle.vkg_lists.proofs.Distinct.{Contains-from_distinct, distinct_map_on}
 use Rattle.vkg_lists.proofs.Walks.{filter-map, filter-filter, map-map, filter_map_is_flat_map, filter-flat_map, flat_map-flat_map, map-flat_map, map_filter_is_flat_map}
 use Rattle.vkg_lists.proofs.Members.{flat_map_agree_on, all_of_each, each_of_all}
 use Rattle.vkg_lists.proofs.Counts.{eq_same}
@@ -41,7 +41,7 @@ use Rattle.vkg_unfold.specs.FineRows.{NeverDefault}
 use Rattle.vkg_unfold.proofs.AlgebraColumns.{name_test}
 use Rattle.vkg_answers.proofs.Entries.{Entry, entry, same_entry, first, alike, named_solution, repeats_alike}
 use Rattle.vkg_answers.proofs.Columns.{hidden_in, graph_fits, graphs_fit}
-use Rattle.vkg_answers.proofs.Sources.{all_hold, member_rows, rows_or_none, not_nulls, graph_is, in_graph, graph_passes_is, nulls_are}
+use Rattle.vkg_answers.proofs.Sources.{all_hold, member_rows, rows_or_none, not_nulls, graph_is, in_graph, graph_passes_is, nulls_are, three_fail}
 use Rattle.vkg_answers.proofs.Quads.{NodeBelow, node_entries, pattern_cells, pattern_entries, pattern_ok, quad_answers, constants_are, named_are}
 
 -- ---- the entries of a member's row
@@ -80,7 +80,7 @@ admitted_names Each (Some g) test e = refl
 pub names_are_places : (mode : Mode) (p : TriplePattern) (rule : RowRule) (test : List Expr) → graph_test mode rule.graph ≡ Some test → map (λ (x : Named). x.0) (pattern_places mode p rule) ≡ pattern_names mode p
 names_are_places mode p rule test e =
     map-append (λ (x : Named). x.0) (distinct same_name (flat_map named (places p rule))) (hidden_places mode rule)
-    ∙ (λ i. (sym (distinct-map same_name name_eq (λ (x : Named). x.0) (λ x y. refl) (flat_map named (places p rule))) ∙ ap (distinct name_eq) (names_of_places (places p rule))) i
+    ∙ (λ i. (distinct_map_on same_name name_eq (λ (x : Named). x.0) (flat_map named (places p rule)) (λ x y c d. refl) ∙ ap (distinct name_eq) (names_of_places (places p rule))) i
     ++ (ap (map (λ (x : Named). x.0)) (hidden_is_of mode rule) ∙ admitted_names mode rule.graph test e) i)
 
 -- first, where each name stands once, and before hidden columns
@@ -126,7 +126,7 @@ module _ (mode : Mode) (p : TriplePattern) (rule : RowRule) (test : List Expr) (
       ap (λ ns. zip ns (row_cells row (member_exprs mode p rule))) (sym (names_are_places mode p rule test admits))
       ∙ entries_of row (pattern_places mode p rule)
       ∙ map-append (entry row) (distinct same_name (flat_map named (places p rule))) (hidden_places mode rule)
-      ∙ (λ i. (sym (distinct-map same_name same_entry (entry row) (λ x y. refl) (flat_map named (places p rule))) ∙ ap (distinct same_entry) (named_are row (places p rule))) i ++ map (entry row) (hidden_is_of mode rule i))
+      ∙ (λ i. (distinct_map_on same_name same_entry (entry row) (flat_map named (places p rule)) (λ x y c d. refl) ∙ ap (distinct same_entry) (named_are row (places p rule))) i ++ map (entry row) (hidden_is_of mode rule i))
 
   pub member_solution : (n : ℕ) → named_solution n (zip (pattern_names mode p) (row_cells row (member_exprs mode p rule))) ≡ named_solution n place_entries
   member_solution n = ap (named_solution n) member_entries ∙ (λ i. map (λ v. ap term_of (hidden_passed row v mode rule.graph (distinct same_entry place_entries) ∙ first-distinct (Some v) place_entries) i) (range_with_len 0 n))
@@ -213,7 +213,7 @@ module _ (n : ℕ) (d : Dataset) (mode : Mode) (g : Option Term) (h : IsIn d mod
 
   -- no member: no quad in the graph
   pub row_none : graph_test mode rule.graph ≡ None → (row : Row) → NeverDefault rule.graph row → [] ≡ answers_at row
-  row_none e row k = sym (answers_are row ∙ (λ i. if (is_some (term_at rule.subject row) && (is_some (term_at rule.predicate row) && (is_some (term_at rule.object row) && not_in i))) && x then solution_at row ∷ [] else []) ∙ of (is_some (term_at rule.subject row)) (is_some (term_at rule.predicate row)) (is_some (term_at rule.object row)))
+  row_none e row k = sym (answers_are row ∙ (λ i. if (is_some (term_at rule.subject row) && (is_some (term_at rule.predicate row) && (is_some (term_at rule.object row) && not_in i))) && x then solution_at row ∷ [] else []) ∙ ap (λ t. if t && x then solution_at row ∷ [] else []) (three_fail (is_some (term_at rule.subject row)) (is_some (term_at rule.predicate row)) (is_some (term_at rule.object row))))
     where
       x : Bool
       x = pattern_ok p (value_of (term_expr rule.subject) row) (value_of (term_expr rule.predicate) row) (value_of (term_expr rule.object) row)
@@ -221,12 +221,6 @@ module _ (n : ℕ) (d : Dataset) (mode : Mode) (g : Option Term) (h : IsIn d mod
 
       not_in : in_graph g rule.graph row ≡ false
       not_in = sym (graph_passes_is d mode g rule.graph row h k) ∙ ap (λ o. option_map_or (λ test. (all_hold (not_nulls (graph_terms rule.graph)) row && all_hold test row) && graph_is mode g rule.graph row) o false) e
-
-      of : (a b c : Bool) → (if (a && (b && (c && false))) && x then solution_at row ∷ [] else []) ≡ []
-      of false b c = refl
-      of true false c = refl
-      of true true false = refl
-      of true true true = refl
 
 -- ---- all rows of a rule, and of all rules
 

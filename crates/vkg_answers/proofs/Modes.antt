@@ -1,6 +1,6 @@
 -- What the rows of a mode are, and the condition of a Join or a Left over them.
 use Rattle.std.proofs.Common.{◌≡◌, ℕ, ◌+◌, ◌≤◌, Bool, true, false, List, [], ◌∷◌, ◌++◌, map, length, refl, sym, ap, ◌∙◌, arith}
-use Rattle.std.proofs.Math.Bool.{and-false}
+use Rattle.std.proofs.Math.Bool.{and-false, and-true}
 use Rattle.std.specs.Prelude.{Option, Some, None, ◌&&◌, replicate, unwrap_or}
 use Rattle.std.specs.List.{list_all}
 use Rattle.std.specs.Option.{option_map_or}
@@ -53,34 +53,21 @@ same_graphs : (a b : Expr) (row : Row) (t u : Term) → value_of a row ≡ cell.
 same_graphs a b row t u e f = (λ i. unwrap_or (truth_of (truth_cell (same (e i) (f i)))) false)
 
 -- the truths of a join's parts
-plain : (a x : Bool) → (((a && true) && x) && true) ≡ ((true && true) && (a && x))
-plain true true = refl
-plain true false = refl
-plain false x = refl
+near : (a c x : Bool) → ((a && (c && true)) && x) ≡ (c && (a && x))
+near true true x = refl
+near true false x = refl
+near false true x = refl
+near false false x = refl
 
-plain_near : (a x : Bool) → ((a && true) && x) ≡ (true && (a && x))
-plain_near true x = refl
-plain_near false x = refl
+through : (a c x : Bool) → (((a && (c && true)) && x) && true) ≡ ((true && c) && (a && x))
+through a c x = and-true ((a && (c && true)) && x) ∙ near a c x
 
 through_graph : (a x : Bool) (i t u : Term) → (b : Bool) → term_eq i t ≡ b → (((a && (term_eq t u && true)) && x) && b) ≡ ((b && term_eq i u) && (a && x))
-through_graph a x i t u true e = let f : i ≡ t = eq_same terms_apart i t e in Prim.rw f (of a (term_eq t u) x)
-  where
-    of : (a c x : Bool) → (((a && (c && true)) && x) && true) ≡ ((true && c) && (a && x))
-    of true true true = refl
-    of true true false = refl
-    of true false x = refl
-    of false true x = refl
-    of false false x = refl
+through_graph a x i t u true e = let f : i ≡ t = eq_same terms_apart i t e in Prim.rw f (through a (term_eq t u) x)
 through_graph a x i t u false e = and-false ((a && (term_eq t u && true)) && x)
 
 near_graph : (a x : Bool) (i t u : Term) → term_eq i t ≡ true → ((a && (term_eq t u && true)) && x) ≡ (term_eq i u && (a && x))
-near_graph a x i t u e = let f : i ≡ t = eq_same terms_apart i t e in Prim.rw f (of a (term_eq t u) x)
-  where
-    of : (a c x : Bool) → ((a && (c && true)) && x) ≡ (c && (a && x))
-    of true true x = refl
-    of true false x = refl
-    of false true x = refl
-    of false false x = refl
+near_graph a x i t u e = let f : i ≡ t = eq_same terms_apart i t e in Prim.rw f (near a (term_eq t u) x)
 
 module _ (d : Dataset) (vs ws : List ℕ) (cs : List Expr) where
   -- a condition of a join, its conjuncts that speak of variables, and the graph of a joined row
@@ -117,8 +104,8 @@ module _ (d : Dataset) (vs ws : List ℕ) (cs : List Expr) where
 
   pub join_split : (mode : Mode) (g : Option Term) → IsIn d mode g → (l r : Row) → IsRowOf d mode vs l → IsRowOf d mode ws r →
       (joined mode (l ++ r) && in_graph mode g (l ++ r)) ≡ ((belongs mode (length vs) g l && belongs mode (length ws) g r) && passing mode (l ++ r))
-  join_split Default g h l r p q = Prim.rw (joined_is Default (l ++ r)) (plain (vars_agree Default (l ++ r)) (rest_holds (l ++ r)))
-  join_split (InGraph j) g h l r p q = Prim.rw (joined_is (InGraph j) (l ++ r)) (plain (vars_agree (InGraph j) (l ++ r)) (rest_holds (l ++ r)))
+  join_split Default g h l r p q = Prim.rw (joined_is Default (l ++ r)) (through (vars_agree Default (l ++ r)) true (rest_holds (l ++ r)))
+  join_split (InGraph j) g h l r p q = Prim.rw (joined_is (InGraph j) (l ++ r)) (through (vars_agree (InGraph j) (l ++ r)) true (rest_holds (l ++ r)))
   join_split Each None h l r p q = let e : None ≡ Some h.0 = h.1 in cc
   join_split Each (Some i) h l r p q =
       Prim.rw (joined_is Each (l ++ r), both_graphs l r p q, hidden_found (length (each_once (vs ++ ws))) i p.graph.0 (project_merged Each vs ws (l ++ r)) (hidden_joined l r p r), hidden_found (length vs) i p.graph.0 l p.graph.2, hidden_found (length ws) i q.graph.0 r q.graph.2)
@@ -126,8 +113,8 @@ module _ (d : Dataset) (vs ws : List ℕ) (cs : List Expr) where
 
   pub join_near : (mode : Mode) (g : Option Term) → IsIn d mode g → (l r : Row) → IsRowOf d mode vs l → IsRowOf d mode ws r → belongs mode (length vs) g l ≡ true →
       joined mode (l ++ r) ≡ (belongs mode (length ws) g r && passing mode (l ++ r))
-  join_near Default g h l r p q e = Prim.rw (joined_is Default (l ++ r)) (plain_near (vars_agree Default (l ++ r)) (rest_holds (l ++ r)))
-  join_near (InGraph j) g h l r p q e = Prim.rw (joined_is (InGraph j) (l ++ r)) (plain_near (vars_agree (InGraph j) (l ++ r)) (rest_holds (l ++ r)))
+  join_near Default g h l r p q e = Prim.rw (joined_is Default (l ++ r)) (near (vars_agree Default (l ++ r)) true (rest_holds (l ++ r)))
+  join_near (InGraph j) g h l r p q e = Prim.rw (joined_is (InGraph j) (l ++ r)) (near (vars_agree (InGraph j) (l ++ r)) true (rest_holds (l ++ r)))
   join_near Each None h l r p q e = let e : None ≡ Some h.0 = h.1 in cc
   join_near Each (Some i) h l r p q e =
       Prim.rw (joined_is Each (l ++ r), both_graphs l r p q, hidden_found (length ws) i q.graph.0 r q.graph.2)

@@ -14,7 +14,7 @@ use Rattle.vkg_lists.proofs.Bags.{bag_same, bag_trans, bag_map}
 use Rattle.vkg_lists.proofs.Counts.{eq_comm}
 use Rattle.vkg_lists.proofs.Walks.{filter-map, filter-filter, map-map}
 use Rattle.vkg_lists.proofs.Members.{Contains-none, Contains-here, Contains-there, Contains-from_map, Contains-from_filter, Contains-from_flat_map, map_agree_on, filter_agree_on, each_of_all, all_of_each}
-use Rattle.vkg_lists.proofs.Bools.{or_left, or_right, same_truth}
+use Rattle.vkg_lists.proofs.Bools.{or_left, or_right, same_truth, is_false}
 use Rattle.vkg_lists.specs.Sets.{distinct}
 use Rattle.vkg_terms.specs.declared.term.Term.{Term}
 use Rattle.vkg_terms.specs.Same.{term_eq}
@@ -231,11 +231,11 @@ module _ (schema : Tables) (rules : List RowRule) (n : ℕ) (d : Dataset) (db : 
           kept v true e true f = absurd (apart v (sym (has-each_once (flat_map pattern_variables (p ∷ ps)) v) ∙ e) f)
           kept v true e false f = ap term_of (at_is v)
           kept v false e true f = refl
-          kept v false e false f = sym (ap term_of (first_absent (Some v) (names mode (p ∷ ps)) row (not_there (list_any (name_eq (Some v)) (names mode (p ∷ ps))) refl)))
+          kept v false e false f = sym (ap term_of (first_absent (Some v) (names mode (p ∷ ps)) row not_there))
             where
-              not_there : (b : Bool) → list_any (name_eq (Some v)) (names mode (p ∷ ps)) ≡ b → b ≡ false
-              not_there true g = ⊎_elim (λ k. absurd (true≢false (sym (has-each_once (flat_map pattern_variables (p ∷ ps)) v ∙ k) ∙ e))) (λ k. absurd (true≢false (sym k ∙ f))) (names_known mode (p ∷ ps) v g)
-              not_there false g = refl
+              not_there : list_any (name_eq (Some v)) (names mode (p ∷ ps)) ≡ false
+              not_there = is_false (list_any (name_eq (Some v)) (names mode (p ∷ ps)))
+                  (λ g. ⊎_elim (λ k. true≢false (sym (has-each_once (flat_map pattern_variables (p ∷ ps)) v ∙ k) ∙ e)) (λ k. true≢false (sym k ∙ f)) (names_known mode (p ∷ ps) v g))
 
           one : (v : ℕ) → term_in (visible_column vis) (proj mode row) v ≡ (if has (labels_of (p ∷ ps)) v then None else named_term (cells mode row) v)
           one v = ap term_of (read_project (at mode) (if_each mode (hidden mode)) vis row v) ∙ kept v (has vis v) refl (has (labels_of (p ∷ ps)) v) refl

@@ -7,7 +7,7 @@ use Rattle.std.specs.Option.{option_map_or, option_to_list}
 use Rattle.std.specs.List.{list_all, range_with_len}
 use Rattle.vkg_lists.proofs.Tests.{nat_test}
 use Rattle.vkg_lists.proofs.Counts.{eq_comm}
-use Rattle.vkg_lists.proofs.Members.{Contains-none, Contains-cons_cases}
+use Rattle.vkg_lists.proofs.Members.{Contains-none, Contains-only}
 use Rattle.vkg_terms.specs.declared.term.Term.{Term}
 use Rattle.vkg_terms.specs.NQuads.{Quad}
 use Rattle.vkg_terms.specs.Same.{term_eq}
@@ -82,17 +82,18 @@ NodeBelow n (Fixed t) = ⊤
 
 -- what holds of a node's cell holds of its entries
 pub node_all : (P : Cell → Type 0) (x : Node) (c : Cell) → P c → (e : Entry) → Contains (node_entries x c) e → P e.1
-node_all P (Variable v) c h e k = ⊎_elim (λ f. subst (λ (z : Entry). P z.1) f h) (λ f. absurd (Contains-none e f)) (Contains-cons_cases (Some v, c) [] e k)
-node_all P (Label v) c h e k = ⊎_elim (λ f. subst (λ (z : Entry). P z.1) f h) (λ f. absurd (Contains-none e f)) (Contains-cons_cases (Some v, c) [] e k)
+node_all P (Variable v) c h e k = subst (λ (z : Entry). P z.1) (Contains-only (Some v, c) e k) h
+node_all P (Label v) c h e k = subst (λ (z : Entry). P z.1) (Contains-only (Some v, c) e k) h
 node_all P (Fixed t) c h e k = absurd (Contains-none e k)
 
 pub node_terms : (x : Node) (t : Term) → AreTerms (node_entries x (cell.Term t))
 node_terms x t = node_all (λ c. (u : Term) × (c ≡ cell.Term u)) x (cell.Term t) (t, refl)
 
 one_below : (n v : ℕ) (c : Cell) → v < n → NamesBelow n ((Some v, c) ∷ [])
-one_below n v c h z k w e = ⊎_elim
-    (λ f. let g : Some v ≡ Some w = ap (λ (x : Entry). x.0) f ∙ e in let i : v ≡ w = cc in omega (arith, h, i))
-    (λ m. absurd (Contains-none z m)) (Contains-cons_cases (Some v, c) [] z k)
+one_below n v c h z k w e =
+    let g : Some v ≡ Some w = ap (λ (x : Entry). x.0) (Contains-only (Some v, c) z k) ∙ e in
+    let i : v ≡ w = cc in
+    omega (arith, h, i)
 
 pub node_below : (n : ℕ) (x : Node) (c : Cell) → NodeBelow n x → NamesBelow n (node_entries x c)
 node_below n (Variable v) c h = one_below n v c h

@@ -8,7 +8,7 @@ use Rattle.std.proofs.lemmas.List.Folds.{list_any-append}
 use Rattle.std.proofs.lemmas.Map.Made.{is_member-filter}
 use Rattle.std.proofs.lemmas.Option.{unwrap_or-slice_get}
 use Rattle.vkg_lists.proofs.Tests.{nat_test}
-use Rattle.vkg_lists.proofs.Counts.{eq_itself}
+use Rattle.vkg_lists.proofs.Counts.{eq_itself, eq_other}
 use Rattle.vkg_lists.proofs.Texts.{IsEquivalence-test}
 use Rattle.vkg_lists.proofs.Distinct.{any_of-distinct}
 use Rattle.vkg_lists.proofs.Heads.{replicate_same}
@@ -157,16 +157,8 @@ set_at o f (suc n) k zero w e = let g : w ≡ k = omega arith in λ i. here g i 
 
     past : (f : ℕ → Option Term) (n k w : ℕ) → w < k → map f (range_with_len k n) ≡ map (λ u. if nat_eq w u then o else f u) (range_with_len k n)
     past f zero k w h = refl
-    past f (suc n) k w h = λ i. one (nat_eq w k) refl i ∷ past f n (k + 1) w (omega arith) i
-      where
-        one : (b : Bool) → nat_eq w k ≡ b → f k ≡ (if b then o else f k)
-        one true e = absurd (omega (arith, h, eqb-true w k e))
-        one false e = refl
-set_at o f (suc n) k (suc v) w e = λ i. one (nat_eq w k) refl i ∷ set_at o f n (k + 1) v w (omega arith) i
-  where
-    one : (b : Bool) → nat_eq w k ≡ b → f k ≡ (if b then o else f k)
-    one true g = absurd (omega (arith, e, eqb-true w k g))
-    one false g = refl
+    past f (suc n) k w h = λ i. ap (λ b. if b then o else f k) (sym (eq_other nat_test w k (λ g. omega (arith, h, g)))) i ∷ past f n (k + 1) w (omega arith) i
+set_at o f (suc n) k (suc v) w e = λ i. ap (λ b. if b then o else f k) (sym (eq_other nat_test w k (λ g. omega (arith, e, g)))) i ∷ set_at o f n (k + 1) v w (omega arith) i
 
 -- every variable is below n
 abbrev pub AreBelow : ℕ → List ℕ → Type 0

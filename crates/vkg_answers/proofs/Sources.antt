@@ -1,10 +1,11 @@
 -- The members of a triple pattern's plan over the rows of their rules, and the graph test of each mode.
 use Rattle.std.proofs.Common.{◌≡◌, ℕ, Bool, true, false, List, [], ◌∷◌, ◌++◌, map, refl, sym, ap, ◌∙◌, true≢false}
+use Rattle.std.proofs.Math.Bool.{and-false}
 use Rattle.std.specs.Prelude.{Option, Some, None, not, ◌&&◌, filter, flat_map, filter_map, is_some, if◌then◌else◌, unwrap_or, option_map}
 use Rattle.std.specs.Option.{option_map_or}
 use Rattle.std.specs.List.{list_all, cons_option}
 use Rattle.std.proofs.lemmas.List.Folds.{list_all-append}
-use Rattle.vkg_lists.proofs.Counts.{eq_same, eq_comm}
+use Rattle.vkg_lists.proofs.Counts.{eq_same, eq_comm, eq_other}
 use Rattle.vkg_lists.proofs.Walks.{filter-filter}
 use Rattle.vkg_lists.specs.Sets.{distinct}
 use Rattle.vkg_terms.specs.declared.term.Term.{Term}
@@ -119,6 +120,10 @@ not_same_const_is e t row = ap (λ c. not_same_cells c (cell.Term t)) (term_expr
     of None = refl
     of (Some u) = refl
 
+-- a test that fails, behind three
+pub three_fail : (a b c : Bool) → (a && (b && (c && false))) ≡ false
+three_fail a b c = ap (λ t. a && (b && t)) (and-false c) ∙ ap (λ t. a && t) (and-false b) ∙ and-false a
+
 -- in mode each the graph's term is the one that is read
 abbrev pub graph_is : Mode → Option Term → Option TermExpr → Row → Bool
 graph_is Each (Some i) (Some e) row = option_map_or (term_eq i) (term_at e row) false
@@ -156,11 +161,7 @@ graph_passes_is d (InGraph i) g (Some e) row h k = Prim.rw h (of (term_eq (Iri i
         plain false = refl
 
         one : (b : Bool) → term_eq t default_graph ≡ b → (((true && true) && (term_eq t (Iri i) && true)) && true) ≡ option_map_or (λ h. graph_eq h (Some (Iri i))) (Some (if b then None else Some t)) false
-        one true e2 = plain (term_eq t (Iri i)) ∙ other (term_eq t (Iri i)) refl
-          where
-            other : (c : Bool) → term_eq t (Iri i) ≡ c → c ≡ false
-            other true x = absurd (true≢false (sym (ap (λ u. term_eq u default_graph) (sym (eq_same terms_apart t (Iri i) x)) ∙ e2) ∙ f))
-            other false x = refl
+        one true e2 = plain (term_eq t (Iri i)) ∙ eq_other terms_apart t (Iri i) (λ x. true≢false (sym (ap (λ u. term_eq u default_graph) (sym x) ∙ e2) ∙ f))
         one false e2 = plain (term_eq t (Iri i))
 
     untested : (t : Option Term) → term_eq (Iri i) default_graph ≡ true → false ≡ option_map_or (λ h. graph_eq h (Some (Iri i))) (option_map graph_name t) false
@@ -169,11 +170,7 @@ graph_passes_is d (InGraph i) g (Some e) row h k = Prim.rw h (of (term_eq (Iri i
       where
         one : (b : Bool) → term_eq t default_graph ≡ b → false ≡ option_map_or (λ h. graph_eq h (Some (Iri i))) (Some (if b then None else Some t)) false
         one true e2 = refl
-        one false e2 = sym (other (term_eq t (Iri i)) refl)
-          where
-            other : (c : Bool) → term_eq t (Iri i) ≡ c → c ≡ false
-            other true x = absurd (true≢false (sym (ap (λ u. term_eq u default_graph) (eq_same terms_apart t (Iri i) x) ∙ f) ∙ e2))
-            other false x = refl
+        one false e2 = sym (eq_other terms_apart t (Iri i) (λ x. true≢false (sym (ap (λ u. term_eq u default_graph) x ∙ f) ∙ e2)))
 
     of : (b : Bool) → term_eq (Iri i) default_graph ≡ b →
         option_map_or (λ test. ((holds (Not (IsNull (term_expr e))) row && true) && all_hold test row) && true) (if b then None else Some (Same (term_expr e) (term_const (Iri i)) ∷ [])) false

@@ -2,6 +2,7 @@
 use Rattle.std.proofs.Common.{◌≡◌, ℕ, Bool, true, false, List, [], ◌∷◌, ◌++◌, map, refl, sym, ◌∙◌}
 use Rattle.std.specs.Prelude.{not, ◌&&◌, replicate, filter, if◌then◌else◌}
 use Rattle.std.specs.List.{list_all, AllByRecursion as Every}
+use Rattle.std.proofs.lemmas.Bool.{cond_both}
 use Rattle.std.proofs.lemmas.List.Elements.{filter-append}
 use Rattle.vkg_lists.proofs.Walks.{filter-filter}
 use Rattle.vkg_cells.specs.declared.cell.Cell.TheVariants as cell
@@ -11,15 +12,11 @@ use Rattle.vkg_plan.specs.Rows.{is_alone, pairs, left_pairs}
 abbrev pub no_row : List Row
 no_row = []
 
-no_rows : (a : Bool) → no_row ≡ (if a then no_row else no_row)
-no_rows true = refl
-no_rows false = refl
-
 module _ (P Q : Row → Type 0) (kl kr pass h : Row → Bool) where
   module _ (kp : Row → Bool) (split : (l r : Row) → P l → Q r → (h (l ++ r) && kp (l ++ r)) ≡ ((kl l && kr r) && pass (l ++ r))) where
     one_split : (l : Row) (rs : List Row) → P l → Every Q rs →
         filter (λ x. h x && kp x) (map (λ r. l ++ r) rs) ≡ (if kl l then filter pass (map (λ r. l ++ r) (filter kr rs)) else [])
-    one_split l [] p q = no_rows (kl l)
+    one_split l [] p q = cond_both (kl l) no_row no_row (λ rs. no_row ≡ rs) (λ _. refl) (λ _. refl)
     one_split l (r ∷ rs) p q = Prim.rw (split l r p q.0, one_split l rs p q.1) (of (kl l) (kr r) (pass (l ++ r)) refl)
       where
         rest : List Row

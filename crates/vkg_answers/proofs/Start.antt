@@ -8,8 +8,8 @@ use Rattle.vkg_lists.specs.Sets.{distinct}
 use Rattle.vkg_lists.proofs.Ascending.{same_ascending}
 use Rattle.vkg_lists.proofs.Bags.{bag_same, bag_trans, bag_map}
 use Rattle.vkg_lists.proofs.Distinct.{bag_distinct, distinct_map_on}
-use Rattle.vkg_lists.proofs.Members.{Contains-from_map}
-use Rattle.vkg_lists.proofs.Walks.{map-map, filter_all}
+use Rattle.vkg_lists.proofs.Members.{Contains-from_map, filter_keeps}
+use Rattle.vkg_lists.proofs.Walks.{map-map}
 use Rattle.vkg_terms.specs.declared.term.Term.{Term}
 use Rattle.vkg_terms.specs.Same.{term_eq}
 use Rattle.vkg_schema.specs.Rows.{Database, Row}
@@ -86,7 +86,7 @@ module _ (schema : Tables) (rules : List RowRule) (query : Query) (db : Database
       bag_trans (bag_same
       (map-map row_solution selected (rows_of schema inner db)
       ∙ (λ i. map (λ row. terms_are (length query.names) (visible (algebra_of query)) (selected_variables query) row (visible_below (length query.names) (algebra_of query) lawful) i)
-      (sym (filter_all (belongs Default (length (visible (algebra_of query))) None) (rows_of schema inner db) (λ x. refl)) i))
+      (sym (filter_keeps (belongs Default (length (visible (algebra_of query))) None) (rows_of schema inner db) (λ x c. refl)) i))
       ∙ sym (map-map (projected (selected_variables query)) (solution_of (length query.names) (visible (algebra_of query))) (filter (belongs Default (length (visible (algebra_of query))) None) (rows_of schema inner db)))))
       (bag_map (projected (selected_variables query)) (stands.bag None refl))
 

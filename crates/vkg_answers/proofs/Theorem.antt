@@ -1,16 +1,14 @@
 -- The unfolded plan stands for its algebra.
-use Rattle.std.proofs.Common.{◌≡◌, ℕ, ◌<◌, Bool, true, false, List, [], ◌∷◌, ◌++◌, map, length, refl, sym, ap, subst, ◌∙◌, arith, true≢false, append-nil}
+use Rattle.std.proofs.Common.{◌≡◌, ℕ, ◌<◌, Bool, true, false, List, [], ◌∷◌, ◌++◌, map, length, refl, sym, ap, subst, ◌∙◌, true≢false, append-nil}
 use Rattle.std.proofs.Math.Bool.{or-true}
-use Rattle.std.specs.Prelude.{Option, Some, None, ◌||◌, filter, flat_map, filter_map, Contains, nat_eq, if◌then◌else◌}
+use Rattle.std.specs.Prelude.{Option, Some, None, ◌||◌, filter, flat_map, filter_map, Contains, if◌then◌else◌}
 use Rattle.std.specs.List.{list_any, cons_option}
 use Rattle.std.specs.List.Sorted.{IsPermutation}
+use Rattle.std.proofs.lemmas.Map.Made.{is_member-Decides}
 use Rattle.vkg_lists.proofs.Tests.{nat_test}
-use Rattle.vkg_lists.proofs.Counts.{eq_comm, Decides-list_any}
-use Rattle.vkg_lists.proofs.Members.{Contains-here}
-use Rattle.vkg_lists.proofs.Walks.{filter_all}
-use Rattle.vkg_lists.proofs.Distinct.{Contains-distinct, Contains-from_distinct}
-use Rattle.vkg_lists.proofs.Bools.{same_truth}
-use Rattle.vkg_lists.specs.Sets.{distinct}
+use Rattle.vkg_lists.proofs.Counts.{eq_comm}
+use Rattle.vkg_lists.proofs.Members.{Contains-here, Contains-only, filter_keeps}
+use Rattle.vkg_lists.proofs.Distinct.{any_of-distinct}
 use Rattle.vkg_terms.specs.declared.term.Term.{Term}
 use Rattle.vkg_terms.specs.declared.term.Term.TheVariants.{Iri}
 use Rattle.vkg_terms.specs.NQuads.{Quad}
@@ -50,12 +48,6 @@ use Rattle.vkg_answers.proofs.OneSide.{filter_stands, widened_stands, append_sta
 use Rattle.vkg_answers.proofs.Graphs.{Plain, plain_named, stands_default, stands_named, after_exists, after_names, name_row}
 use Rattle.vkg_answers.proofs.GraphVariable.{variable_stands}
 
-of_left : (n : ℕ) (a b : Algebra) → IsLawful n (algebra_nodes a ++ algebra_nodes b) → IsLawfulAlgebra n a
-of_left n a b h = lawful_left n (algebra_nodes a) (algebra_nodes b) h
-
-of_right : (n : ℕ) (a b : Algebra) → IsLawful n (algebra_nodes a ++ algebra_nodes b) → IsLawfulAlgebra n b
-of_right n a b h = lawful_right n (algebra_nodes a) (algebra_nodes b) h
-
 of_both : (n : ℕ) (a b : Algebra) (c : Option Condition) → IsLawfulAlgebra n (LeftJoin a b c) → IsLawful n (algebra_nodes a ++ algebra_nodes b)
 of_both n a b c h = lawful_left n (algebra_nodes a ++ algebra_nodes b) (condition_nodes_if_any c) h
 
@@ -63,27 +55,18 @@ named_below : (n w : ℕ) (a : Algebra) → IsLawfulAlgebra n (Graph (name.Each 
 named_below n w a h = h.within (Variable w) (Contains-here (Variable w) (algebra_nodes a))
 
 one_below : (n w : ℕ) → w < n → AreBelow n (w ∷ [])
-one_below n w l v e = of (nat_eq v w) refl e
-  where
-    of : (b : Bool) → nat_eq v w ≡ b → (b || false) ≡ true → v < n
-    of true f g = omega (arith, l, (nat_test.decides v w).0 f)
-    of false f g = absurd (true≢false (sym g))
+one_below n w l v e = subst (λ u. u < n) (Contains-only w v ((is_member-Decides nat_test.decides (w ∷ []) v).0 e)) l
 
 pub visible_below : (n : ℕ) (a : Algebra) → IsLawfulAlgebra n a → AreBelow n (visible a)
 visible_below n (Bgp ps) h = λ v e. variables_below n ps h v (sym (has-each_once (flat_map pattern_variables ps) v) ∙ e)
-visible_below n (Join a b) h = below_union n (visible a) (visible b) (visible_below n a (of_left n a b h)) (visible_below n b (of_right n a b h))
-visible_below n (LeftJoin a b c) h = let k = of_both n a b c h in below_union n (visible a) (visible b) (visible_below n a (of_left n a b k)) (visible_below n b (of_right n a b k))
-visible_below n (Union a b) h = below_union n (visible a) (visible b) (visible_below n a (of_left n a b h)) (visible_below n b (of_right n a b h))
+visible_below n (Join a b) h = below_union n (visible a) (visible b) (visible_below n a (lawful_left n (algebra_nodes a) (algebra_nodes b) h)) (visible_below n b (lawful_right n (algebra_nodes a) (algebra_nodes b) h))
+visible_below n (LeftJoin a b c) h = let k = of_both n a b c h in below_union n (visible a) (visible b) (visible_below n a (lawful_left n (algebra_nodes a) (algebra_nodes b) k)) (visible_below n b (lawful_right n (algebra_nodes a) (algebra_nodes b) k))
+visible_below n (Union a b) h = below_union n (visible a) (visible b) (visible_below n a (lawful_left n (algebra_nodes a) (algebra_nodes b) h)) (visible_below n b (lawful_right n (algebra_nodes a) (algebra_nodes b) h))
 visible_below n (Filter c a) h = visible_below n a (lawful_right n (condition_nodes c) (algebra_nodes a) h)
 visible_below n (Graph (name.Named i) a) h = λ v e. visible_below n a (lawful_tail n (name_node (name.Named i)) (algebra_nodes a) h) v (sym (has-each_once (visible a) v) ∙ e)
 visible_below n (Graph (name.Each w) a) h = below_union n (w ∷ []) (visible a) (one_below n w (named_below n w a h)) (visible_below n a (lawful_tail n (name_node (name.Each w)) (algebra_nodes a) h))
 
 -- ---- a pattern has no solutions in a graph without a name
-
-member_distinct : (x : Term) (xs : List Term) → list_any (term_eq x) (distinct term_eq xs) ≡ list_any (term_eq x) xs
-member_distinct x xs = same_truth (list_any (term_eq x) (distinct term_eq xs)) (list_any (term_eq x) xs)
-    (λ h. (Decides-list_any terms_apart xs x).1 (Contains-from_distinct term_eq xs x ((Decides-list_any terms_apart (distinct term_eq xs) x).0 h)))
-    (λ h. (Decides-list_any terms_apart (distinct term_eq xs) x).1 (Contains-distinct terms_apart xs x ((Decides-list_any terms_apart xs x).0 h)))
 
 absent : (x : Term) (qs : List Quad) → list_any (term_eq x) (filter_map (λ q. q.graph) qs) ≡ false → filter (λ q. graph_eq q.graph (Some x)) qs ≡ []
 absent x [] h = refl
@@ -101,7 +84,7 @@ absent x (q ∷ qs) h = of (λ k. absent x qs k) q.graph h
 
 pub pattern_absent : (n : ℕ) (d : Dataset) (i : List ℕ) (a : Algebra) → is_pattern a ≡ true → list_any (term_eq (Iri i)) (graph_names d) ≡ false → evaluate n d a (Some (Iri i)) ≡ []
 pattern_absent n d i (Bgp []) h k = absurd (true≢false (sym h))
-pattern_absent n d i (Bgp (p ∷ ps)) h k = ap (λ ts. bgp_solutions n (p ∷ ps) ts) (absent (Iri i) d (sym (member_distinct (Iri i) (filter_map (λ q. q.graph) d)) ∙ k))
+pattern_absent n d i (Bgp (p ∷ ps)) h k = ap (λ ts. bgp_solutions n (p ∷ ps) ts) (absent (Iri i) d (sym (any_of-distinct terms_apart (filter_map (λ q. q.graph) d) (Iri i)) ∙ k))
 pattern_absent n d i (Join a b) h k = absurd (true≢false (sym h))
 pattern_absent n d i (LeftJoin a b c) h k = absurd (true≢false (sym h))
 pattern_absent n d i (Union a b) h k = absurd (true≢false (sym h))
@@ -141,7 +124,7 @@ module _ (schema : Tables) (rules : List RowRule) (n : ℕ) (d : Dataset) (db : 
 
   selected : (b : Bool) (c : Expr) (p : Plan) → rows_of schema (if b then Select c p else p) db ≡ filter (λ row. if b then holds c row else true) (rows_of schema p db)
   selected true c p = refl
-  selected false c p = sym (filter_all (λ row. true) (rows_of schema p db) (λ x. refl))
+  selected false c p = sym (filter_keeps (λ row. true) (rows_of schema p db) (λ x c. refl))
 
   abbrev rows_in : Algebra → Mode → List Row
   rows_in a mode = rows_of schema (unfolded schema rules a mode) db
@@ -151,14 +134,14 @@ module _ (schema : Tables) (rules : List RowRule) (n : ℕ) (d : Dataset) (db : 
   stands (Join a b) mode h =
       over mode (each_once (visible a ++ visible b)) (merged_columns mode (visible a) (visible b))
       (plan.Join (plans (unfolded schema rules a mode ∷ unfolded schema rules b mode ∷ [])) (and_of (agreement mode (visible a) (visible b)))) (evaluate n d (Join a b))
-      (join_stands n d mode (visible a) (visible b) (visible_below n a (of_left n a b h)) (visible_below n b (of_right n a b h)) (rows_in a mode) (rows_in b mode)
-      (evaluate n d a) (evaluate n d b) (stands a mode (of_left n a b h)) (stands b mode (of_right n a b h)))
+      (join_stands n d mode (visible a) (visible b) (visible_below n a (lawful_left n (algebra_nodes a) (algebra_nodes b) h)) (visible_below n b (lawful_right n (algebra_nodes a) (algebra_nodes b) h)) (rows_in a mode) (rows_in b mode)
+      (evaluate n d a) (evaluate n d b) (stands a mode (lawful_left n (algebra_nodes a) (algebra_nodes b) h)) (stands b mode (lawful_right n (algebra_nodes a) (algebra_nodes b) h)))
   stands (LeftJoin a b c) mode h =
       let k = of_both n a b c h in
       over mode (each_once (visible a ++ visible b)) (merged_columns mode (visible a) (visible b))
       (Left (unfolded schema rules a mode) (unfolded schema rules b mode) (and_of (agreement mode (visible a) (visible b) ++ condition_of (merged mode (visible a) (visible b)) c))) (evaluate n d (LeftJoin a b c))
-      (left_stands n d mode (visible a) (visible b) (visible_below n a (of_left n a b k)) (visible_below n b (of_right n a b k)) (rows_in a mode) (rows_in b mode)
-      (evaluate n d a) (evaluate n d b) (stands a mode (of_left n a b k)) (stands b mode (of_right n a b k)) c
+      (left_stands n d mode (visible a) (visible b) (visible_below n a (lawful_left n (algebra_nodes a) (algebra_nodes b) k)) (visible_below n b (lawful_right n (algebra_nodes a) (algebra_nodes b) k)) (rows_in a mode) (rows_in b mode)
+      (evaluate n d a) (evaluate n d b) (stands a mode (lawful_left n (algebra_nodes a) (algebra_nodes b) k)) (stands b mode (lawful_right n (algebra_nodes a) (algebra_nodes b) k)) c
       (narrow_if_any n c (lawful_right n (algebra_nodes a ++ algebra_nodes b) (condition_nodes_if_any c) h)) (width schema (unfolded schema rules b mode)))
   stands (Union a b) mode h =
       let all = each_once (visible a ++ visible b) in
@@ -166,9 +149,9 @@ module _ (schema : Tables) (rules : List RowRule) (n : ℕ) (d : Dataset) (db : 
       let right : (v : ℕ) → has (visible b) v ≡ true → has all v ≡ true = λ v e. has_union (visible a) (visible b) v ∙ ap (λ x. has (visible a) v || x) e ∙ or-true (has (visible a) v) in
       Prim.rw (append-nil) (append_stands n d mode all _ _ (evaluate n d a) (evaluate n d b)
       (over mode all (map (visible_column (visible a)) all ++ if_each mode (Col (length (visible a)))) (unfolded schema rules a mode) (evaluate n d a)
-      (widened_stands n d mode all (visible a) left (rows_in a mode) (evaluate n d a) (stands a mode (of_left n a b h))))
+      (widened_stands n d mode all (visible a) left (rows_in a mode) (evaluate n d a) (stands a mode (lawful_left n (algebra_nodes a) (algebra_nodes b) h))))
       (over mode all (map (visible_column (visible b)) all ++ if_each mode (Col (length (visible b)))) (unfolded schema rules b mode) (evaluate n d b)
-      (widened_stands n d mode all (visible b) right (rows_in b mode) (evaluate n d b) (stands b mode (of_right n a b h)))))
+      (widened_stands n d mode all (visible b) right (rows_in b mode) (evaluate n d b) (stands b mode (lawful_right n (algebra_nodes a) (algebra_nodes b) h)))))
   stands (Filter c a) mode h =
       let k = lawful_right n (condition_nodes c) (algebra_nodes a) h in
       filter_stands n d mode (visible a) (visible_below n a k) (rows_in a mode) (evaluate n d a) (stands a mode k) c (narrow_if_any n (Some c) (lawful_left n (condition_nodes c) (algebra_nodes a) h))

@@ -4,7 +4,7 @@ use Rattle.std.specs.Prelude.{Option, Some, None, ◌&&◌, Contains, if◌then�
 use Rattle.std.proofs.lemmas.List.Elements.{Contains-append_cases, Contains-append_left, Contains-append_right}
 use Rattle.std.specs.List.{zip}
 use Rattle.vkg_lists.proofs.Counts.{eq_same}
-use Rattle.vkg_lists.proofs.Members.{Contains-none, Contains-here, Contains-there, Contains-cons_cases, map_agree_on, each_of_all, Contains-cond}
+use Rattle.vkg_lists.proofs.Members.{Contains-none, Contains-here, Contains-there, Contains-cons_cases, map_agree_on, each_of_all, Contains-cond, Contains-only}
 use Rattle.vkg_lists.proofs.Bools.{and_parts, same_truth}
 use Rattle.vkg_terms.specs.declared.term.Term.{Term}
 use Rattle.vkg_terms.specs.NQuads.{Quad}
@@ -56,8 +56,8 @@ entries_terms p s t u x k =
     entry_from p (cell.Term s) (cell.Term t) (cell.Term u) x (node_terms p.subject s x) (node_terms p.predicate t x) (node_terms p.object u x) k
 
 numbers_below : (n : ℕ) (x : Node) → NodeBelow n x → (v : ℕ) → Contains (node_numbers x) v → v < n
-numbers_below n (Variable w) h v c = ⊎_elim (λ e. subst (λ u. u < n) e h) (λ k. absurd (Contains-none v k)) (Contains-cons_cases w [] v c)
-numbers_below n (Label w) h v c = ⊎_elim (λ e. subst (λ u. u < n) e h) (λ k. absurd (Contains-none v k)) (Contains-cons_cases w [] v c)
+numbers_below n (Variable w) h v c = subst (λ u. u < n) (Contains-only w v c) h
+numbers_below n (Label w) h v c = subst (λ u. u < n) (Contains-only w v c) h
 numbers_below n (Fixed t) h v c = absurd (Contains-none v c)
 
 module _ (n : ℕ) (p : TriplePattern) (below : NodeBelow n p.subject × NodeBelow n p.predicate × NodeBelow n p.object) where

@@ -1,14 +1,9 @@
 -- Reads one after another.
-use Rattle.std.proofs.Common.{◌≡◌, ℕ, ◌<◌, ◌≤◌, List, ◌++◌, [], length, take, sym, ◌∙◌, ap, append_assoc, arith}
+use Rattle.std.proofs.Common.{◌≡◌, ℕ, ◌<◌, ◌≤◌, List, ◌++◌, [], length, take, sym, ◌∙◌, ap, arith}
 use Rattle.std.proofs.lemmas.List.{append-nil, take-append-le, take_all}
 use Rattle.std.specs.Prelude.{Option, Some, None, IfSome}
 use Rattle.std.specs.Io.KnownBytes.{Consumes, IsAtEnd}
-
-pub consumes_more : (a b c : Option (List ℕ)) (xs ys : List ℕ) → Consumes a b xs → Consumes b c ys → Consumes a c (xs ++ ys)
-consumes_more None b c xs ys first second = tt
-consumes_more (Some zs) None c xs ys first second = absurd first
-consumes_more (Some zs) (Some ws) None xs ys first second = absurd second
-consumes_more (Some zs) (Some ws) (Some vs) xs ys first second = first ∙ ap (λ (l : List ℕ). xs ++ l) second ∙ sym (append_assoc xs ys vs)
+use Rattle.std.proofs.KnownBytes.{Consumes-trans}
 
 -- as many bytes as were wanted
 pub filled : (a b : Option (List ℕ)) (bs : List ℕ) (limit : ℕ) → Consumes a b bs → length bs ≡ limit → IfSome a (λ left. bs ≡ take limit left)
@@ -18,7 +13,7 @@ filled (Some xs) (Some ys) bs limit consumed full = sym (ap (take limit) consume
 
 -- a read that gave nothing, though there was room: all bytes that there were
 pub ended : (a b c : Option (List ℕ)) (bs buffer : List ℕ) (n limit : ℕ) → Consumes a b bs → Consumes b c (take n buffer) × (n ≡ 0 → 0 < length buffer → IsAtEnd c) → n ≡ 0 → 0 < length buffer → length bs ≤ limit → IfSome a (λ left. bs ≡ take limit left)
-ended a b c bs buffer n limit first second none room short = whole a c (consumes_more a b c bs (take n buffer) first second.0) (second.1 none room)
+ended a b c bs buffer n limit first second none room short = whole a c (Consumes-trans a b c bs (take n buffer) first second.0) (second.1 none room)
   where
     whole : (a c : Option (List ℕ)) → Consumes a c (bs ++ take n buffer) → IsAtEnd c → IfSome a (λ left. bs ≡ take limit left)
     whole None c consumed end = tt

@@ -26,7 +26,7 @@ mod text;
 
 pub use boxed::Box;
 pub use fixed_line::FixedLine;
-pub use groups::{Groups, put};
+pub use groups::{Groups, numbers_of, put};
 pub use host_sink::HostSink;
 pub use host_store::HostStore;
 pub use items::{Items, at};

@@ -1,7 +1,8 @@
 -- The forms of dates and times are ASCII.
-use Rattle.std.proofs.Common.{◌≡◌, ℕ, zero, suc, ◌+◌, ◌-◌, ◌*◌, ◌<◌, ◌≤◌, refl, sym, ap, subst, List, [], ◌++◌, length, codes, Bool, true, false, ◌&&◌, arith, ◌==◌, nat_le, Option, Some, None, lit<}
+use Rattle.std.proofs.Common.{◌≡◌, ℕ, ◌+◌, ◌-◌, ◌*◌, ◌<◌, ◌≤◌, refl, sym, ap, subst, List, [], ◌++◌, length, codes, Bool, true, false, ◌&&◌, arith, ◌==◌, nat_le, Option, Some, None, lit<}
 use Rattle.std.specs.Prelude.{is_some, slice_index}
 use Rattle.std.specs.Char.{is_ascii_digit}
+use Rattle.std.specs.List.{AllByRecursion, range_with_len}
 use Rattle.std.specs.Str.{IsAscii}
 use Rattle.std.specs.Str.Parse.{AllDigits}
 use Rattle.std.proofs.lemmas.List.{get_or_past}
@@ -10,6 +11,7 @@ use Rattle.std.proofs.lemmas.Str.Ascii.{IsAscii-nil, IsAscii-cons}
 use Rattle.std.proofs.lemmas.Option.{same_Some}
 use Rattle.std.specs.Option.{option_or}
 use Rattle.vkg_lists.proofs.Bools.{and_parts}
+use Rattle.vkg_lists.proofs.Each.{below_range}
 use Rattle.vkg_lists.proofs.Results.{some_if, some_then}
 use Rattle.vkg_cells.specs.Number.{is_digits, after_point, without_trailing_zeros}
 use Rattle.vkg_cells.specs.Moment.{two_digits_at, day_of_text, clock_of_text, is_date, is_clock, cut, form_if, form_at, form_of_parts, stamp_form}
@@ -23,25 +25,13 @@ digits_at bs i n e =
     let d = some_if (is_ascii_digit (slice_index bs i) && is_ascii_digit (slice_index bs (i + 1))) (Some ((slice_index bs i - 48) * 10 + (slice_index bs (i + 1) - 48))) (ap is_some e) in
     and_parts (is_ascii_digit (slice_index bs i)) (is_ascii_digit (slice_index bs (i + 1))) d.0
 
--- a fact for each number below n
-abbrev EachBelow : (ℕ → Type 0) → ℕ → Type 0
-EachBelow P zero = Unit {0}
-EachBelow P (suc n) = EachBelow P n × P n
-
-each_below : (P : ℕ → Type 0) (n k : ℕ) → EachBelow P n → k < n → P k
-each_below P zero k a h = absurd (let n : ⊥ = omega (arith, h) in n)
-each_below P (suc n) k a h = elim (k == n) as (λ b. k == n ≡ b → P k) [
-  | true ↦ λ e. let i : n ≡ k = grind arith in subst P i a.1
-  | false ↦ λ e. each_below P n k a.0 (let l : k < n = grind arith in l)
-] refl
-
 past_end : (bs : List ℕ) (k : ℕ) → length bs ≤ k → slice_index bs k < 128
 past_end bs k h = let e = get_or_past bs k 0 h in omega (arith, e)
 
-ascii_below : (bs : List ℕ) (n : ℕ) → length bs ≡ n → EachBelow (λ k. slice_index bs k < 128) n → IsAscii bs
+ascii_below : (bs : List ℕ) (n : ℕ) → length bs ≡ n → AllByRecursion (λ k. slice_index bs k < 128) (range_with_len 0 n) → IsAscii bs
 ascii_below bs n long each k = elim (nat_le n k) as (λ b. nat_le n k ≡ b → slice_index bs k < 128) [
   | true ↦ λ e. past_end bs k (let h : length bs ≤ k = grind arith in h)
-  | false ↦ λ e. each_below (λ k. slice_index bs k < 128) n k each (let h : k < n = grind arith in h)
+  | false ↦ λ e. below_range (λ k. slice_index bs k < 128) n each k (let h : k < n = grind arith in h)
 ] refl
 
 -- a text of ASCII bytes, so many
@@ -68,7 +58,7 @@ date_fixed text e =
     let dash7 : slice_index text 7 < 128 = let h = b.1 in grind arith in
     record {
       long = long;
-      ascii = ascii_below text 10 long ((((((((((tt, small_digit _ d0.0), small_digit _ d0.1), small_digit _ d2.0), small_digit _ d2.1), dash4), small_digit _ d5.0), small_digit _ d5.1), dash7), small_digit _ d8.0), small_digit _ d8.1);
+      ascii = ascii_below text 10 long (small_digit _ d0.0, (small_digit _ d0.1, (small_digit _ d2.0, (small_digit _ d2.1, (dash4, (small_digit _ d5.0, (small_digit _ d5.1, (dash7, (small_digit _ d8.0, (small_digit _ d8.1, tt))))))))));
     }
 
 pub clock_fixed : (text : List ℕ) → is_clock text ≡ true → Fixed 8 text
@@ -88,7 +78,7 @@ clock_fixed text e =
     let colon5 : slice_index text 5 < 128 = let h = b.1 in grind arith in
     record {
       long = long;
-      ascii = ascii_below text 8 long ((((((((tt, small_digit _ d0.0), small_digit _ d0.1), colon2), small_digit _ d3.0), small_digit _ d3.1), colon5), small_digit _ d6.0), small_digit _ d6.1);
+      ascii = ascii_below text 8 long (small_digit _ d0.0, (small_digit _ d0.1, (colon2, (small_digit _ d3.0, (small_digit _ d3.1, (colon5, (small_digit _ d6.0, (small_digit _ d6.1, tt))))))));
     }
 
 pub form_ascii : (date clock ds : List ℕ) → is_date date ≡ true → is_clock clock ≡ true → AllDigits 10 ds → IsAscii (date ++ codes "T" ++ clock ++ after_point ds)

@@ -50,14 +50,11 @@ int-scaled false true x (suc y) m h = above-neg (x * m) (suc y * m) (mul-pos (om
 abbrev over : List ℕ → ℕ → ℤ
 over a n = signed (is_negative a) n
 
-power : (k : ℕ) → 0 < 10 ^ k
-power k = one-le-pow k 10 (lit< tt)
-
 number-over : (a b : List ℕ) (k : ℕ)
     → number_cmp a b ≡ int_cmp (over a (size a * 10 ^ scale b * 10 ^ k)) (over b (size b * 10 ^ scale a * 10 ^ k))
 number-over a b k =
     (λ i. int_cmp (signed-times (is_negative a) (size a) (10 ^ scale b) i) (signed-times (is_negative b) (size b) (10 ^ scale a) i))
-    ∙ sym (int-scaled (is_negative a) (is_negative b) (size a * 10 ^ scale b) (size b * 10 ^ scale a) (10 ^ k) (power k))
+    ∙ sym (int-scaled (is_negative a) (is_negative b) (size a * 10 ^ scale b) (size b * 10 ^ scale a) (10 ^ k) (one-le-pow k 10 (lit< tt)))
 
 -- three numbers over one denominator
 module _ (a b c : List ℕ) where

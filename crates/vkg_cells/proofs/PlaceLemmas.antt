@@ -5,6 +5,7 @@ use Rattle.std.proofs.lemmas.Option.{none-some}
 use Rattle.std.specs.List.{after_first, before_first, position_or_len}
 use Rattle.std.proofs.Math.Seq.{drop-append-add, take-append_seam, take-length}
 use Rattle.std.proofs.Math.Nat.{zero-add}
+use Rattle.vkg_lists.proofs.Positions.{first_here}
 use Rattle.vkg_cells.specs.Moment.{cut}
 use Rattle.std.specs.Str.{NonePass}
 use Rattle.std.specs.Str.Parse.{AllDigits}
@@ -21,11 +22,8 @@ place-behind : (c : ℕ) (xs ys : List ℕ) → Lacks c xs → place c (xs ++ ys
 place-behind c [] ys h = sym (zero-add (place c ys))
 place-behind c (x ∷ xs) ys h = rw h.0 (omega (arith, place-behind c xs ys h.1))
 
-place-here : (c : ℕ) (ys : List ℕ) → place c (c ∷ ys) ≡ 0
-place-here c ys = rw (eq-eqb c c refl) refl
-
 place-cut : (c : ℕ) (xs ys : List ℕ) → Lacks c xs → place c (xs ++ c ∷ ys) ≡ length xs
-place-cut c xs ys h = omega (arith, place-behind c xs (c ∷ ys) h, place-here c ys)
+place-cut c xs ys h = omega (arith, place-behind c xs (c ∷ ys) h, first_here (λ b. b == c) c ys (eq-eqb c c refl))
 
 place-all : (c : ℕ) (xs : List ℕ) → Lacks c xs → place c xs ≡ length xs
 place-all c [] h = refl

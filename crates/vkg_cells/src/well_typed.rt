@@ -5,17 +5,8 @@ ghost use Rattle.vkg_cells.specs.WellTyped.{is_end_of_day as is_end_of_day_text,
 
 use crate::moment::{is_clock, is_date, two_digits};
 use crate::number::{is_decimal, is_digits, is_integer, is_wide};
+use vkg_terms::vocabulary::{XSD_BOOLEAN, XSD_DATE, XSD_DATE_TIME, XSD_DECIMAL, XSD_INTEGER};
 use vkg_terms::{Annotation, Term};
-
-const XSD_INTEGER: &str = "http://www.w3.org/2001/XMLSchema#integer";
-
-const XSD_DECIMAL: &str = "http://www.w3.org/2001/XMLSchema#decimal";
-
-const XSD_BOOLEAN: &str = "http://www.w3.org/2001/XMLSchema#boolean";
-
-const XSD_DATE: &str = "http://www.w3.org/2001/XMLSchema#date";
-
-const XSD_DATE_TIME: &str = "http://www.w3.org/2001/XMLSchema#dateTime";
 
 /// Whether a text is of a datatype's lexical space, for the datatypes that are looked at: xsd:integer, xsd:decimal,
 /// xsd:boolean, xsd:date and xsd:dateTime (XML Schema 1.1 Part 2), with the years 0001 to 9999.

@@ -26,6 +26,8 @@ use Rattle.vkg_turtle.specs.Reading.{IsDocumentOf}
 use Rattle.vkg_r2rml.specs.Mapping.{mapping_of}
 use Rattle.vkg_cli.specs.declared.load.TheConstants.{LIMIT}
 use Rattle.vkg_tables.specs.declared.fault.TableFault.{TableFault}
+use Rattle.vkg_cli.specs.declared.stops.Fault.{Fault}
+use Rattle.vkg_cli.specs.declared.stops.Fault.TheVariants as limits
 use Rattle.vkg_cli.specs.declared.stops.Stop.{Stop}
 use Rattle.vkg_schema.specs.Reading.{IsSchemaOf}
 use Rattle.vkg_tables.specs.Checks.{key_fault, reference_fault}
@@ -33,7 +35,7 @@ use Rattle.vkg_tables.specs.Seen.{Seen, columns_at, columns_of, with_read, with_
 use Rattle.vkg_tables.specs.TableFile.{table_of_bytes}
 use Rattle.vkg_cli.specs.Stages.{Loads, Settles, Then, found, goes_on, stops}
 use Rattle.vkg_cli.specs.Words.{Command, DumpWords, QueryWords, SqlWords, dump, query, sql}
-use Rattle.vkg_cli.specs.Work.{Checks, Dumps, GivesAnswer, GivesText, LoadsDatabase, LoadsFaultless, LoadsMapping, LoadsQuery, LoadsSchema, LoadsTable, LoadsTables, LoadsText, MapsDirectly, MapsTriples, ReadsQuery, ReadsSchema, ReadsTriples, SaysQueryUnlessLong, SaysUnlessLong, UnlessLong, Works, checks, loaded_or, table_file, unless_data, data_stop, direct_stop, mapping_stop, table_stop}
+use Rattle.vkg_cli.specs.Work.{Checks, Dumps, GivesAnswer, GivesText, LoadsDatabase, LoadsFaultless, LoadsMapping, LoadsQuery, LoadsSchema, LoadsTable, LoadsTables, LoadsText, MapsDirectly, MapsTriples, Reads, ReadsQuery, ReadsSchema, ReadsTriples, SaysQuery, SaysTriples, UnlessLong, Works, checks, loaded_or, table_file, unless_data, data_stop, direct_stop, mapping_stop, table_stop}
 use Rattle.vkg_cli.specs.Work.{unless_fault as unless_table}
 use Rattle.vkg_cli.specs.Answer.{HasText}
 use Rattle.vkg_cli.specs.Headline.{HoldDatabase, HoldDataset, HoldsMapping, HoldsQuery, HoldsSchema, HoldsTable, HoldsText, IsAnswered, IsDump, IsSql, IsTextOf}
@@ -50,9 +52,10 @@ given : (limit : ℕ) (file : Option (List ℕ)) (bytes : List ℕ) → (let one
 given limit None bytes e = cc e
 given limit (Some whole) bytes e = (whole, refl, cc e)
 
-schema_of : (long : Bool) (bytes : List ℕ) (tables : List Table) → UnlessLong long bytes (Ok tables) → (long ≡ false) × IsSchemaOf bytes tables
-schema_of true bytes tables is = absurd (ok_err tables _ is)
-schema_of false bytes tables is = (refl, is)
+-- what is read of a file is within the limit
+short_read : {A : Type 0} (limit : Fault) (reads : Result A Stop → Type 0) (long : Bool) (v : A) → UnlessLong limit reads long (Ok v) → (long ≡ false) × reads (Ok v)
+short_read limit reads true v is = absurd (ok_err v _ is)
+short_read limit reads false v is = (refl, is)
 
 -- the table's file of a loaded table
 rows_read : (db next : Seen) (k : ℕ) (read : Result (List Row) _) → (let one : Result Seen Stop = Ok next in one ≡ loaded_or (with_read db k read))
@@ -116,10 +119,6 @@ given_made : {F : Type 0} (stop_of : F → Stop) (made : Result Mapping F) (mapp
 given_made stop_of (Ok other) mapping e = ap Ok (ok_same other mapping (sym e))
 given_made stop_of (Err fault) mapping e = absurd (ok_err mapping (stop_of fault) e)
 
-triples_of : (long : Bool) (bytes base : List ℕ) (triples : List Triple) → SaysUnlessLong long bytes base (Ok triples) → (long ≡ false) × IsDocumentOf bytes base triples
-triples_of true bytes base triples is = absurd (ok_err triples _ is)
-triples_of false bytes base triples is = (refl, is)
-
 no_data : (found : Option DataFault) (mapping other : Mapping) → (let one : Result Mapping Stop = Ok mapping in one ≡ unless_data found (Ok other)) → (found ≡ None) × (mapping ≡ other)
 no_data found mapping other e =
     let r = unless_given (option_map data_stop found) (Ok other) mapping (sym e) in
@@ -128,17 +127,13 @@ no_data found mapping other e =
 unless_key : {A : Type 0} (found : Option TableFault) (v : A) (later : Result A Stop) → (let one : Result A Stop = Ok v in one ≡ unless_table found later) → Ok v ≡ later
 unless_key found v later e = sym (unless_given (option_map table_stop found) later v (sym e)).1
 
-query_of : (long : Bool) (bytes base : List ℕ) (asked : Query) → SaysQueryUnlessLong long bytes base (Ok asked) → (long ≡ false) × IsQuery bytes base asked
-query_of true bytes base asked is = absurd (ok_err asked _ is)
-query_of false bytes base asked is = (refl, is)
-
 module _ (files : Files) (schema : List Table) (base : List ℕ) (mapping : Mapping) where
   -- what a document's triples say
   read_text : (bytes : List ℕ) (names : List (List ℕ)) → Then (Settles (ReadsTriples bytes base)) (λ triples. Settles (MapsTriples triples schema base)) names (Ok mapping)
       → (nat_lt 2147483647 (length bytes) ≡ false) × ((triples : List Triple) × IsDocumentOf bytes base triples × (mapping_of triples schema base ≡ Ok mapping))
   unfolding ReadsTriples Settles
   read_text bytes names (goes_on triples head tail settled maps is) =
-      let says = triples_of (nat_lt 2147483647 (length bytes)) bytes base triples (settled.1) in
+      let says = short_read (limits.Mapping 22 2147483647) (SaysTriples bytes base) (nat_lt 2147483647 (length bytes)) triples (settled.1) in
       (says.0, (triples, says.1, given_made mapping_stop (mapping_of triples schema base) mapping (maps.1)))
   read_text bytes names (stops stop settled is) = absurd (ok_err mapping stop is)
 
@@ -161,7 +156,7 @@ module _ (files : Files) where
   unfolding Loads ReadsSchema Settles
   schema_holds name schema names (goes_on bytes head tail load settled is) =
       let file = given LIMIT (held files name) bytes (load.1) in
-      let says = schema_of (nat_lt 2147483647 (length bytes)) bytes schema (settled.1) in
+      let says = short_read (limits.Schema 14 2147483647) (Reads bytes) (nat_lt 2147483647 (length bytes)) schema (settled.1) in
       let whole = uncut LIMIT 2147483647 file.0 refl (ap (λ b. nat_lt 2147483647 (length b)) (sym file.2) ∙ says.0) in
       record { text = file.0; file = file.1; says = subst (λ b. IsSchemaOf b schema) (file.2 ∙ whole) says.1 }
   schema_holds name schema names (stops stop load is) = absurd (ok_err schema stop is)
@@ -170,7 +165,7 @@ module _ (files : Files) where
   unfolding Loads ReadsQuery Settles
   query_holds name base asked names (goes_on bytes head tail load settled is) =
       let file = given LIMIT (held files name) bytes (load.1) in
-      let says = query_of (nat_lt 2147483647 (length bytes)) bytes base asked (settled.1) in
+      let says = short_read (limits.Query 9 2147483647) (SaysQuery bytes base) (nat_lt 2147483647 (length bytes)) asked (settled.1) in
       let whole = uncut LIMIT 2147483647 file.0 refl (ap (λ b. nat_lt 2147483647 (length b)) (sym file.2) ∙ says.0) in
       record { bytes = file.0; file = file.1; says = subst (λ b. IsQuery b base asked) (file.2 ∙ whole) says.1 }
   query_holds name base asked names (stops stop load is) = absurd (ok_err asked stop is)

@@ -1,6 +1,6 @@
 -- The work of a command is determined by the files.
 use Rattle.std.proofs.Common.{◌∙◌, ℕ, Bool, true, false, List, ap, sym, Ok, Err, length, nat_lt, Some, None}
-use Rattle.std.specs.Prelude.{Option}
+use Rattle.std.specs.Prelude.{Option, Result}
 use Rattle.vkg_base.specs.Outside.{Files}
 use Rattle.vkg_schema.specs.declared.table.Table.{Table}
 use Rattle.vkg_schema.specs.Rows.{Database}
@@ -9,7 +9,9 @@ use Rattle.vkg_turtle.specs.declared.triple.Triple.{Triple}
 use Rattle.vkg_turtle.specs.declared.reading.TurtleFault.{TurtleFault}
 use Rattle.vkg_cli.specs.declared.load.TheConstants.{LIMIT}
 use Rattle.vkg_schema.specs.declared.reading.SchemaFault.{SchemaFault}
+use Rattle.vkg_cli.specs.declared.stops.Fault.{Fault}
 use Rattle.vkg_cli.specs.declared.stops.Fault.TheVariants.{Schema, Table as AtTable, Keyless, Mapping, Data, Query as AtQuery}
+use Rattle.vkg_cli.specs.declared.stops.Stop.{Stop}
 use Rattle.vkg_cli.specs.declared.stops.Stop.TheVariants.{Refused, Read, Memory}
 use Rattle.vkg_tables.specs.Seen.{Seen, without_rows}
 use Rattle.vkg_schema.proofs.One.{determined}
@@ -19,7 +21,7 @@ use Rattle.vkg_sparql.specs.declared.query.Query.{Query}
 use Rattle.vkg_sparql.proofs.One.{determined as determined_query}
 use Rattle.vkg_cli.specs.Stages.{IsDetermined, IsOneOutcome}
 use Rattle.vkg_cli.specs.Words.{Command, dump, query, sql}
-use Rattle.vkg_cli.specs.Work.{Checks, Dumps, GivesAnswer, LoadsDatabase, LoadsFaultless, LoadsMapping, LoadsQuery, LoadsSchema, LoadsText, MapsDirectly, Reads, ReadsQuery, ReadsSchema, ReadsTriples, SaysQuery, SaysQueryUnlessLong, SaysTriples, SaysUnlessLong, UnlessLong, Works}
+use Rattle.vkg_cli.specs.Work.{Checks, Dumps, GivesAnswer, LoadsDatabase, LoadsFaultless, LoadsMapping, LoadsQuery, LoadsSchema, LoadsText, MapsDirectly, Reads, ReadsQuery, ReadsSchema, ReadsTriples, SaysQuery, SaysTriples, UnlessLong, Works}
 use Rattle.vkg_cli.proofs.Ran.{determined_loads, determined_settles, determined_then}
 use Rattle.vkg_cli.proofs.Tables.{determined_tables, one_equal}
 
@@ -52,13 +54,13 @@ one_reading bytes (Err (Refused (AtQuery check at))) p first second = absurd fir
 one_reading bytes (Err Read) p first second = absurd first
 one_reading bytes (Err Memory) p first second = absurd first
 
-one_unless : (long : Bool) (bytes : List ℕ) → IsOneOutcome (UnlessLong long bytes)
-one_unless true bytes = λ o p first second. first ∙ sym second
-one_unless false bytes = one_reading bytes
+one_unless : {A : Type 0} (limit : Fault) (reads : Result A Stop → Type 0) (long : Bool) → IsOneOutcome reads → IsOneOutcome (UnlessLong limit reads long)
+one_unless limit reads true one = one_equal _
+one_unless limit reads false one = one
 
 pub one_schema : (bytes : List ℕ) → IsOneOutcome (ReadsSchema bytes)
 unfolding ReadsSchema
-one_schema bytes = one_unless (nat_lt 2147483647 (length bytes)) bytes
+one_schema bytes = one_unless (Schema 14 2147483647) (Reads bytes) (nat_lt 2147483647 (length bytes)) (one_reading bytes)
 
 one_saying : (bytes : List ℕ) → (base : List ℕ) → IsOneOutcome (SaysTriples bytes base)
 one_saying bytes base (Ok v) (Ok w) first second = ap (λ (t : List Triple). Ok t) (determined_triples.one_value bytes base v w first second)
@@ -89,13 +91,9 @@ one_saying bytes base (Err (Refused (AtQuery check at))) p first second = absurd
 one_saying bytes base (Err Read) p first second = absurd first
 one_saying bytes base (Err Memory) p first second = absurd first
 
-says_unless : (long : Bool) (bytes base : List ℕ) → IsOneOutcome (SaysUnlessLong long bytes base)
-says_unless true bytes base = λ o p first second. first ∙ sym second
-says_unless false bytes base = one_saying bytes base
-
 pub one_document : (bytes base : List ℕ) → IsOneOutcome (ReadsTriples bytes base)
 unfolding ReadsTriples
-one_document bytes base = says_unless (nat_lt 2147483647 (length bytes)) bytes base
+one_document bytes base = one_unless (Mapping 22 2147483647) (SaysTriples bytes base) (nat_lt 2147483647 (length bytes)) (one_saying bytes base)
 
 one_direct : (schema : List Table) (base : List ℕ) → IsOneOutcome (MapsDirectly schema base)
 unfolding MapsDirectly
@@ -130,13 +128,9 @@ one_asking bytes base (Err (Refused (Data check map row term))) p first second =
 one_asking bytes base (Err Read) p first second = absurd first
 one_asking bytes base (Err Memory) p first second = absurd first
 
-asks_unless : (long : Bool) (bytes base : List ℕ) → IsOneOutcome (SaysQueryUnlessLong long bytes base)
-asks_unless true bytes base = λ o p first second. first ∙ sym second
-asks_unless false bytes base = one_asking bytes base
-
 pub one_query : (bytes base : List ℕ) → IsOneOutcome (ReadsQuery bytes base)
 unfolding ReadsQuery
-one_query bytes base = asks_unless (nat_lt 2147483647 (length bytes)) bytes base
+one_query bytes base = one_unless (AtQuery 9 2147483647) (SaysQuery bytes base) (nat_lt 2147483647 (length bytes)) (one_asking bytes base)
 
 pub one_check : (db : Seen) → IsOneOutcome (Checks db)
 unfolding Checks

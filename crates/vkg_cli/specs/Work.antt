@@ -7,6 +7,7 @@ use Rattle.vkg_terms.specs.Safe.{safe}
 use Rattle.vkg_schema.specs.declared.table.Table.{Table}
 use Rattle.vkg_schema.specs.Meets.{MeetsSchema}
 use Rattle.vkg_schema.specs.Rows.{Database}
+use Rattle.vkg_cli.specs.declared.stops.Fault.{Fault}
 use Rattle.vkg_cli.specs.declared.stops.Fault.TheVariants as fault
 use Rattle.vkg_cli.specs.declared.stops.Stop.{Stop}
 use Rattle.vkg_cli.specs.declared.stops.Stop.TheVariants as stop
@@ -39,6 +40,11 @@ use Rattle.vkg_rewrite.specs.Rewritten.{rewritten}
 use Rattle.vkg_cli.specs.Stages.{Stage, Settles, Loads, Then}
 use Rattle.vkg_cli.specs.Words.{Command, dump, query, sql}
 
+-- a file that is too long is past its limit, before any other fault of it
+abbrev pub UnlessLong : {A : Type 0} → Fault → (Result A Stop → Type 0) → Bool → Result A Stop → Type 0
+UnlessLong limit reads true outcome = outcome ≡ Err (stop.Refused limit)
+UnlessLong limit reads false outcome = reads outcome
+
 -- the bytes are a schema, or its first fault stands
 abbrev pub Reads : List ℕ → Result (List Table) Stop → Type 0
 Reads bytes (Ok tables) = IsSchemaOf bytes tables
@@ -52,12 +58,8 @@ Reads bytes (Err stop.Read) = ⊥
 Reads bytes (Err stop.Memory) = ⊥
 
 -- own: a schema of 2147483648 bytes is past the limit (S14), before any other fault of it
-abbrev pub UnlessLong : Bool → List ℕ → Result (List Table) Stop → Type 0
-UnlessLong true bytes outcome = outcome ≡ Err (stop.Refused (fault.Schema 14 2147483647))
-UnlessLong false bytes outcome = Reads bytes outcome
-
 unfoldable pub ReadsSchema : List ℕ → Result (List Table) Stop → Type 0
-ReadsSchema bytes outcome = UnlessLong (nat_lt 2147483647 (length bytes)) bytes outcome
+ReadsSchema bytes outcome = UnlessLong (fault.Schema 14 2147483647) (Reads bytes) (nat_lt 2147483647 (length bytes)) outcome
 
 -- the file of a table: the folder, `/`, the IRI-safe form of the table's name, `.csv`
 abbrev pub table_file : List ℕ → Table → List ℕ
@@ -119,12 +121,8 @@ SaysTriples bytes base (Err stop.Read) = ⊥
 SaysTriples bytes base (Err stop.Memory) = ⊥
 
 -- own: a mapping of 2147483648 bytes is past the limit (M22), before any other fault of it
-abbrev pub SaysUnlessLong : Bool → List ℕ → List ℕ → Result (List Triple) Stop → Type 0
-SaysUnlessLong true bytes base outcome = outcome ≡ Err (stop.Refused (fault.Mapping 22 2147483647))
-SaysUnlessLong false bytes base outcome = SaysTriples bytes base outcome
-
 unfoldable pub ReadsTriples : List ℕ → List ℕ → Result (List Triple) Stop → Type 0
-ReadsTriples bytes base outcome = SaysUnlessLong (nat_lt 2147483647 (length bytes)) bytes base outcome
+ReadsTriples bytes base outcome = UnlessLong (fault.Mapping 22 2147483647) (SaysTriples bytes base) (nat_lt 2147483647 (length bytes)) outcome
 
 abbrev pub mapping_stop : MapFault → Stop
 mapping_stop f = stop.Refused (fault.Mapping f.check f.map)
@@ -169,12 +167,8 @@ SaysQuery bytes base (Err stop.Read) = ⊥
 SaysQuery bytes base (Err stop.Memory) = ⊥
 
 -- own: a query of 2147483648 bytes is past the limit (Q09), before any other fault of it
-abbrev pub SaysQueryUnlessLong : Bool → List ℕ → List ℕ → Result Query Stop → Type 0
-SaysQueryUnlessLong true bytes base outcome = outcome ≡ Err (stop.Refused (fault.Query 9 2147483647))
-SaysQueryUnlessLong false bytes base outcome = SaysQuery bytes base outcome
-
 unfoldable pub ReadsQuery : List ℕ → List ℕ → Result Query Stop → Type 0
-ReadsQuery bytes base outcome = SaysQueryUnlessLong (nat_lt 2147483647 (length bytes)) bytes base outcome
+ReadsQuery bytes base outcome = UnlessLong (fault.Query 9 2147483647) (SaysQuery bytes base) (nat_lt 2147483647 (length bytes)) outcome
 
 -- the query of a file
 abbrev pub LoadsQuery : Files → List ℕ → List ℕ → Stage Query

@@ -1,6 +1,7 @@
 -- A word is one number at most.
-use Rattle.std.proofs.Common.{◌≡◌, ◌∙◌, ◌<◌, ◌≤◌, ◌^◌, ◌&&◌, ℕ, Bool, true, false, List, Option, Some, None, Ok, Result, if◌then◌else◌, refl, sym, ap, decimal, nat_lt, nat_le, arith, lit<, true≢false}
+use Rattle.std.proofs.Common.{◌≡◌, ◌∙◌, ◌<◌, ◌≤◌, ◌^◌, ◌&&◌, ℕ, Bool, true, false, List, Option, Some, None, Ok, Result, refl, sym, ap, decimal, nat_lt, nat_le, arith, lit<, true≢false}
 use Rattle.std.specs.Prelude.{MatchOption}
+use Rattle.std.specs.Bool.{then_some}
 use Rattle.std.specs.Str.{bytes_eq}
 use Rattle.std.specs.Str.Parse.{ParsesUnsigned, digits_value}
 use Rattle.std.proofs.Math.Nat.{lt_trans}
@@ -23,10 +24,10 @@ tested word n k =
     (and_true (nat_le n 100000) (bytes_eq (decimal n) word) (le-leb n 100000 k.limit) ((bytes_eq-Decides (decimal n) word).1 (sym k.written)))
 
 pub decided : (word : List ℕ) (n : ℕ) → ((m : ℕ) → m ≤ 100000 → word ≡ decimal m → ◌≡◌ {A = Option ℕ} (Some n) (Some m))
-    → MatchOption (if is_count word n then Some n else None) ((m : ℕ) → IsCount word m → ⊥) (IsCount word)
+    → MatchOption (then_some (is_count word n) n) ((m : ℕ) → IsCount word m → ⊥) (IsCount word)
 decided word n h = by (is_count word n) refl
   where
-    by : (b : Bool) → is_count word n ≡ b → MatchOption (if b then Some n else None) ((m : ℕ) → IsCount word m → ⊥) (IsCount word)
+    by : (b : Bool) → is_count word n ≡ b → MatchOption (then_some b n) ((m : ℕ) → IsCount word m → ⊥) (IsCount word)
     by true e = counted word n e
     by false e = λ m k. true≢false (sym (sym e ∙ ap (is_count word) (same_Some n m (h m k.limit k.written)) ∙ tested word m k))
 
@@ -40,9 +41,9 @@ parsed word n r h e p = parse-decimal 64 n word r (small n h) (small n h) e p
 pub counted_in : (word : List ℕ) (r : Option ℕ) → MatchOption r ((n : ℕ) → IsCount word n → ⊥) (IsCount word) → r ≡ count_in word
 counted_in word None h = by (is_count word (digits_value 10 word)) refl
   where
-    by : (b : Bool) → is_count word (digits_value 10 word) ≡ b → None ≡ (if b then Some (digits_value 10 word) else None)
+    by : (b : Bool) → is_count word (digits_value 10 word) ≡ b → None ≡ then_some b (digits_value 10 word)
     by true e = absurd (h (digits_value 10 word) (counted word (digits_value 10 word) e))
     by false e = refl
 counted_in word (Some n) k =
     let same : digits_value 10 word ≡ n = ap (digits_value 10) k.written ∙ (decimal_is_IsNumeral n (small n k.limit)).1 in
-    sym (ap (if_count word) same ∙ ap (λ b. if b then Some n else None) (tested word n k))
+    sym (ap (if_count word) same ∙ ap (λ b. then_some b n) (tested word n k))

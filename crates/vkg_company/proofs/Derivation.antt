@@ -1,16 +1,13 @@
 -- A derivation of a list of tokens, found by trying the ways of each symbol in their order.
 use Rattle.std.proofs.Common.{◌≡◌, ℕ, zero, suc, Bool, true, false, List, [], ◌∷◌, ◌++◌, Option, Some, None, refl, subst, nat_eq, eqb-true}
-use Rattle.std.specs.Prelude.{Result, option_map, unwrap_or}
+use Rattle.std.specs.Prelude.{IfSome, Result, unwrap_or}
 use Rattle.std.specs.Result.{result_unwrap_or}
+use Rattle.vkg_lists.specs.Options.{with_first}
 use Rattle.vkg_tokens.specs.declared.cutting.Token.{Token}
 use Rattle.vkg_grammar.specs.declared.note.Note.{Note}
 use Rattle.vkg_grammar.specs.declared.note.Act.TheVariants.{Leaf}
 use Rattle.vkg_grammar.specs.declared.rule.Rule.{Rule}
 use Rattle.vkg_grammar.specs.Grammar.{Derives, done, read, parts, first, second, Shape, One, Parts, Choice, shape_of, noted, at_parts, at_first, at_second}
-
--- the notes of these, with one more before them
-abbrev pub before : Note → Option (List Note) → Option (List Note)
-before w o = option_map (λ ws. w ∷ ws) o
 
 -- the first notes, and the second where there are none
 abbrev pub or_else : Option (List Note) → (Unit {0} → Option (List Note)) → Option (List Note)
@@ -24,12 +21,12 @@ if_kind false more = None
 -- more says how symbols derive tokens
 abbrev pub by_token : (List ℕ → List ℕ → Option (List Note)) → ℕ → ℕ → List ℕ → List ℕ → Option (List Note)
 by_token more n k s [] = None
-by_token more n k s (t ∷ ts) = if_kind (nat_eq k t) (λ _. before (noted n Leaf) (more s ts))
+by_token more n k s (t ∷ ts) = if_kind (nat_eq k t) (λ _. with_first (Some (noted n Leaf)) (more s ts))
 
 abbrev pub by_shape : (List ℕ → List ℕ → Option (List Note)) → ℕ → Shape → List ℕ → List ℕ → Option (List Note)
 by_shape more n (One k) s ts = by_token more n k s ts
-by_shape more n (Parts xs) s ts = before (noted n (at_parts xs)) (more (xs ++ s) ts)
-by_shape more n (Choice xs ys) s ts = or_else (before (noted n (at_first xs)) (more (xs ++ s) ts)) (λ _. before (noted n (at_second ys)) (more (ys ++ s) ts))
+by_shape more n (Parts xs) s ts = with_first (Some (noted n (at_parts xs))) (more (xs ++ s) ts)
+by_shape more n (Choice xs ys) s ts = or_else (with_first (Some (noted n (at_first xs))) (more (xs ++ s) ts)) (λ _. with_first (Some (noted n (at_second ys))) (more (ys ++ s) ts))
 
 -- in so many steps at most
 abbrev pub found : ℕ → List Rule → List ℕ → List ℕ → Option (List Note)
@@ -39,8 +36,7 @@ found (suc steps) g [] (t ∷ ts) = None
 found (suc steps) g (n ∷ s) ts = by_shape (λ r us. found steps g r us) n (shape_of g n) s ts
 
 IsFound : List Rule → List ℕ → List ℕ → Option (List Note) → Type 0
-IsFound g s ts None = Unit {0}
-IsFound g s ts (Some ws) = Derives g s ts ws
+IsFound g s ts o = IfSome o (Derives g s ts)
 
 module _ (g : List Rule) (more : List ℕ → List ℕ → Option (List Note)) (sound : (s ts : List ℕ) → IsFound g s ts (more s ts)) where
   one : (n k : ℕ) (s ts : List ℕ) → shape_of g n ≡ One k → IsFound g (n ∷ s) ts (by_token more n k s ts)
@@ -48,18 +44,18 @@ module _ (g : List Rule) (more : List ℕ → List ℕ → Option (List Note)) (
   one n k s [] e = tt
   one n k s (t ∷ ts) e = by (nat_eq k t) refl (more s ts) (sound s ts)
     where
-      by : (b : Bool) → nat_eq k t ≡ b → (o : Option (List Note)) → IsFound g s ts o → IsFound g (n ∷ s) (t ∷ ts) (if_kind b (λ _. before (noted n Leaf) o))
+      by : (b : Bool) → nat_eq k t ≡ b → (o : Option (List Note)) → IsFound g s ts o → IsFound g (n ∷ s) (t ∷ ts) (if_kind b (λ _. with_first (Some (noted n Leaf)) o))
       by false q o d = tt
       by true q None d = tt
       by true q (Some ws) d = subst (λ j. Derives g (n ∷ s) (j ∷ ts) (noted n Leaf ∷ ws)) (eqb-true k t q) (read e d)
 
-  all_parts : (n : ℕ) (xs s ts : List ℕ) → shape_of g n ≡ Parts xs → (o : Option (List Note)) → IsFound g (xs ++ s) ts o → IsFound g (n ∷ s) ts (before (noted n (at_parts xs)) o)
+  all_parts : (n : ℕ) (xs s ts : List ℕ) → shape_of g n ≡ Parts xs → (o : Option (List Note)) → IsFound g (xs ++ s) ts o → IsFound g (n ∷ s) ts (with_first (Some (noted n (at_parts xs))) o)
   unfolding IsFound
   all_parts n xs s ts e None d = tt
   all_parts n xs s ts e (Some ws) d = parts e d
 
   one_of : (n : ℕ) (xs ys s ts : List ℕ) → shape_of g n ≡ Choice xs ys → (o p : Option (List Note)) → IsFound g (xs ++ s) ts o → IsFound g (ys ++ s) ts p
-      → IsFound g (n ∷ s) ts (or_else (before (noted n (at_first xs)) o) (λ _. before (noted n (at_second ys)) p))
+      → IsFound g (n ∷ s) ts (or_else (with_first (Some (noted n (at_first xs))) o) (λ _. with_first (Some (noted n (at_second ys))) p))
   unfolding IsFound
   one_of n xs ys s ts e (Some ws) p d f = first e d
   one_of n xs ys s ts e None (Some ws) d f = second e f

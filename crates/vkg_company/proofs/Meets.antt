@@ -1,5 +1,5 @@
 -- The rows of the company meet its schema.
-use Rattle.std.proofs.Common.{◌≡◌, ◌≢◌, ◌∙◌, ◌+◌, ◌%◌, ◌/◌, ◌≤◌, ◌<◌, ◌^◌, ◌++◌, ◌&&◌, ℕ, zero, suc, Bool, true, false, List, [], ◌∷◌, map, if◌then◌else◌, refl, sym, ap, arith, codes, inr, subst, decimal, lit<, Some, length}
+use Rattle.std.proofs.Common.{◌≡◌, ◌≢◌, ◌∙◌, ◌+◌, ◌%◌, ◌/◌, ◌≤◌, ◌<◌, ◌^◌, ◌++◌, ◌&&◌, ℕ, zero, suc, Bool, true, false, List, [], ◌∷◌, map, if◌then◌else◌, refl, sym, ap, arith, codes, subst, decimal, lit<, Some, length}
 use Rattle.std.specs.Prelude.{IsTrue, IsFalse}
 use Rattle.std.specs.List.{AllByRecursion, AllZip, list_any, range_with_len}
 use Rattle.std.specs.Str.{bytes_eq, IsAscii}
@@ -7,7 +7,7 @@ use Rattle.std.proofs.Math.Nat.{mod-lt, div-lt_self, lt_trans}
 use Rattle.std.proofs.lemmas.Fmt.{IsAscii-decimal, decimal_injective}
 use Rattle.std.proofs.lemmas.Str.{IsAscii-append, IsUtf8-from_ascii}
 use Rattle.std.proofs.lemmas.Str.Ascii.{IsAscii-nil, IsAscii-push}
-use Rattle.vkg_schema.proofs.Fitting.{null_fits}
+use Rattle.vkg_schema.proofs.Fitting.{int_fits, null_fits, text_fits}
 use Rattle.vkg_lists.proofs.Counts.{eq_itself, eq_other}
 use Rattle.vkg_lists.proofs.Each.{map_each, member_range, range_member}
 use Rattle.vkg_lists.proofs.Members.{Contains-map}
@@ -23,16 +23,16 @@ use Rattle.vkg_company.specs.Company.{company_rows, department, department_rows,
 use Rattle.vkg_tables.specs.Seen.{Seen, columns_of, with_row}
 use Rattle.std.proofs.lemmas.List.FromFn.{map-range_with_len_more}
 use Rattle.std.proofs.lemmas.Bool.{cond_both}
-use Rattle.vkg_company.proofs.Numbers.{number_kind}
+use Rattle.vkg_company.proofs.Numbers.{decimal_utf8, number_field}
 use Rattle.vkg_company.proofs.Counts.{small}
 
 -- ---- each cell is of its column's kind
 
 number_fits : (text : List ℕ) (b : Bool) (n : ℕ) → n < 2 ^ 64 → FitsColumn (record { name = text; kind = kind.Int; not_null = b }) (number n)
-number_fits text b n h = record { kind = inr (number_kind n h); not_null = λ _ is. cc }
+number_fits text b n h = int_fits text (decimal n) b (decimal_utf8 n h) (number_field n h)
 
 tagged_fits : (text letter : List ℕ) (n : ℕ) → n < 2 ^ 64 → IsAscii letter → FitsColumn (record { name = text; kind = kind.Text; not_null = false }) (cell.Text (letter ++ decimal n))
-tagged_fits text letter n h a = record { kind = inr (letter ++ decimal n, IsUtf8-from_ascii (letter ++ decimal n) (IsAscii-append letter (decimal n) a (IsAscii-decimal n h)), refl); not_null = λ _ is. cc }
+tagged_fits text letter n h a = text_fits text (letter ++ decimal n) (IsUtf8-from_ascii (letter ++ decimal n) (IsAscii-append letter (decimal n) a (IsAscii-decimal n h)))
 
 pub department_fits : (k : ℕ) → k < 2 ^ 64 → AllZip FitsColumn dept.columns (department k)
 department_fits k h = (

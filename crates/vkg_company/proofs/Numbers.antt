@@ -10,7 +10,6 @@ use Rattle.std.proofs.lemmas.Str.{IsUtf8-from_ascii}
 use Rattle.vkg_cells.specs.declared.cell.SqlType.TheVariants as kind
 use Rattle.vkg_cells.specs.declared.cell.Cell.TheVariants as cell
 use Rattle.vkg_cells.specs.Field.{cell_of_field, where_number}
-use Rattle.vkg_cells.specs.Form.{IsOfKind}
 use Rattle.vkg_cells.specs.Number.{after_point, canonical, fraction, is_digits, is_integer, is_negative, or_zero, unsigned, whole, width, without_leading_zeros, without_trailing_zeros}
 use Rattle.vkg_cells.proofs.Digits.{are-digits}
 use Rattle.vkg_cells.proofs.CanonicalLemmas.{fraction-spelled, leading-kept, negative-spelled, unsigned-digits, whole-spelled}
@@ -64,9 +63,6 @@ number_field zero h = zero_field
 number_field (suc n) h =
     let short : length (decimal (suc n)) ≤ 20 = length-decimal-le 20 (suc n) (lit< tt) (lt_trans h (lit< tt)) h in
     field_of (decimal (suc n)) (decimal_is_IsNumeral (suc n) h).0.1 (decimal_nonempty (suc n) h) (first_decimal (suc n) (omega arith) h) (omega (arith, short))
-
-pub number_kind : (n : ℕ) → n < 2 ^ 64 → IsOfKind kind.Int (cell.Int (decimal n))
-number_kind n h = (decimal n, IsUtf8-from_ascii (decimal n) (IsAscii-decimal n h), number_field n h)
 
 pub decimal_utf8 : (n : ℕ) → n < 2 ^ 64 → IsUtf8 (decimal n)
 decimal_utf8 n h = IsUtf8-from_ascii (decimal n) (IsAscii-decimal n h)

@@ -1,5 +1,6 @@
 -- How many employees a word asks for.
-use Rattle.std.specs.Prelude.{◌≡◌, ℕ, ◌<◌, ◌≤◌, Bool, ◌&&◌, List, Option, None, Some, decimal, if◌then◌else◌, nat_lt, nat_le}
+use Rattle.std.specs.Prelude.{◌≡◌, ℕ, ◌<◌, ◌≤◌, Bool, ◌&&◌, List, Option, decimal, nat_lt, nat_le}
+use Rattle.std.specs.Bool.{then_some}
 use Rattle.std.specs.Str.{bytes_eq}
 use Rattle.std.specs.Str.Parse.{digits_value}
 
@@ -14,7 +15,7 @@ abbrev pub is_count : List ℕ → ℕ → Bool
 is_count word n = nat_lt 0 n && (nat_le n 100000 && bytes_eq (decimal n) word)
 
 abbrev pub if_count : List ℕ → ℕ → Option ℕ
-if_count word n = if is_count word n then Some n else None
+if_count word n = then_some (is_count word n) n
 
 -- the number that the word's digits are, where it is one
 abbrev pub count_in : List ℕ → Option ℕ

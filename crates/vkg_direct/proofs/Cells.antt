@@ -6,7 +6,9 @@ use Rattle.std.proofs.lemmas.Str.{scalars-chars, IsUtf8-from_ascii}
 use lib.Utf8.{scalars}
 use Rattle.vkg_lists.proofs.Results.{ok_same}
 use Rattle.hex.specs.Hex.{decode_of, encode_upper}
+use Rattle.vkg_terms.specs.declared.term.Annotation.TheVariants.{Typed}
 use Rattle.vkg_terms.specs.declared.term.Term.TheVariants.{Lit}
+use Rattle.vkg_terms.specs.Vocabulary.{xsd}
 use Rattle.vkg_cells.specs.declared.cell.SqlType.{SqlType}
 use Rattle.vkg_cells.specs.declared.cell.SqlType.TheVariants as kind
 use Rattle.vkg_cells.specs.declared.cell.Cell.{Cell}
@@ -15,7 +17,7 @@ use Rattle.vkg_cells.specs.Field.{is_true_word, is_false_word}
 use Rattle.vkg_cells.specs.Form.{lexical_form, IsOfKind, natural}
 use Rattle.vkg_cells.specs.Number.{is_integer, is_decimal, width, canonical}
 use Rattle.vkg_cells.specs.Moment.{is_date, stamp_form}
-use Rattle.vkg_cells.specs.WellTyped.{is_xsd_date, is_xsd_date_time}
+use Rattle.vkg_cells.specs.WellTyped.{is_too_wide, is_well_typed, is_xsd_date_time}
 use Rattle.vkg_cells.proofs.CanonicalLemmas.{is-read, integer-decimal, integer-read}
 use Rattle.vkg_cells.proofs.AsciiForms.{bool_ascii, canonical_ascii, octets_ascii}
 use Rattle.vkg_cells.proofs.FieldLemmas.{field_ok, number_ok, octets_ok, stamp_ok}
@@ -33,15 +35,11 @@ pub record Formed (k : SqlType) (c : Cell) : Type 0 where
 ascii_spelled : (text : List ℕ) → IsAscii text → scalars (chars text) ≡ true
 ascii_spelled text a = scalars-chars text (IsUtf8-from_ascii text a)
 
-typed_integer : (t : List ℕ) → is_integer t ≡ true → nat_lt 38 (width t) ≡ false → literal t (natural kind.Int) ≡ Ok (Some (Lit t (natural kind.Int)))
-typed_integer t e n =
-    ap (λ b. cond b (cond (nat_lt 38 (width t)) (Err TooWide) (Ok (Some (Lit t (natural kind.Int))))) (Err IllTyped)) e
-    ∙ ap (λ b. cond b (Err TooWide) (Ok (Some (Lit t (natural kind.Int))))) n
-
-typed_decimal : (t : List ℕ) → is_decimal t ≡ true → nat_lt 38 (width t) ≡ false → literal t (natural kind.Dec) ≡ Ok (Some (Lit t (natural kind.Dec)))
-typed_decimal t e n =
-    ap (λ b. cond b (cond (nat_lt 38 (width t)) (Err TooWide) (Ok (Some (Lit t (natural kind.Dec))))) (Err IllTyped)) e
-    ∙ ap (λ b. cond b (Err TooWide) (Ok (Some (Lit t (natural kind.Dec))))) n
+-- a form of a datatype's lexical space, and no number that is too wide
+well_typed : (d t : List ℕ) → is_well_typed d t ≡ true → is_too_wide d t ≡ false → literal t (Typed d) ≡ Ok (Some (Lit t (Typed d)))
+well_typed d t e n =
+    ap (λ b. cond b (cond (is_too_wide d t) (Err TooWide) (Ok (Some (Lit t (Typed d))))) (Err IllTyped)) e
+    ∙ ap (λ b. cond b (Err TooWide) (Ok (Some (Lit t (Typed d))))) n
 
 formed_integer : (text : List ℕ) → is_integer text ≡ true → nat_lt 38 (width text) ≡ false → Formed kind.Int (cell.Int (canonical text))
 formed_integer text e n =
@@ -50,7 +48,7 @@ formed_integer text e n =
       form = canonical text;
       is = refl;
       spelled = ascii_spelled (canonical text) (canonical_ascii text d);
-      typed = typed_integer (canonical text) (integer-read text e) (ap (nat_lt 38) (is-read text d).width_same ∙ n);
+      typed = well_typed (xsd (codes "integer")) (canonical text) (integer-read text e) (ap (nat_lt 38) (is-read text d).width_same ∙ n);
     }
 
 formed_decimal : (text : List ℕ) → is_decimal text ≡ true → nat_lt 38 (width text) ≡ false → Formed kind.Dec (cell.Dec (canonical text))
@@ -60,7 +58,7 @@ formed_decimal text d n =
       form = canonical text;
       is = refl;
       spelled = ascii_spelled (canonical text) (canonical_ascii text d);
-      typed = typed_decimal (canonical text) reads.decimal (ap (nat_lt 38) reads.width_same ∙ n);
+      typed = well_typed (xsd (codes "decimal")) (canonical text) reads.decimal (ap (nat_lt 38) reads.width_same ∙ n);
     }
 
 formed_bool : (b : Bool) → Formed kind.Bool (cell.Bool b)
@@ -70,21 +68,15 @@ formed_bool false = record { form = codes "false"; is = refl; spelled = ascii_sp
 formed_binary : (octets : List ℕ) → Formed kind.Bin (cell.Bin (encode_upper octets))
 formed_binary octets = record { form = encode_upper octets; is = refl; spelled = ascii_spelled (encode_upper octets) (octets_ascii octets); typed = refl }
 
-typed_date : (t : List ℕ) → is_xsd_date t ≡ true → literal t (natural kind.Date) ≡ Ok (Some (Lit t (natural kind.Date)))
-typed_date t e = ap (λ b. cond b (Ok (Some (Lit t (natural kind.Date)))) (Err IllTyped)) e
-
-typed_stamp : (t : List ℕ) → is_xsd_date_time t ≡ true → literal t (natural kind.Stamp) ≡ Ok (Some (Lit t (natural kind.Stamp)))
-typed_stamp t e = ap (λ b. cond b (Ok (Some (Lit t (natural kind.Stamp)))) (Err IllTyped)) e
-
 formed_date : (text : List ℕ) → IsUtf8 text → is_date text ≡ true → Formed kind.Date (cell.Date text)
-formed_date text u e = record { form = text; is = refl; spelled = scalars-chars text u; typed = typed_date text (date_is text e) }
+formed_date text u e = record { form = text; is = refl; spelled = scalars-chars text u; typed = well_typed (xsd (codes "date")) text (date_is text e) refl }
 
 formed_stamp : (form : List ℕ) → Made form → Formed kind.Stamp (cell.Stamp form)
 formed_stamp form m = record {
   form = form;
   is = refl;
   spelled = ascii_spelled form (subst IsAscii (sym m.is) (form_ascii m.date m.clock m.fraction m.is_date m.is_clock m.is_digits));
-  typed = typed_stamp form (ap is_xsd_date_time m.is ∙ form_is m.date m.clock m.fraction m.is_date m.is_clock m.is_digits);
+  typed = well_typed (xsd (codes "dateTime")) form (ap is_xsd_date_time m.is ∙ form_is m.date m.clock m.fraction m.is_date m.is_clock m.is_digits) refl;
 }
 
 pub formed : (k : SqlType) (c : Cell) → k ≢ kind.Term → IsOfKind k c → Formed k c

@@ -1,21 +1,19 @@
 -- Worked examples: the direct graph and the direct mapping of two tables, of a table with all kinds and of one with a key of
 -- two columns.
-use Rattle.std.proofs.Common.{◌≡◌, refl, ℕ, Bool, true, false, List, [], ◌∷◌, ◌++◌, codes, map, inr, Ok, Err, arith}
-use Rattle.std.specs.Prelude.{IsUtf8}
+use Rattle.std.proofs.Common.{◌≡◌, refl, ℕ, Bool, true, false, List, [], ◌∷◌, ◌++◌, codes, map, Err, arith}
 use Rattle.std.specs.Str.{chars}
 use Rattle.std.specs.Char.{encode_utf8}
 use Rattle.std.specs.Fmt.{digits}
-use Rattle.vkg_schema.proofs.Fitting.{null_fits}
+use Rattle.vkg_schema.proofs.Fitting.{int_fits, null_fits, text_fits}
 use Rattle.vkg_lists.specs.Ascending.{ascending_once}
 use Rattle.vkg_terms.specs.NQuads.{Quad, line}
 use Rattle.vkg_cells.specs.declared.cell.SqlType.TheVariants as kind
 use Rattle.vkg_cells.specs.declared.cell.Cell.TheVariants as cell
-use Rattle.vkg_cells.specs.Field.{cell_of_field}
 use Rattle.vkg_cells.specs.Moment.{day_of_text, clock_of_text}
 use Rattle.vkg_schema.specs.declared.table.Table.{Table}
 use Rattle.vkg_schema.specs.Company.{base, company, dept}
 use Rattle.vkg_schema.specs.Rows.{Database, equal_at, is_known}
-use Rattle.vkg_schema.specs.Meets.{MeetsSchema, FitsColumn, IsWellFormed}
+use Rattle.vkg_schema.specs.Meets.{MeetsSchema, IsWellFormed}
 use Rattle.vkg_maps.specs.DataFaults.{data_faults}
 use Rattle.vkg_maps.specs.Dataset.{quads}
 use Rattle.vkg_direct.specs.declared.direct_error.DirectError.TheVariants.{NoPrimaryKey}
@@ -74,12 +72,6 @@ unfolding opened
 no_data_fault = refl
 
 -- ---- the two tables and their rows are a schema and a database that meets it
-
-int_fits : (name text : List ℕ) (n : Bool) → IsUtf8 text → cell_of_field kind.Int text ≡ Ok (cell.Int text) → FitsColumn (record { name = name; kind = kind.Int; not_null = n }) (cell.Int text)
-int_fits name text n u e = record { kind = inr (text, u, e); not_null = λ _ is. cc }
-
-text_fits : (name text : List ℕ) → IsUtf8 text → FitsColumn (record { name = name; kind = kind.Text; not_null = false }) (cell.Text text)
-text_fits name text u = record { kind = inr (text, u, refl); not_null = λ _ is. cc }
 
 meets_schema : MeetsSchema company db
 unfolding opened

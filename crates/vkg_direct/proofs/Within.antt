@@ -1,10 +1,10 @@
 -- The direct mapping of a well-formed schema is within it.
-use Rattle.std.proofs.Common.{◌≡◌, ◌∙◌, ℕ, ◌+◌, ◌<◌, inl, inr, List, [], ◌∷◌, map, length, refl, sym, ap, subst, arith}
+use Rattle.std.proofs.Common.{◌≡◌, ◌∙◌, ℕ, ◌<◌, inl, inr, List, [], ◌∷◌, map, length, refl, sym, ap, subst}
 use Rattle.std.specs.Prelude.{◌≢◌, not, position, Ok, Option, Some, None, option_map, unwrap_or, slice_get, IfSome, flat_map, find, codes, Contains}
 use Rattle.std.specs.List.{AllByRecursion, enumerate_from}
 use Rattle.std.proofs.lemmas.List.{length-map}
 use Rattle.std.proofs.lemmas.Option.{none-some, slice_get-map, slice_get_within}
-use Rattle.vkg_lists.proofs.Numbered.{numbered_place, numbered_get}
+use Rattle.vkg_lists.proofs.Numbered.{numbered_place}
 use Rattle.vkg_lists.proofs.Positions.{get_below, get_member}
 use Rattle.vkg_lists.specs.Lists.{AllBelow}
 use Rattle.vkg_lists.proofs.Members.{each_from_recursion, recursion_from_each, Contains-from_map}
@@ -29,6 +29,7 @@ use Rattle.vkg_maps.specs.Within.{kinds_at, AreConditions, IsCondition, IsMapWit
 use Rattle.vkg_maps.proofs.TableKinds.{kinds_of}
 use Rattle.vkg_direct.specs.Within.{DirectIsWithin}
 use Rattle.vkg_direct.proofs.RuleCount.{direct_of_limit}
+use Rattle.vkg_direct.proofs.Whole.{parent_at}
 
 -- ---- places that are below a bound
 
@@ -103,12 +104,8 @@ module _ (base : List ℕ) (schema : List Table) (well : IsWellFormed schema) wh
         of : (o : Option Table) → slice_get schema r.table ≡ o → IfSome o (λ u. RefersTo r u × AllByRecursion (Comparable t u) r.pairs) → (r.table < length maps) × AreConditions schema k (parent_of maps m r.table).table r.pairs
         of None e g = let there = get_below schema r.table h.inside in absurd (none-some there.0 (sym e ∙ there.1))
         of (Some u) e g =
-            let place : slice_get maps r.table ≡ Some (direct_map base (r.table, u)) = slice_get-map (direct_map base) (enumerate_from 0 schema) r.table ∙ ap (option_map (direct_map base)) (numbered_get 0 schema r.table u e ∙ zero_first u) in
-            let table : r.table ≡ (parent_of maps m r.table).table = ap (λ (o : Option TriplesMap). (unwrap_or o m).table) (sym place) in
+            let table : r.table ≡ (parent_of maps m r.table).table = ap (λ (p : TriplesMap). p.table) (sym (parent_at base schema m r.table u e)) in
             (inside, subst (λ n. AreConditions schema k n r.pairs) table (some_conditions k r.table r.pairs g.0.some (conditions_are r.table u e r.pairs h.children g.0.parents g.1)))
-          where
-            zero_first : (u : Table) → ◌≡◌ {A = Option (ℕ × Table)} (Some (0 + r.table, u)) (Some (r.table, u))
-            zero_first u = let i : 0 + r.table ≡ r.table = omega arith in ap (λ n. Some (n, u)) i
 
     pair_within : (po : PredicateObjectMap) → Contains (properties_of base t) po → IsPairWithin schema maps m po
     pair_within po c = elim (Contains-append_cases (map (column_property base t) (enumerate_from 0 t.columns)) (map (reference_property base t) t.references) po c) [

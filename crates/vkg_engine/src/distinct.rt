@@ -10,7 +10,7 @@ ghost use Rattle.vkg_plan.specs.Rows.{one_cell, one_row};
 use crate::nodes::copy_row;
 use std::alloc::Global;
 use std::collections::HashMap;
-use vkg_base::{Groups, Items, Memory, put};
+use vkg_base::{Groups, Items, Memory, numbers_of, put};
 use vkg_cells::Cell;
 use vkg_index::text_of_row;
 
@@ -53,10 +53,7 @@ fn add_new(
 fn is_there(index: &Groups, rows: &[Items<Cell>], text: &str, row: &[Cell]) -> bool
     ensures { result ≡ list_any (λ s. one_row s row.now) (filter_map (slice_get rows.now) (group index.now text.now)) }
 {
-    match index.get(text) {
-        None => false,
-        Some(numbers) => is_any(rows, numbers.as_slice(), row),
-    }
+    is_any(rows, numbers_of(index, text), row)
 }
 
 /// Whether the row is one of the numbered ones.

@@ -2,6 +2,7 @@
 use Rattle.std.proofs.Common.{◌≡◌, true, ◌&&◌, List, refl, ap, map, length, ◌∙◌}
 use Rattle.std.proofs.Math.Bool.{and-false}
 use Rattle.std.specs.Prelude.{Option, Some, None}
+use Rattle.std.specs.Bool.{then_some}
 use Rattle.std.proofs.lemmas.List.{length-map}
 use Rattle.vkg_lists.specs.Options.{with_first}
 use Rattle.vkg_lists.proofs.Onto.{onto_none, onto_first}
@@ -10,7 +11,7 @@ use Rattle.vkg_cells.specs.declared.cell.SqlType.TheVariants as kind
 use Rattle.vkg_expr.specs.declared.expr.Expr.{Expr as ExprValue}
 use Rattle.vkg_expr.specs.Seen.{expr_seen}
 use Rattle.vkg_expr.specs.Expr.{each, exprs}
-use Rattle.vkg_expr.specs.Typing.{are_all, common, giving, is_one, same_kind}
+use Rattle.vkg_expr.specs.Typing.{are_all, common, is_one, same_kind}
 use Rattle.vkg_expr.proofs.Conjuncts.{each_exprs}
 
 pub are_all-more : (k : SqlType) (a : Option SqlType) (o : Option (List SqlType)) → are_all k (with_first a o) ≡ (is_one k a && are_all k o)
@@ -28,7 +29,7 @@ itself kind.Stamp = refl
 itself kind.Bin = refl
 itself kind.Term = refl
 
-pub common-more : (k : SqlType) (o : Option (List SqlType)) → common (with_first (Some k) o) ≡ giving k (are_all k (with_first (Some k) o))
+pub common-more : (k : SqlType) (o : Option (List SqlType)) → common (with_first (Some k) o) ≡ then_some (are_all k (with_first (Some k) o)) k
 common-more k None = refl
 common-more k (Some ls) = rw (itself k)
 

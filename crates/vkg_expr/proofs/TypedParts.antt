@@ -1,14 +1,19 @@
 -- The parts of an expression that is typed on a row are typed on it, and their values are what its step asks for.
-use Rattle.std.proofs.Common.{arith, ◌≡◌, ℕ, zero, suc, ◌<◌, ◌≤◌, true, ◌∙◌, List, [], ◌∷◌, ◌++◌, get_or, length, map, refl, sym, ap, subst}
-use Rattle.std.specs.Prelude.{All, Option, Some, None, Result, Ok, Err, IfOk, ◌==◌}
+use Rattle.std.proofs.Common.{arith, ◌≡◌, ℕ, suc, ◌<◌, ◌≤◌, true, ◌∙◌, List, [], ◌∷◌, ◌++◌, get_or, length, map, refl, sym, ap, subst}
+use Rattle.std.specs.Prelude.{All, Option, Some, None, Result, Ok, Err, IfOk, unwrap_or, ◌==◌}
+use Rattle.std.specs.Bool.{then_some}
 use Rattle.std.specs.List.{AllByRecursion, list_all}
 use Rattle.std.proofs.lemmas.Bool.{eqb-true}
-use Rattle.std.proofs.lemmas.Option.{same_Some, slice_get_within}
+use Rattle.std.proofs.lemmas.Option.{slice_get_within}
 use Rattle.std.proofs.lemmas.List.Elements.{All-from_recursion}
 use Rattle.std.proofs.lemmas.Result.{IfOk-weaker}
+use Rattle.std.proofs.lemmas.Slice.Zip.{AllZip-long}
+use Rattle.vkg_lists.proofs.Each.{zip_get}
 use Rattle.vkg_lists.proofs.Onto.{first_given, map_given}
+use Rattle.vkg_lists.proofs.Results.{then_given}
 use Rattle.vkg_terms.specs.declared.term.Annotation.{Annotation}
 use Rattle.vkg_cells.specs.declared.cell.Cell.{Cell}
+use Rattle.vkg_cells.specs.declared.cell.Cell.TheVariants as cell
 use Rattle.vkg_cells.specs.declared.cell.SqlType.{SqlType}
 use Rattle.vkg_cells.specs.declared.cell.SqlType.TheVariants as kind
 use Rattle.vkg_schema.specs.Rows.{Row}
@@ -22,12 +27,11 @@ use Rattle.vkg_expr.specs.Expr.{Expr, Exprs, Col, MakeIri, IriOf, MakeBlank, Mak
 use Rattle.vkg_expr.specs.Laws.{FitsRow, HasKinds, IsCondition, IsTyped}
 use Rattle.vkg_expr.specs.Seen.{expr_seen, expr_step}
 use Rattle.vkg_expr.specs.Steps.{AllFit, Fits, TakesEach, TakesOne}
-use Rattle.vkg_expr.specs.Typing.{are_all, arity, equality_kind, giving, is_one, kind_of, kinds_of, lexical_kind, no_column, result_kind, same_kind, fits}
+use Rattle.vkg_expr.specs.Typing.{are_all, arity, equality_kind, is_one, kind_of, kinds_of, lexical_kind, no_column, result_kind, same_kind, fits}
 use Rattle.vkg_expr.specs.Value.{value_of, values_of}
-use Rattle.vkg_expr.proofs.ValueFits.{along, common_given, given-is, kind_same, value-fits, values-fit}
+use Rattle.vkg_expr.proofs.ValueFits.{along, common_given, kind_same, value-fits, values-fit}
 use Rattle.vkg_expr.proofs.Weights.{item-weighs, weight, weight_of, weight_of_each}
 use Rattle.vkg_lists.proofs.Bools.{and_parts}
-use Rattle.vkg_lists.proofs.Members.{zip_length}
 
 abbrev Got : {E : Type 0} → Result Cell E → Expr → Row → Type 0
 Got r e row = IfOk r (λ c. c ≡ value_of e row)
@@ -36,10 +40,9 @@ abbrev GotEach : {E : Type 0} → Result (List Cell) E → Exprs → Row → Typ
 GotEach r es row = IfOk r (λ cs. cs ≡ values_of es row)
 
 pub fits_row : (ks : List SqlType) (row : Row) → HasKinds ks row → FitsRow ks row
-fits_row [] row h at k e = cc
-fits_row (l ∷ ks) [] h at k e = absurd h
-fits_row (l ∷ ks) (c ∷ cs) h zero k e = subst (λ m. Fits m c) (same_Some l k e) h.0
-fits_row (l ∷ ks) (c ∷ cs) h (suc at) k e = fits_row ks cs h.1 at k e
+fits_row ks row h at k e =
+    let c = zip_get (λ k c. fits k c ≡ true) ks row at k h e in
+    subst (λ o. fits k (unwrap_or o cell.Null) ≡ true) (sym c.1) c.2
 
 pub kinds-append : (ks ls : List SqlType) (cs ds : Row) → HasKinds ks cs → HasKinds ls ds → HasKinds (ks ++ ls) (cs ++ ds)
 kinds-append [] ls [] ds h k = k
@@ -48,7 +51,7 @@ kinds-append (x ∷ ks) ls [] ds h k = absurd h
 kinds-append (x ∷ ks) ls (c ∷ cs) ds h k = (h.0, kinds-append ks ls cs ds h.1 k)
 
 column-within : (at : ℕ) (row : Row) → IsTyped (Col at) row → at < length row
-column-within at row t = subst (λ n. at < n) (zip_length (λ k c. fits k c ≡ true) t.kinds row t.of_row) (slice_get_within t.kinds at t.own t.of_expr)
+column-within at row t = subst (λ n. at < n) (sym (AllZip-long (λ k c. fits k c ≡ true) t.kinds row t.of_row)) (slice_get_within t.kinds at t.own t.of_expr)
 
 -- of one part
 
@@ -56,8 +59,8 @@ pub one_is : (k : SqlType) (o : Option SqlType) → is_one k o ≡ true → o �
 one_is k None e = cc
 one_is k (Some l) e = ap Some (sym (kind_same k l e))
 
-one_given : (m k l : SqlType) (o : Option SqlType) → giving k (is_one m o) ≡ Some l → o ≡ Some m
-one_given m k l o e = one_is m o (given-is k l (is_one m o) e).0
+one_given : (m k l : SqlType) (o : Option SqlType) → then_some (is_one m o) k ≡ Some l → o ≡ Some m
+one_given m k l o e = one_is m o (then_given (is_one m o) k l e).0
 
 pub lexical_given : (o : Option SqlType) (l : SqlType) → lexical_kind o ≡ Some l → (k : SqlType) × (o ≡ Some k)
 lexical_given None l e = cc
@@ -104,7 +107,7 @@ typed-Same_left a b row t = let k = (equality_given (kind_of a t.kinds) (kind_of
 typed-Same_right : (a b : Expr) (row : Row) → IsTyped (Same a b) row → IsTyped b row
 typed-Same_right a b row t = let k = (equality_given (kind_of a t.kinds) (kind_of b t.kinds) t.own t.of_expr).1 in typed_by t.kinds k.0 b row t.of_row k.1
 
-if_fits : {E : Type 0} (m k l : SqlType) (r : Result Cell E) (e : Expr) (ks : List SqlType) (row : Row) → HasKinds ks row → giving k (is_one m (kind_of e ks)) ≡ Some l → Got r e row → IfOk r (Fits m)
+if_fits : {E : Type 0} (m k l : SqlType) (r : Result Cell E) (e : Expr) (ks : List SqlType) (row : Row) → HasKinds ks row → then_some (is_one m (kind_of e ks)) k ≡ Some l → Got r e row → IfOk r (Fits m)
 if_fits m k l r e ks row h t g = IfOk-weaker r (λ c. c ≡ value_of e row) (Fits m) (λ c i. subst (Fits m) (sym i) (value-fits e ks m row (fits_row ks row h) (one_given m k l (kind_of e ks) t))) g
 
 takes-MakeIri : {E : Type 0} (r : Result Cell E) (e : Expr) (row : Row) → IsTyped (MakeIri e) row → Got r e row → IfOk r (TakesOne (MakeIri e))
@@ -180,19 +183,19 @@ length-values (More e es) row = ap suc (length-values es row)
 
 -- what is asked of the kinds
 concat_asks : (es : Exprs) (ks : List SqlType) (l : SqlType) → kind_of (Concat es) ks ≡ Some l → are_all kind.Text (kinds_of es ks) ≡ true
-concat_asks es ks l t = (and_parts (no_column es) (are_all kind.Text (kinds_of es ks)) (given-is kind.Text l _ t).0).1
+concat_asks es ks l t = (and_parts (no_column es) (are_all kind.Text (kinds_of es ks)) (then_given _ kind.Text l t).0).1
 
 sparql_asks : (op : Operator) (es : Exprs) (ks : List SqlType) (l : SqlType) → kind_of (Sparql op es) ks ≡ Some l → ((length (each es) == arity op) ≡ true) × (are_all kind.Term (kinds_of es ks) ≡ true)
-sparql_asks op es ks l t = and_parts (length (each es) == arity op) (are_all kind.Term (kinds_of es ks)) (given-is (result_kind op) l _ t).0
+sparql_asks op es ks l t = and_parts (length (each es) == arity op) (are_all kind.Term (kinds_of es ks)) (then_given _ (result_kind op) l t).0
 
 typed-Concat : (xs : List ExprValue) (row : Row) → IsTyped (Concat (exprs (map expr_seen xs))) row → AreTyped xs row
 typed-Concat xs row t = all_typed kind.Text xs t.kinds row t.of_row (concat_asks (exprs (map expr_seen xs)) t.kinds t.own t.of_expr)
 
 typed-And : (xs : List ExprValue) (row : Row) → IsTyped (And (exprs (map expr_seen xs))) row → AreTyped xs row
-typed-And xs row t = all_typed kind.Bool xs t.kinds row t.of_row (given-is kind.Bool t.own _ t.of_expr).0
+typed-And xs row t = all_typed kind.Bool xs t.kinds row t.of_row (then_given _ kind.Bool t.own t.of_expr).0
 
 typed-Or : (xs : List ExprValue) (row : Row) → IsTyped (Or (exprs (map expr_seen xs))) row → AreTyped xs row
-typed-Or xs row t = all_typed kind.Bool xs t.kinds row t.of_row (given-is kind.Bool t.own _ t.of_expr).0
+typed-Or xs row t = all_typed kind.Bool xs t.kinds row t.of_row (then_given _ kind.Bool t.own t.of_expr).0
 
 typed-Coalesce : (xs : List ExprValue) (row : Row) → IsTyped (Coalesce (exprs (map expr_seen xs))) row → AreTyped xs row
 typed-Coalesce xs row t =
@@ -206,10 +209,10 @@ takes-Concat : {E : Type 0} (r : Result (List Cell) E) (es : Exprs) (row : Row) 
 takes-Concat r es row t g = if_got_each (AllFit kind.Text) r es row (all_fit kind.Text es t.kinds row t.of_row (concat_asks es t.kinds t.own t.of_expr)) g
 
 takes-And : {E : Type 0} (r : Result (List Cell) E) (es : Exprs) (row : Row) → IsTyped (And es) row → GotEach r es row → IfOk r (TakesEach (And es))
-takes-And r es row t g = if_got_each (AllFit kind.Bool) r es row (all_fit kind.Bool es t.kinds row t.of_row (given-is kind.Bool t.own _ t.of_expr).0) g
+takes-And r es row t g = if_got_each (AllFit kind.Bool) r es row (all_fit kind.Bool es t.kinds row t.of_row (then_given _ kind.Bool t.own t.of_expr).0) g
 
 takes-Or : {E : Type 0} (r : Result (List Cell) E) (es : Exprs) (row : Row) → IsTyped (Or es) row → GotEach r es row → IfOk r (TakesEach (Or es))
-takes-Or r es row t g = if_got_each (AllFit kind.Bool) r es row (all_fit kind.Bool es t.kinds row t.of_row (given-is kind.Bool t.own _ t.of_expr).0) g
+takes-Or r es row t g = if_got_each (AllFit kind.Bool) r es row (all_fit kind.Bool es t.kinds row t.of_row (then_given _ kind.Bool t.own t.of_expr).0) g
 
 takes-Coalesce : {E : Type 0} (r : Result (List Cell) E) (es : Exprs) → IfOk r (TakesEach (Coalesce es))
 takes-Coalesce (Ok cs) es = tt

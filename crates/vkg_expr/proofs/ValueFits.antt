@@ -1,9 +1,11 @@
 -- A typed expression has a cell of its kind, or NULL.
-use Rattle.std.proofs.Common.{◌≡◌, ℕ, Bool, true, false, not, List, [], ◌∷◌, refl, sym, subst}
+use Rattle.std.proofs.Common.{◌≡◌, ◌∙◌, ℕ, Bool, true, false, not, List, [], ◌∷◌, refl, sym, ap, subst}
 use Rattle.std.specs.Prelude.{Option, Some, None, find, unwrap_or, if◌then◌else◌}
 use Rattle.std.specs.List.{list_all}
 use Rattle.std.proofs.lemmas.Option.{same_Some, cond_some}
+use Rattle.vkg_lists.specs.Sets.{IsEqualityTest}
 use Rattle.vkg_lists.proofs.Onto.{first_given, map_given}
+use Rattle.vkg_lists.proofs.Results.{then_given}
 use Rattle.vkg_terms.specs.declared.term.Term.{Term}
 use Rattle.vkg_cells.specs.declared.cell.Cell.{Cell}
 use Rattle.vkg_cells.specs.declared.cell.Cell.TheVariants as cell
@@ -15,7 +17,7 @@ use Rattle.vkg_expr.specs.declared.expr.Operator.TheVariants.{Test, Take, Compar
 use Rattle.vkg_expr.specs.Expr.{Expr, Exprs, Col, Const, MakeIri, IriOf, MakeBlank, MakeLit, Lex, IriSafe, Concat, Same, IsNull, Not, And, Or, Coalesce, Sparql, Ebv, Nil, More}
 use Rattle.vkg_expr.specs.Laws.{FitsRow, HasKinds, IsOfItsKind}
 use Rattle.vkg_expr.specs.Steps.{Fits}
-use Rattle.vkg_expr.specs.Typing.{common, equality_kind, fits, giving, kind_of, kinds_of, lexical_kind, result_kind, same_family, same_kind}
+use Rattle.vkg_expr.specs.Typing.{common, equality_kind, fits, kind_of, kinds_of, lexical_kind, result_kind, same_family, same_kind}
 use Rattle.vkg_expr.specs.Value.{coalesced, operator_value, term_cell, text_cell, truth_cell, value_of, values_of}
 use Rattle.vkg_expr.proofs.KindLists.{itself}
 use Rattle.vkg_lists.proofs.Bools.{and_parts, and_true}
@@ -45,15 +47,12 @@ null_fits kind.Stamp = refl
 null_fits kind.Bin = refl
 null_fits kind.Term = refl
 
-pub given-is : (k l : SqlType) (b : Bool) → giving k b ≡ Some l → (b ≡ true) × (k ≡ l)
-given-is k l b e = cond_some b k l e
-
 lexical-is : (o : Option SqlType) (l : SqlType) → lexical_kind o ≡ Some l → kind.Text ≡ l
 lexical-is None l e = cc
-lexical-is (Some k) l e = (given-is kind.Text l (not (same_kind kind.Term k)) e).1
+lexical-is (Some k) l e = (then_given (not (same_kind kind.Term k)) kind.Text l e).1
 
 equality-is : (a b : Option SqlType) (l : SqlType) → equality_kind a b ≡ Some l → kind.Bool ≡ l
-equality-is (Some m) (Some n) l e = (given-is kind.Bool l (same_family m n) e).1
+equality-is (Some m) (Some n) l e = (then_given (same_family m n) kind.Bool l e).1
 equality-is (Some m) None l e = cc
 equality-is None b l e = cc
 
@@ -123,6 +122,9 @@ kind_same kind.Term kind.Stamp e = cc
 kind_same kind.Term kind.Bin e = cc
 kind_same kind.Term kind.Term e = refl
 
+pub kinds_apart : IsEqualityTest same_kind
+kinds_apart = record { decides = λ k l. (kind_same k l, λ e. ap (same_kind k) (sym e) ∙ itself k) }
+
 coalesced-fits : (k : SqlType) (ms : List SqlType) (cs : List Cell) → list_all (same_kind k) ms ≡ true → HasKinds ms cs → Fits k (coalesced cs)
 coalesced-fits k [] [] a h = null_fits k
 coalesced-fits k [] (c ∷ cs) a h = absurd h
@@ -139,7 +141,7 @@ pub common_given : (o : Option (List SqlType)) (l : SqlType) → common o ≡ So
 common_given None l e = cc
 common_given (Some []) l e = cc
 common_given (Some (k ∷ ks)) l e =
-    let g = given-is k l (list_all (same_kind k) ks) e in
+    let g = then_given (list_all (same_kind k) ks) k l e in
     (k ∷ ks, refl, subst (λ m. list_all (same_kind m) (k ∷ ks) ≡ true) g.1 (and_true (same_kind k k) (list_all (same_kind k) ks) (itself k) g.0))
 
 test-fits : (op : _) (cs : List Cell) → Fits kind.Bool (operator_value (Test op) cs)
@@ -166,24 +168,24 @@ operator-fits (Compare op) cs = compare-fits op cs
 mutual
   pub value-fits : (e : Expr) (ks : List SqlType) (l : SqlType) (row : Row) → FitsRow ks row → kind_of e ks ≡ Some l → fits l (value_of e row) ≡ true
   value-fits (Col at) ks l row w t = w at l t
-  value-fits (Const c k) ks l row w t = let g = given-is k l (fits k c) t in along k l c g.1 g.0
-  value-fits (MakeIri e) ks l row w t = along _ l _ (given-is kind.Term l _ t).1 (term_fits _)
-  value-fits (IriOf base e) ks l row w t = along _ l _ (given-is kind.Text l _ t).1 (text_fits _)
-  value-fits (MakeBlank e) ks l row w t = along _ l _ (given-is kind.Term l _ t).1 (term_fits _)
-  value-fits (MakeLit e a) ks l row w t = along _ l _ (given-is kind.Term l _ t).1 (term_fits _)
+  value-fits (Const c k) ks l row w t = let g = then_given (fits k c) k l t in along k l c g.1 g.0
+  value-fits (MakeIri e) ks l row w t = along _ l _ (then_given _ kind.Term l t).1 (term_fits _)
+  value-fits (IriOf base e) ks l row w t = along _ l _ (then_given _ kind.Text l t).1 (text_fits _)
+  value-fits (MakeBlank e) ks l row w t = along _ l _ (then_given _ kind.Term l t).1 (term_fits _)
+  value-fits (MakeLit e a) ks l row w t = along _ l _ (then_given _ kind.Term l t).1 (term_fits _)
   value-fits (Lex e) ks l row w t = along _ l _ (lexical-is (kind_of e ks) l t) (text_fits _)
-  value-fits (IriSafe e) ks l row w t = along _ l _ (given-is kind.Text l _ t).1 (text_fits _)
-  value-fits (Concat es) ks l row w t = along _ l _ (given-is kind.Text l _ t).1 (text_fits _)
+  value-fits (IriSafe e) ks l row w t = along _ l _ (then_given _ kind.Text l t).1 (text_fits _)
+  value-fits (Concat es) ks l row w t = along _ l _ (then_given _ kind.Text l t).1 (text_fits _)
   value-fits (Same a b) ks l row w t = along _ l _ (equality-is (kind_of a ks) (kind_of b ks) l t) (truth_fits _)
   value-fits (IsNull e) ks l row w t = along kind.Bool l (value_of (IsNull e) row) (map_given (λ k. kind.Bool) (kind_of e ks) l t).2 refl
-  value-fits (Not e) ks l row w t = along _ l _ (given-is kind.Bool l _ t).1 (truth_fits _)
-  value-fits (And es) ks l row w t = along _ l _ (given-is kind.Bool l _ t).1 (truth_fits _)
-  value-fits (Or es) ks l row w t = along _ l _ (given-is kind.Bool l _ t).1 (truth_fits _)
+  value-fits (Not e) ks l row w t = along _ l _ (then_given _ kind.Bool l t).1 (truth_fits _)
+  value-fits (And es) ks l row w t = along _ l _ (then_given _ kind.Bool l t).1 (truth_fits _)
+  value-fits (Or es) ks l row w t = along _ l _ (then_given _ kind.Bool l t).1 (truth_fits _)
   value-fits (Coalesce es) ks l row w t =
       let m = common_given (kinds_of es ks) l t in
       coalesced-fits l m.0 (values_of es row) m.2 (values-fit es ks m.0 row w m.1)
-  value-fits (Sparql op es) ks l row w t = along (result_kind op) l _ (given-is (result_kind op) l _ t).1 (operator-fits op (values_of es row))
-  value-fits (Ebv e) ks l row w t = along _ l _ (given-is kind.Bool l _ t).1 (truth_fits _)
+  value-fits (Sparql op es) ks l row w t = along (result_kind op) l _ (then_given _ (result_kind op) l t).1 (operator-fits op (values_of es row))
+  value-fits (Ebv e) ks l row w t = along _ l _ (then_given _ kind.Bool l t).1 (truth_fits _)
 
   pub values-fit : (es : Exprs) (ks ls : List SqlType) (row : Row) → FitsRow ks row → kinds_of es ks ≡ Some ls → HasKinds ls (values_of es row)
   values-fit Nil ks ls row w t = subst (λ z. HasKinds z []) (same_Some [] ls t) tt

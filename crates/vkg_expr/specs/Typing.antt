@@ -1,5 +1,6 @@
 -- The kind of an expression over columns of some kinds; none where it is ill typed.
 use Rattle.std.specs.Prelude.{ℕ, Bool, true, false, ◌&&◌, not, List, [], ◌∷◌, length, slice_get, Option, Some, None, option_map, if◌then◌else◌, ◌==◌}
+use Rattle.std.specs.Bool.{then_some}
 use Rattle.std.specs.List.{list_all}
 use Rattle.vkg_lists.specs.Options.{with_first}
 use Rattle.vkg_cells.specs.declared.cell.Cell.{Cell}
@@ -42,8 +43,6 @@ fits kind.Term (cell.Term term) = true
 fits k c = false
 
 -- a kind, where the parts are as they should be
-abbrev pub giving : SqlType → Bool → Option SqlType
-giving k fine = if fine then Some k else None
 
 -- there is a kind and it is this one
 abbrev pub is_one : SqlType → Option SqlType → Bool
@@ -58,16 +57,16 @@ are_all k (Some ks) = list_all (same_kind k) ks
 -- a lexical form is that of any kind but a term
 abbrev pub lexical_kind : Option SqlType → Option SqlType
 lexical_kind None = None
-lexical_kind (Some k) = giving kind.Text (not (same_kind kind.Term k))
+lexical_kind (Some k) = then_some (not (same_kind kind.Term k)) kind.Text
 
 -- SQL-92, 8.2: the two values are comparable
 abbrev pub equality_kind : Option SqlType → Option SqlType → Option SqlType
-equality_kind (Some k) (Some l) = giving kind.Bool (same_family k l)
+equality_kind (Some k) (Some l) = then_some (same_family k l) kind.Bool
 equality_kind k l = None
 
 -- one or more of one kind
 abbrev pub common : Option (List SqlType) → Option SqlType
-common (Some (k ∷ ks)) = giving k (list_all (same_kind k) ks)
+common (Some (k ∷ ks)) = then_some (list_all (same_kind k) ks) k
 common ks = None
 
 -- how many terms an operator takes, and what it gives
@@ -92,22 +91,22 @@ no_column (More e es) = not (is_column e) && no_column es
 abbrev mutual
   pub kind_of : Expr → List SqlType → Option SqlType
   kind_of (Col at) ks = slice_get ks at
-  kind_of (Const c k) ks = giving k (fits k c)
-  kind_of (MakeIri e) ks = giving kind.Term (is_one kind.Text (kind_of e ks))
-  kind_of (IriOf base e) ks = giving kind.Text (is_one kind.Text (kind_of e ks))
-  kind_of (MakeBlank e) ks = giving kind.Term (is_one kind.Text (kind_of e ks))
-  kind_of (MakeLit e annotation) ks = giving kind.Term (is_one kind.Text (kind_of e ks))
+  kind_of (Const c k) ks = then_some (fits k c) k
+  kind_of (MakeIri e) ks = then_some (is_one kind.Text (kind_of e ks)) kind.Term
+  kind_of (IriOf base e) ks = then_some (is_one kind.Text (kind_of e ks)) kind.Text
+  kind_of (MakeBlank e) ks = then_some (is_one kind.Text (kind_of e ks)) kind.Term
+  kind_of (MakeLit e annotation) ks = then_some (is_one kind.Text (kind_of e ks)) kind.Term
   kind_of (Lex e) ks = lexical_kind (kind_of e ks)
-  kind_of (IriSafe e) ks = giving kind.Text (is_one kind.Text (kind_of e ks))
-  kind_of (Concat es) ks = giving kind.Text (no_column es && are_all kind.Text (kinds_of es ks))
+  kind_of (IriSafe e) ks = then_some (is_one kind.Text (kind_of e ks)) kind.Text
+  kind_of (Concat es) ks = then_some (no_column es && are_all kind.Text (kinds_of es ks)) kind.Text
   kind_of (Same a b) ks = equality_kind (kind_of a ks) (kind_of b ks)
   kind_of (IsNull e) ks = option_map (λ k. kind.Bool) (kind_of e ks)
-  kind_of (Not e) ks = giving kind.Bool (is_one kind.Bool (kind_of e ks))
-  kind_of (And es) ks = giving kind.Bool (are_all kind.Bool (kinds_of es ks))
-  kind_of (Or es) ks = giving kind.Bool (are_all kind.Bool (kinds_of es ks))
+  kind_of (Not e) ks = then_some (is_one kind.Bool (kind_of e ks)) kind.Bool
+  kind_of (And es) ks = then_some (are_all kind.Bool (kinds_of es ks)) kind.Bool
+  kind_of (Or es) ks = then_some (are_all kind.Bool (kinds_of es ks)) kind.Bool
   kind_of (Coalesce es) ks = common (kinds_of es ks)
-  kind_of (Sparql op es) ks = giving (result_kind op) ((length (each es) == arity op) && are_all kind.Term (kinds_of es ks))
-  kind_of (Ebv e) ks = giving kind.Bool (is_one kind.Term (kind_of e ks))
+  kind_of (Sparql op es) ks = then_some ((length (each es) == arity op) && are_all kind.Term (kinds_of es ks)) (result_kind op)
+  kind_of (Ebv e) ks = then_some (is_one kind.Term (kind_of e ks)) kind.Bool
 
   pub kinds_of : Exprs → List SqlType → Option (List SqlType)
   kinds_of Nil ks = Some []

@@ -14,7 +14,7 @@ use Rattle.vkg_cells.specs.Order.{same}
 use Rattle.vkg_values.specs.Known.{widest}
 use Rattle.vkg_values.specs.Logic.{not3, and3, or3}
 use Rattle.vkg_values.specs.Operators.{ebv, test_value, take_value, compare_value, on_two}
-use Rattle.vkg_schema.specs.Rows.{Row, cell_at, is_null}
+use Rattle.vkg_schema.specs.Rows.{Row, cell_at, is_known_true, is_null}
 use Rattle.vkg_expr.specs.declared.expr.Operator.{Operator}
 use Rattle.vkg_expr.specs.declared.expr.Operator.TheVariants.{Test, Take, Compare}
 use Rattle.vkg_expr.specs.Expr.{Expr, Exprs, Col, Const, MakeIri, IriOf, MakeBlank, MakeLit, Lex, IriSafe, Concat, Same, IsNull, Not, And, Or, Coalesce, Sparql, Ebv, Nil, More}
@@ -89,4 +89,4 @@ abbrev mutual
 
 -- a condition keeps a row where it is true
 abbrev pub holds : Expr → Row → Bool
-holds c row = unwrap_or (truth_of (value_of c row)) false
+holds c row = is_known_true (truth_of (value_of c row))

@@ -1,6 +1,6 @@
 // Tests of kinds.
 ghost use Rattle.std.specs.Prelude.{◌≡◌};
-ghost use Rattle.vkg_expr.specs.Typing.{fits as is_null_or_of, giving as giving_kind, is_one, kind_number as number_of, same_family as one_family, same_kind as one_kind};
+ghost use Rattle.vkg_expr.specs.Typing.{fits as is_null_or_of, is_one, kind_number as number_of, same_family as one_family, same_kind as one_kind};
 
 use vkg_cells::{Cell, SqlType, family};
 
@@ -41,13 +41,6 @@ pub fn is_kind(kind: SqlType, found: Option<SqlType>) -> bool
         Some(found) => same_kind(kind, found),
         None => false,
     }
-}
-
-/// The kind, where the test holds.
-pub fn giving(kind: SqlType, holds: bool) -> Option<SqlType>
-    ensures { result ≡ giving_kind kind holds }
-{
-    if holds { Some(kind) } else { None }
 }
 
 /// Whether a cell is NULL or of the kind.

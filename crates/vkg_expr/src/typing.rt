@@ -1,11 +1,12 @@
 // The kinds of expressions.
+ghost use Rattle.std.specs.Bool.{then_some};
 ghost use Rattle.std.specs.Prelude.{◌≡◌, ◌&&◌, ◌==◌, IfOk, length, map, option_map, slice_get};
 ghost use Rattle.vkg_expr.specs.Expr.{each, exprs};
 ghost use Rattle.vkg_expr.specs.Seen.{expr_seen};
-ghost use Rattle.vkg_expr.specs.Typing.{are_all, arity as arity_of, common, equality_kind, giving as giving_kind, is_column as is_column_expr, is_one, kind_of, kinds_of, lexical_kind, no_column as no_column_in, result_kind as result_kind_of};
+ghost use Rattle.vkg_expr.specs.Typing.{are_all, arity as arity_of, common, equality_kind, is_column as is_column_expr, is_one, kind_of, kinds_of, lexical_kind, no_column as no_column_in, result_kind as result_kind_of};
 
 use crate::expr::{Expr, Operator};
-use crate::kinds::{fits, giving, is_kind, same_family, same_kind};
+use crate::kinds::{fits, is_kind, same_family, same_kind};
 use std::alloc::Global;
 use vkg_base::{Items, Memory, at};
 use vkg_cells::SqlType;
@@ -18,28 +19,24 @@ pub fn typed(e: &Expr, kinds: &[SqlType]) -> Option<SqlType>
 {
     match e {
         Expr::Col(at) => kind_at(kinds, *at),
-        Expr::Const(cell, kind) => giving(*kind, fits(*kind, cell)),
-        Expr::MakeIri(e) => giving(SqlType::Term, is_typed(e, kinds, SqlType::Text)),
-        Expr::IriOf(_, e) => giving(SqlType::Text, is_typed(e, kinds, SqlType::Text)),
-        Expr::MakeBlank(e) => giving(SqlType::Term, is_typed(e, kinds, SqlType::Text)),
-        Expr::MakeLit(e, _) => giving(SqlType::Term, is_typed(e, kinds, SqlType::Text)),
+        Expr::Const(cell, kind) => fits(*kind, cell).then_some(*kind),
+        Expr::MakeIri(e) => is_typed(e, kinds, SqlType::Text).then_some(SqlType::Term),
+        Expr::IriOf(_, e) => is_typed(e, kinds, SqlType::Text).then_some(SqlType::Text),
+        Expr::MakeBlank(e) => is_typed(e, kinds, SqlType::Text).then_some(SqlType::Term),
+        Expr::MakeLit(e, _) => is_typed(e, kinds, SqlType::Text).then_some(SqlType::Term),
         Expr::Lex(e) => lexical(typed(e, kinds)),
-        Expr::IriSafe(e) => giving(SqlType::Text, is_typed(e, kinds, SqlType::Text)),
+        Expr::IriSafe(e) => is_typed(e, kinds, SqlType::Text).then_some(SqlType::Text),
         Expr::Concat(list) => concatenation(list.as_slice(), kinds),
         Expr::Same(a, b) => equality(typed(a, kinds), typed(b, kinds)),
         Expr::IsNull(e) => null_test(typed(e, kinds)),
-        Expr::Not(e) => giving(SqlType::Bool, is_typed(e, kinds, SqlType::Bool)),
-        Expr::And(list) => giving(
+        Expr::Not(e) => is_typed(e, kinds, SqlType::Bool).then_some(SqlType::Bool),
+        Expr::And(list) => are_typed(list.as_slice(), kinds, SqlType::Bool).then_some(
             SqlType::Bool,
-            are_typed(list.as_slice(), kinds, SqlType::Bool),
         ),
-        Expr::Or(list) => giving(
-            SqlType::Bool,
-            are_typed(list.as_slice(), kinds, SqlType::Bool),
-        ),
+        Expr::Or(list) => are_typed(list.as_slice(), kinds, SqlType::Bool).then_some(SqlType::Bool),
         Expr::Coalesce(list) => common_kind(list.as_slice(), kinds),
         Expr::Sparql(operator, list) => operation(*operator, list.as_slice(), kinds),
-        Expr::Ebv(e) => giving(SqlType::Bool, is_typed(e, kinds, SqlType::Term)),
+        Expr::Ebv(e) => is_typed(e, kinds, SqlType::Term).then_some(SqlType::Bool),
     }
 }
 
@@ -66,12 +63,9 @@ fn are_typed(list: &[Expr], kinds: &[SqlType], kind: SqlType) -> bool
 
 #[cycle(typed)]
 fn concatenation(list: &[Expr], kinds: &[SqlType]) -> Option<SqlType>
-    ensures { result ≡ giving_kind SqlType.Text (no_column_in (exprs (map expr_seen list.now)) && are_all SqlType.Text (kinds_of (exprs (map expr_seen list.now)) kinds.now)) }
+    ensures { result ≡ then_some (no_column_in (exprs (map expr_seen list.now)) && are_all SqlType.Text (kinds_of (exprs (map expr_seen list.now)) kinds.now)) SqlType.Text }
 {
-    giving(
-        SqlType::Text,
-        has_no_column(list) && are_typed(list, kinds, SqlType::Text),
-    )
+    (has_no_column(list) && are_typed(list, kinds, SqlType::Text)).then_some(SqlType::Text)
 }
 
 /// The kind that one or more have in common.
@@ -84,7 +78,7 @@ fn common_kind(list: &[Expr], kinds: &[SqlType]) -> Option<SqlType>
         [] => None,
         [first, ..] => match typed(first, kinds) {
             None => None,
-            Some(kind) => giving(kind, are_typed(list, kinds, kind)),
+            Some(kind) => are_typed(list, kinds, kind).then_some(kind),
         },
     }
 }
@@ -92,12 +86,11 @@ fn common_kind(list: &[Expr], kinds: &[SqlType]) -> Option<SqlType>
 #[tactic(auto, using(crate::proofs::KindLists::kind_lists))]
 #[cycle(typed)]
 fn operation(operator: Operator, list: &[Expr], kinds: &[SqlType]) -> Option<SqlType>
-    ensures { result ≡ giving_kind (result_kind_of operator) ((length (each (exprs (map expr_seen list.now))) == arity_of operator) && are_all SqlType.Term (kinds_of (exprs (map expr_seen list.now)) kinds.now)) }
+    ensures { result ≡ then_some ((length (each (exprs (map expr_seen list.now))) == arity_of operator) && are_all SqlType.Term (kinds_of (exprs (map expr_seen list.now)) kinds.now)) (result_kind_of operator) }
 {
-    giving(
-        result_kind(operator),
-        list.len() == arity(operator) && are_typed(list, kinds, SqlType::Term),
-    )
+    (list.len() == arity(operator) && are_typed(list, kinds, SqlType::Term)).then_some(result_kind(
+        operator,
+    ))
 }
 
 fn kind_at(kinds: &[SqlType], place: usize) -> Option<SqlType>
@@ -134,7 +127,7 @@ fn lexical(kind: Option<SqlType>) -> Option<SqlType>
 {
     match kind {
         None => None,
-        Some(kind) => giving(SqlType::Text, !same_kind(SqlType::Term, kind)),
+        Some(kind) => (!same_kind(SqlType::Term, kind)).then_some(SqlType::Text),
     }
 }
 
@@ -142,7 +135,7 @@ fn equality(a: Option<SqlType>, b: Option<SqlType>) -> Option<SqlType>
     ensures { result ≡ equality_kind a b }
 {
     match (a, b) {
-        (Some(a), Some(b)) => giving(SqlType::Bool, same_family(a, b)),
+        (Some(a), Some(b)) => same_family(a, b).then_some(SqlType::Bool),
         _ => None,
     }
 }

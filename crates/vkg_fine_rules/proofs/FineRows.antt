@@ -1,6 +1,6 @@
 -- Each row of each rule of a mapping is fine.
 use Rattle.std.proofs.Common.{◌≡◌, ℕ, [], ◌++◌, length, sym, subst}
-use Rattle.std.specs.Prelude.{Option, Some, None, option_map, Contains}
+use Rattle.std.specs.Prelude.{Option, Some, None, option_map, Contains, IfSome}
 use Rattle.vkg_lists.proofs.Members.{Contains-from_map}
 use Rattle.vkg_schema.specs.Meets.{IsWellFormed, MeetsSchema}
 use Rattle.vkg_schema.specs.Rows.{Database, Row}
@@ -19,18 +19,17 @@ use Rattle.vkg_maps.specs.Within.{IsWithin, kinds_at}
 use Rattle.vkg_row_rules.proofs.Bridge.{rule_sound}
 use Rattle.vkg_row_rules.proofs.RowParts.{row_parts}
 use Rattle.vkg_row_rules.proofs.RuleQuads.{GraphIs, IsFine}
-use Rattle.vkg_row_rules.proofs.SoundRules.{OfGraph}
 use Rattle.vkg_unfold.specs.FineRows.{IsFineRow, IsNarrow, IsNarrowGraph, Meets, NeverDefault}
 use Rattle.vkg_fine_rules.specs.Laws.{HasFineRows}
 use Rattle.vkg_fine_rules.proofs.Fits.{FitsKinds, fits_rows, fits_holes}
 use Rattle.vkg_fine_rules.proofs.Narrow.{narrow_term}
 
 module _ (schema : Tables) (mapping : Mapping) (db : Database) (well : IsWellFormed schema) (within : IsWithin schema mapping) (meets : MeetsSchema schema db) (faultless : data_faults mapping db ≡ []) where
-  narrow_graph : (table : ℕ) (g : Option TermMap) (row child : Row) → OfGraph (IsFine mapping.base schema db table) g → GraphIs mapping.base (kinds_at schema table) g row child → IsNarrowGraph (option_map (row_term mapping.base (kinds_at schema table)) g) row
+  narrow_graph : (table : ℕ) (g : Option TermMap) (row child : Row) → IfSome g (IsFine mapping.base schema db table) → GraphIs mapping.base (kinds_at schema table) g row child → IsNarrowGraph (option_map (row_term mapping.base (kinds_at schema table)) g) row
   narrow_graph table None row child h e = tt
   narrow_graph table (Some g) row child h e = subst IsNarrow (sym e) (narrow_term mapping.base g child h.over.narrow)
 
-  never : (table : ℕ) (g : Option TermMap) (child more : Row) → length (kinds_at schema table) ≡ length child → FitsKinds (kinds_at schema table) child → OfGraph (IsFine mapping.base schema db table) g →
+  never : (table : ℕ) (g : Option TermMap) (child more : Row) → length (kinds_at schema table) ≡ length child → FitsKinds (kinds_at schema table) child → IfSome g (IsFine mapping.base schema db table) →
       NeverDefault (option_map (row_term mapping.base (kinds_at schema table)) g) (child ++ more)
   never table None child more w f h = tt
   never table (Some g) child more w f h =

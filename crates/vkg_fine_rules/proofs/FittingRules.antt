@@ -1,6 +1,7 @@
 -- The rules of a mapping within a well-formed schema fit it.
 use Rattle.std.proofs.Common.{◌≡◌, ◌∙◌, ℕ, zero, suc, ◌+◌, ◌<◌, false, List, [], ◌∷◌, ◌++◌, map, length, refl, sym, ap, subst, arith}
 use Rattle.std.specs.Prelude.{◌≢◌, Contains, flat_map, IfSome, Option, Some, None, option_map, slice_get}
+use Rattle.std.specs.Bool.{then_some}
 use Rattle.std.specs.List.{AllByRecursion}
 use Rattle.std.proofs.lemmas.Option.{none-some}
 use Rattle.vkg_lists.specs.Lists.{AllBelow}
@@ -28,13 +29,13 @@ use Rattle.vkg_expr.specs.declared.term_expr.Piece.TheVariants.{Chars, Hole}
 use Rattle.vkg_expr.specs.declared.term_expr.TermExpr.{TermExpr}
 use Rattle.vkg_expr.specs.declared.term_expr.TermExpr.TheVariants.{Fixed, Made, Resolved}
 use Rattle.vkg_expr.specs.TermExprs.{moved_piece, moved_term}
-use Rattle.vkg_expr.specs.Typing.{equality_kind, giving, same_kind}
+use Rattle.vkg_expr.specs.Typing.{equality_kind, same_kind}
 use Rattle.vkg_plan.specs.Kinds.{Tables}
 use Rattle.vkg_row_rules.specs.declared.row_rule.RowRule.{RowRule}
 use Rattle.vkg_row_rules.specs.RowRules.{object_term, row_rule, row_rules}
 use Rattle.vkg_row_rules.specs.RowTerms.{kind_at, piece_of, row_term}
 use Rattle.vkg_maps.specs.Within.{IsCondition, IsOver, IsWithin, piece_columns, kinds_at}
-use Rattle.vkg_row_rules.proofs.SoundRules.{AreJoined, OfGraph, OfRule, object_table, rules_within}
+use Rattle.vkg_row_rules.proofs.SoundRules.{AreJoined, OfRule, object_table, rules_within}
 use Rattle.vkg_unfold.specs.FittingRules.{AreFitting, FitsCondition, FitsGraph, FitsJoin, FitsPiece, FitsTerm, IsFitting, IsTable, rule_kinds}
 use Rattle.vkg_fine_rules.specs.Laws.{HasFittingRules}
 
@@ -88,7 +89,7 @@ module _ (ks : List SqlType) (none : NoTerms ks) where
   term_fits base (from.Column c (sort.Literal a)) h = (hole_fits ks none c h.columns.0, tt)
   term_fits base (from.Template ps y) h = pieces_fit ps h.columns
 
-  graph_fits : (base : List ℕ) (g : Option TermMap) → OfGraph (IsOver ks) g → FitsGraph ks (option_map (row_term base ks) g)
+  graph_fits : (base : List ℕ) (g : Option TermMap) → IfSome g (IsOver ks) → FitsGraph ks (option_map (row_term base ks) g)
   graph_fits base None h = tt
   graph_fits base (Some g) h = term_fits base g h
 
@@ -111,7 +112,7 @@ module _ (ks ls : List SqlType) where
 -- ---- joins
 
 families_give : (k l : SqlType) → family k ≡ family l → equality_kind (Some k) (Some l) ≡ Some kind.Bool
-families_give k l e = ap (λ b. giving kind.Bool b) ((nat_test.decides (family k) (family l)).1 e)
+families_give k l e = ap (λ b. then_some b kind.Bool) ((nat_test.decides (family k) (family l)).1 e)
 
 condition_fits : (ks ls : List SqlType) (c : ℕ × ℕ) → IsCondition ks ls c → FitsCondition ks ls c
 condition_fits ks ls c h = of (slice_get ks c.0) refl (slice_get ls c.1) refl h.comparable

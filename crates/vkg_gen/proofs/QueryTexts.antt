@@ -42,5 +42,8 @@ module _ (text base : List ℕ) (utf8 : IsUtf8 text) (tokens : List Token) (cut 
       d.short.no_text ws here
   no_query_fault fine f (checked r u s e) = none-some _ (sym fine ∙ ap fault_of (sym (said r s)) ∙ e)
 
-  pub one_query : (q : Query) → IsQueryText text base q → q ≡ query_of (read text tokens base tree)
+  one_query : (q : Query) → IsQueryText text base q → q ≡ query_of (read text tokens base tree)
   one_query q s = s.is ∙ ap query_of (said s.said s.says)
+
+  pub same_query : (q r : Query) → IsQueryText text base q → IsQueryText text base r → q ≡ r
+  same_query q r h k = one_query q h ∙ sym (one_query r k)

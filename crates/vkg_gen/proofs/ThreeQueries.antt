@@ -1,5 +1,5 @@
 -- The three queries of the report are read without a fault, each as one query.
-use Rattle.std.proofs.Common.{◌≡◌, ◌∙◌, List, [], ◌∷◌, None, Ok, refl, sym, length, get_or}
+use Rattle.std.proofs.Common.{◌≡◌, List, [], ◌∷◌, None, Ok, refl, length, get_or}
 use Rattle.std.specs.Prelude.{IsUtf8}
 use Rattle.std.specs.Str.{chars}
 use Rattle.std.specs.Char.{encode_utf8}
@@ -21,12 +21,12 @@ use Rattle.vkg_sparql.specs.declared.grammar_table.TheConstants.{SPARQL}
 use Rattle.vkg_sparql.specs.declared.query.Query.{Query}
 use Rattle.vkg_sparql.specs.Checks.{fails}
 use Rattle.vkg_sparql.specs.Literals.{meaning_of}
-use Rattle.vkg_sparql.specs.Reading.{IsQuery, fault_of, query_of, read, sparql, sparql_tokens}
+use Rattle.vkg_sparql.specs.Reading.{IsQuery, fault_of, read, sparql, sparql_tokens}
 use Rattle.vkg_company.proofs.Derivation.{derives, found, notes_or, tokens_or}
 use Rattle.vkg_schema.specs.Company.{base}
 use Rattle.vkg_gen.specs.Report.{names_text, distinct_text, depts_text}
 use Rattle.vkg_gen.specs.Readable.{IsFaultless}
-use Rattle.vkg_gen.proofs.QueryTexts.{no_query_fault, one_query, shallow}
+use Rattle.vkg_gen.proofs.QueryTexts.{no_query_fault, same_query, shallow}
 
 unfoldable opened : Unit {0}
 unfolding chars encode_utf8 cut piece token_class sparql_word outside_word call_word is_outside_form is_outside_call is_outside_text turtle_word turtle_tag is_base is_base_or_low_line is_label_start is_variable_part is_name_part is_escaped_sign is_iri_part is_escaped_letter code_point_more text_meant meaning_of fails deepened
@@ -70,15 +70,8 @@ names_fine = refl
 pub names_faultless : IsFaultless names_text
 names_faultless = no_query_fault names_text base names_utf8 names_tokens names_cut names_shallow names_notes names_derived names_tree names_is_tree names_fine
 
-names_query : Query
-names_query = query_of (read names_text names_tokens base names_tree)
-
-names_one : (q : Query) → IsQuery names_text base q → q ≡ names_query
-unfolding names_query
-names_one q h = one_query names_text base names_utf8 names_tokens names_cut names_shallow names_notes names_derived names_tree names_is_tree q h
-
 pub names_same : (q r : Query) → IsQuery names_text base q → IsQuery names_text base r → q ≡ r
-names_same q r h k = names_one q h ∙ sym (names_one r k)
+names_same q r h k = same_query names_text base names_utf8 names_tokens names_cut names_shallow names_notes names_derived names_tree names_is_tree q r h k
 
 -- ---- distinct
 
@@ -118,15 +111,8 @@ distinct_fine = refl
 pub distinct_faultless : IsFaultless distinct_text
 distinct_faultless = no_query_fault distinct_text base distinct_utf8 distinct_tokens distinct_cut distinct_shallow distinct_notes distinct_derived distinct_tree distinct_is_tree distinct_fine
 
-distinct_query : Query
-distinct_query = query_of (read distinct_text distinct_tokens base distinct_tree)
-
-distinct_one : (q : Query) → IsQuery distinct_text base q → q ≡ distinct_query
-unfolding distinct_query
-distinct_one q h = one_query distinct_text base distinct_utf8 distinct_tokens distinct_cut distinct_shallow distinct_notes distinct_derived distinct_tree distinct_is_tree q h
-
 pub distinct_same : (q r : Query) → IsQuery distinct_text base q → IsQuery distinct_text base r → q ≡ r
-distinct_same q r h k = distinct_one q h ∙ sym (distinct_one r k)
+distinct_same q r h k = same_query distinct_text base distinct_utf8 distinct_tokens distinct_cut distinct_shallow distinct_notes distinct_derived distinct_tree distinct_is_tree q r h k
 
 -- ---- depts
 
@@ -166,12 +152,5 @@ depts_fine = refl
 pub depts_faultless : IsFaultless depts_text
 depts_faultless = no_query_fault depts_text base depts_utf8 depts_tokens depts_cut depts_shallow depts_notes depts_derived depts_tree depts_is_tree depts_fine
 
-depts_query : Query
-depts_query = query_of (read depts_text depts_tokens base depts_tree)
-
-depts_one : (q : Query) → IsQuery depts_text base q → q ≡ depts_query
-unfolding depts_query
-depts_one q h = one_query depts_text base depts_utf8 depts_tokens depts_cut depts_shallow depts_notes depts_derived depts_tree depts_is_tree q h
-
 pub depts_same : (q r : Query) → IsQuery depts_text base q → IsQuery depts_text base r → q ≡ r
-depts_same q r h k = depts_one q h ∙ sym (depts_one r k)
+depts_same q r h k = same_query depts_text base depts_utf8 depts_tokens depts_cut depts_shallow depts_notes depts_derived depts_tree depts_is_tree q r h k

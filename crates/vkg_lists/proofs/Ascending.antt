@@ -8,13 +8,15 @@ use Rattle.std.specs.Str.{bytes_eq}
 use Rattle.std.proofs.lemmas.List.{map-id}
 use Rattle.std.proofs.lemmas.List.MinMax.{ranks_by}
 use Rattle.std.proofs.lemmas.List.Kept.{IsStrictlySortedBy-dedup}
+use Rattle.std.proofs.lemmas.Map.Keys.{IsDistinct-IsPermutation}
 use Rattle.vkg_lists.specs.Ascending.{put_in, ascending_by, ascending, ascending_once}
 use Rattle.vkg_lists.specs.Sets.{IsLinearOrder, HasSameMembers, distinct}
 use Rattle.vkg_lists.specs.Texts.{bytes_cmp}
 use Rattle.vkg_lists.proofs.Bags.{bag_refl, bag_sym, bag_trans, bag_cons, bag_exchange}
 use Rattle.vkg_lists.proofs.Members.{Contains-none, Contains-here, Contains-cons_cases}
 use Rattle.vkg_lists.proofs.SameMembers.{members_bag, members_sym, members_trans}
-use Rattle.vkg_lists.proofs.Distinct.{HasSameMembers-distinct, IsDistinct-distinct, IsDistinct-permutation, IsDistinct-map}
+use Rattle.vkg_lists.proofs.Counts.{eq_comm}
+use Rattle.vkg_lists.proofs.Distinct.{HasSameMembers-distinct, IsDistinct-distinct, IsDistinct-map}
 use Rattle.vkg_lists.proofs.Orders.{IsSorted-head, IsSorted-tail, IsEqualityTest-cmp, ascending_from_sorted, ascending_unique, sorted_unique, bytes_linear}
 use Rattle.vkg_lists.proofs.Texts.{bytes_test, members_dedup}
 
@@ -86,7 +88,7 @@ pub ascending_once-ascending : (xs : List (List ℕ)) → IsStrictlySortedBy byt
 ascending_once-ascending xs =
     let t = IsEqualityTest-cmp bytes_linear in
     let once : IsDistinct (eq_by_cmp bytes_cmp) (distinct bytes_eq xs) = subst (IsDistinct (eq_by_cmp bytes_cmp)) (map-id (distinct bytes_eq xs)) (IsDistinct-map bytes_test t (λ x. x) (distinct bytes_eq xs) (IsDistinct-distinct bytes_eq xs) (λ x y c d e. e)) in
-    ascending_from_sorted bytes_linear (ascending_once xs) (ascending_by-sorted bytes_linear (distinct bytes_eq xs)) (IsDistinct-permutation t (ascending_by-bag bytes_linear (distinct bytes_eq xs)) once)
+    ascending_from_sorted bytes_linear (ascending_once xs) (ascending_by-sorted bytes_linear (distinct bytes_eq xs)) (IsDistinct-IsPermutation (eq_by_cmp bytes_cmp) (eq_comm t) _ _ (ascending_by-bag bytes_linear (distinct bytes_eq xs)) once)
 
 -- what ascends strictly and has the same texts is the list of them, each once
 pub ascending_once_is : (xs ys : List (List ℕ)) → HasSameMembers xs ys → IsStrictlySortedBy bytes_cmp ys → ys ≡ ascending_once xs

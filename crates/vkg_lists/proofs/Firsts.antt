@@ -1,7 +1,7 @@
 -- The first of what a scan finds.
-use Rattle.std.proofs.Common.{◌≡◌, ℕ, zero, suc, ◌+◌, ◌<◌, refl, sym, ◌∙◌, ap, List, [], ◌∷◌, ◌++◌, flat_map, map, drop, length, get_or, Some, None, arith}
+use Rattle.std.proofs.Common.{◌≡◌, ℕ, ◌+◌, ◌<◌, refl, sym, ◌∙◌, ap, List, [], ◌∷◌, ◌++◌, flat_map, map, drop, length, get_or, Some, None, arith}
 use Rattle.std.specs.List.{enumerate_from}
-use Rattle.std.proofs.lemmas.List.{drop_more, get_or-map, length-map}
+use Rattle.std.proofs.lemmas.List.{drop_all, drop_more, get_or-map, length-map}
 use Rattle.vkg_lists.specs.Firsts.{first_of}
 
 pub first_later : {A : Type 0} (xs ys : List A) → first_of xs ≡ None → first_of (xs ++ ys) ≡ first_of ys
@@ -23,13 +23,7 @@ module _ {X A : Type 0} (f : (ℕ × X) → List A) (xs : List X) where
   scan_some n i x a h e some = ap (λ ys. first_of (flat_map f (enumerate_from n ys))) (opened xs i x h e) ∙ first_here (f (n, x)) (flat_map f (enumerate_from (n + 1) (drop (i + 1) xs))) a some
 
   pub scan_end : (n i : ℕ) → length xs < i + 1 → first_of (flat_map f (enumerate_from n (drop i xs))) ≡ None
-  scan_end n i h = ap (λ ys. first_of (flat_map f (enumerate_from n ys))) (past xs i h)
-    where
-      past : {Y : Type 0} (ys : List Y) (j : ℕ) → length ys < j + 1 → drop j ys ≡ []
-      past [] zero h = refl
-      past [] (suc j) h = refl
-      past (y ∷ ys) zero h = absurd (let n : ⊥ = omega (arith, h) in n)
-      past (y ∷ ys) (suc j) h = past ys j (omega (arith, h))
+  scan_end n i h = ap (λ ys. first_of (flat_map f (enumerate_from n ys))) (drop_all i xs (omega (arith, h)))
 
 mapped_item : {X Y : Type 0} (g : X → Y) (xs : List X) (i : ℕ) (x : X) → i < length xs → x ≡ get_or xs i x → g x ≡ get_or (map g xs) i (g x)
 mapped_item g xs i x h e = ap g e ∙ sym (get_or-map g xs i x (g x) h)

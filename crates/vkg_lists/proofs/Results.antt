@@ -1,6 +1,8 @@
 -- `Ok` and `Err` are told apart, and so are `Some` and `None`; results whose value is a list.
 use Rattle.std.proofs.Common.{◌≡◌, Bool, true, false, cond, List, [], ◌∷◌, ◌++◌, Option, Some, None, Result, Ok, Err, refl, sym, ap, append_assoc}
 use Rattle.std.specs.Prelude.{is_some, option_and_then}
+use Rattle.std.specs.Bool.{then_some}
+use Rattle.std.proofs.lemmas.Option.{same_Some}
 use Rattle.vkg_lists.specs.Results.{followed_by, in_front, unless}
 
 pub ok_same : {A E : Type 0} (a b : A) → ◌≡◌ {A = Result A E} (Ok a) (Ok b) → a ≡ b
@@ -23,6 +25,19 @@ some_then f (Some a) e = (a, refl, e)
 pub some_if : {A : Type 0} (b : Bool) (o : Option A) → is_some (cond b o None) ≡ true → (b ≡ true) × (is_some o ≡ true)
 some_if true o e = (refl, e)
 some_if false o e = cc
+
+pub none_if : {A : Type 0} (b : Bool) (x : A) (o : Option A) → cond b (Some x) o ≡ None → (b ≡ false) × (o ≡ None)
+none_if true x o e = cc
+none_if false x o e = (refl, e)
+
+-- a value where a test holds
+pub then_given : {A : Type 0} (b : Bool) (x y : A) → then_some b x ≡ Some y → (b ≡ true) × (x ≡ y)
+then_given true x y e = (refl, same_Some x y e)
+then_given false x y e = cc
+
+pub then_test : {A : Type 0} (b : Bool) (x : A) → is_some (then_some b x) ≡ true → b ≡ true
+then_test true x e = refl
+then_test false x e = cc
 
 pub followed_none : {A F : Type 0} (r : Result (List A) F) → followed_by [] r ≡ r
 followed_none (Ok xs) = refl

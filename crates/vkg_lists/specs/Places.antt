@@ -1,6 +1,9 @@
 -- Places, and the least of them.
-use Rattle.std.specs.Prelude.{◌≡◌, ℕ, ◌≤◌, Bool, List, fold, Option, Some, None, if◌then◌else◌, min}
+use Rattle.std.specs.Prelude.{◌≡◌, ℕ, ◌≤◌, List, fold, Option, Some, None, min}
+-- the place, if the test fails there
+pub use Rattle.std.specs.Bool.{then_some as place_if}
 use Rattle.std.specs.List.{Contains}
+use Rattle.std.specs.Option.{option_or}
 
 -- the lesser of two places, where there are any
 abbrev pub lesser : Option ℕ → Option ℕ → Option ℕ
@@ -10,16 +13,11 @@ lesser (Some a) (Some b) = Some (min a b)
 
 -- the first place that was noted
 abbrev pub earlier : Option ℕ → ℕ → Option ℕ
-earlier None at = Some at
-earlier (Some first) at = Some first
+earlier first at = option_or first (Some at)
 
 -- the least place of all items
 abbrev pub least_of : {A : Type 0} → (A → Option ℕ) → List A → Option ℕ
 least_of place xs = fold (λ best x. lesser best (place x)) None xs
-
--- the place, if the test fails there
-abbrev pub place_if : Bool → ℕ → Option ℕ
-place_if fails at = if fails then Some at else None
 
 -- some item has this place, and none a lesser one
 pub record IsLeastPlace {A : Type 0} (place : A → Option ℕ) (xs : List A) (at : ℕ) : Type 0 where

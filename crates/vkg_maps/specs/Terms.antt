@@ -1,5 +1,6 @@
 -- The term that a term map makes of a row (R2RML, 11.2, generated RDF term).
 use Rattle.std.specs.Prelude.{ℕ, List, [], ◌∷◌, Option, Some, None, Result, Ok, Err, option_map, if◌then◌else◌}
+use Rattle.std.specs.Result.{result_unwrap_or}
 use Rattle.vkg_lists.specs.Options.{joined}
 use Rattle.vkg_terms.specs.declared.term.Term.{Term}
 use Rattle.vkg_terms.specs.declared.term.Term.TheVariants.{Iri, Blank, Lit}
@@ -70,5 +71,4 @@ term_of base (from.Template pieces type) row = where_value type (template_value 
 
 -- the term alone
 abbrev pub term_if_any : Made → Option Term
-term_if_any (Ok t) = t
-term_if_any (Err e) = None
+term_if_any made = result_unwrap_or made None

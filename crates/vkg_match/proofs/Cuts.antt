@@ -7,7 +7,7 @@ use Rattle.std.proofs.lemmas.List.{map_push}
 use Rattle.std.proofs.lemmas.Str.{encodes-chars, NoCharPasses-append, NoCharPasses-nil}
 use Rattle.vkg_lists.specs.Options.{joined}
 use Rattle.vkg_lists.proofs.Members.{recursion_push, recursion_append}
-use Rattle.vkg_lists.proofs.Onto.{joined_assoc, joined_nil, nil_joined}
+use Rattle.vkg_lists.proofs.Onto.{joined_assoc, joined_each, joined_nil, nil_joined}
 use lib.Utf8.{encode, encodes}
 use Rattle.vkg_cells.specs.declared.cell.SqlType.{SqlType}
 use Rattle.vkg_schema.specs.Rows.{Row}
@@ -19,7 +19,7 @@ use Rattle.vkg_expr.proofs.TermValues.{Text, piece_text, pieces_text}
 use Rattle.vkg_match.specs.declared.cut.Segment.{Segment}
 use Rattle.vkg_match.specs.Cut.{Cut, cut_at, cut_character, cut_piece, cut_pieces, is_break, last_pieces, text_pieces, uncut, with_character}
 use Rattle.vkg_match.specs.Laws.{IsTextPiece}
-use Rattle.vkg_match.proofs.Splits.{Clear, clear_joined, whole}
+use Rattle.vkg_match.proofs.Splits.{Clear, whole}
 
 whole-append : (xs : List (Text × ℕ)) (o : Text) (c : ℕ) (l : Text) → whole (xs ++ (o, c) ∷ []) l ≡ joined (whole xs o) (joined (Some (encode c)) l)
 whole-append [] o c l = refl
@@ -42,15 +42,12 @@ module _ (sort : Sort) (row : Row) where
       ap (joined (piece_text sort row p)) (pieces_text-append ps qs)
       ∙ sym (joined_assoc (piece_text sort row p) (pieces_text sort row ps) (pieces_text sort row qs))
 
-  one_piece : (p : Piece) → pieces_text sort row (p ∷ []) ≡ piece_text sort row p
-  one_piece p = joined_nil (piece_text sort row p)
-
   pub chars_text : (s : List ℕ) → piece_text sort row (Chars s) ≡ Some s
   chars_text s = elim sort as (λ t. piece_text t row (Chars s) ≡ Some s) [ OfIri ↦ refl | OfBlank ↦ refl | OfLit a ↦ refl ]
 
   text_pieces_text : (s : List ℕ) → pieces_text sort row (text_pieces s) ≡ Some s
   text_pieces_text [] = refl
-  text_pieces_text (b ∷ bs) = one_piece (Chars (b ∷ bs)) ∙ chars_text (b ∷ bs)
+  text_pieces_text (b ∷ bs) = joined_nil (piece_text sort row (Chars (b ∷ bs))) ∙ chars_text (b ∷ bs)
 
   last_text : (cut : Cut) → pieces_text sort row (last_pieces cut) ≡ joined (pieces_text sort row cut.pieces) (Some cut.text)
   last_text cut = pieces_text-append cut.pieces (text_pieces cut.text) ∙ ap (joined (pieces_text sort row cut.pieces)) (text_pieces_text cut.text)
@@ -98,7 +95,7 @@ module _ (sort : Sort) (row : Row) where
 
   hole_text : (cut : Cut) (p : Piece) → whole_text (with_hole cut p) ≡ joined (whole_text cut) (piece_text sort row p)
   hole_text cut p =
-      ap (whole (parts cut)) (last_text (with_hole cut p) ∙ joined_nil (pieces_text sort row (last_pieces cut ++ p ∷ [])) ∙ pieces_text-append (last_pieces cut) (p ∷ []) ∙ ap (joined (last cut)) (one_piece p))
+      ap (whole (parts cut)) (last_text (with_hole cut p) ∙ joined_nil (pieces_text sort row (last_pieces cut ++ p ∷ [])) ∙ pieces_text-append (last_pieces cut) (p ∷ []) ∙ ap (joined (last cut)) (joined_nil (piece_text sort row p)))
       ∙ whole-last (parts cut) (last cut) (piece_text sort row p)
 
   cut_piece_text : (cut : Cut) (p : Piece) → IsTextPiece p → whole_text (cut_piece sort cut p) ≡ joined (whole_text cut) (piece_text sort row p)
@@ -133,20 +130,17 @@ module _ (sort : Sort) (row : Row) where
     text_fine (b ∷ bs) = (constants (b ∷ bs), tt)
 
     pub last_clear : (cut : Cut) → IsFine cut → Clear (is_break sort) (last cut)
-    last_clear cut h = subst (Clear (is_break sort)) (sym (last_text cut)) (clear_joined (is_break sort) (pieces_text sort row cut.pieces) (Some cut.text) h.unbroken h.text)
+    last_clear cut h = subst (Clear (is_break sort)) (sym (last_text cut)) (joined_each (NoCharPasses (is_break sort)) (NoCharPasses-append (is_break sort)) (pieces_text sort row cut.pieces) (Some cut.text) h.unbroken h.text)
 
     pub last_fine : (cut : Cut) → IsFine cut → AllByRecursion Fine (last_pieces cut)
     last_fine cut h = recursion_append Fine cut.pieces (text_pieces cut.text) h.pieces (text_fine cut.text)
 
-    empty_clear : NoCharPasses (is_break sort) []
-    empty_clear = NoCharPasses-nil (is_break sort)
-
     at_fine : (cut : Cut) (c : ℕ) → IsFine cut → is_break sort c ≡ true → IsFine (cut_at cut c)
     at_fine cut c h b = record {
       done = recursion_push IsFineSegment cut.done (record { pieces = last_pieces cut; mark = c }) h.done ((last_clear cut h, b), last_fine cut h);
-      unbroken = empty_clear;
+      unbroken = NoCharPasses-nil (is_break sort);
       pieces = tt;
-      text = empty_clear;
+      text = NoCharPasses-nil (is_break sort);
     }
 
     character_fine : (cut : Cut) (c : ℕ) → IsFine cut → is_break sort c ≡ false → IsFine (with_character cut c)
@@ -171,9 +165,9 @@ module _ (sort : Sort) (row : Row) where
     hole_fine : (cut : Cut) (at : ℕ) (k : SqlType) → IsFine cut → Fine (Hole at k) → IsFine (with_hole cut (Hole at k))
     hole_fine cut at k h f = record {
       done = h.done;
-      unbroken = subst (Clear (is_break sort)) (sym (pieces_text-append (last_pieces cut) (Hole at k ∷ []) ∙ ap (joined (last cut)) (one_piece (Hole at k)))) (clear_joined (is_break sort) (last cut) (piece_text sort row (Hole at k)) (last_clear cut h) (clear at k f));
+      unbroken = subst (Clear (is_break sort)) (sym (pieces_text-append (last_pieces cut) (Hole at k ∷ []) ∙ ap (joined (last cut)) (joined_nil (piece_text sort row (Hole at k))))) (joined_each (NoCharPasses (is_break sort)) (NoCharPasses-append (is_break sort)) (last cut) (piece_text sort row (Hole at k)) (last_clear cut h) (clear at k f));
       pieces = recursion_append Fine (last_pieces cut) (Hole at k ∷ []) (last_fine cut h) (f, tt);
-      text = empty_clear;
+      text = NoCharPasses-nil (is_break sort);
     }
 
     cut_piece_fine : (cut : Cut) (p : Piece) → IsFine cut → Fine p → IsFine (cut_piece sort cut p)
@@ -186,4 +180,4 @@ module _ (sort : Sort) (row : Row) where
     cut_all_fine cut (p ∷ ps) h f = cut_all_fine (cut_piece sort cut p) ps (cut_piece_fine cut p h f.0) f.1
 
     pub cut_fine : (ps : List Piece) → AllByRecursion Fine ps → IsFine (cut_pieces sort ps)
-    cut_fine ps f = cut_all_fine uncut ps (record { done = tt; unbroken = empty_clear; pieces = tt; text = empty_clear }) f
+    cut_fine ps f = cut_all_fine uncut ps (record { done = tt; unbroken = NoCharPasses-nil (is_break sort); pieces = tt; text = NoCharPasses-nil (is_break sort) }) f

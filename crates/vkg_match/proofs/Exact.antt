@@ -9,12 +9,11 @@ use Rattle.std.proofs.lemmas.List.Folds.{list_all-append}
 use Rattle.std.proofs.lemmas.Option.{none-some, same_Some}
 use Rattle.std.proofs.Math.Bool.{and-false, and-true}
 use Rattle.std.proofs.lemmas.Result.{IfOk-weaker}
-use Rattle.vkg_lists.specs.Options.{joined}
 use Rattle.hex.specs.Hex.{decode_of, encode_lower, IsBytes}
 use Rattle.hex.specs.declared.error.FromHexError.{FromHexError}
 use Rattle.hex.proofs.HexLemmas.{decode_of-encode_lower}
-use Rattle.vkg_lists.proofs.Bools.{and_true, and_parts, is_false, same_truth, neither}
-use Rattle.vkg_lists.proofs.Counts.{eq_comm}
+use Rattle.vkg_lists.proofs.Bools.{and_true, and_parts, is_false, neither}
+use Rattle.vkg_lists.proofs.Tests.{both_pass_comm, test_along}
 use Rattle.vkg_lists.proofs.Texts.{bytes_test}
 use Rattle.vkg_lists.proofs.Onto.{joined_each, joined_nil, map_lacking}
 use Rattle.vkg_terms.specs.declared.term.Term.{Term}
@@ -58,12 +57,6 @@ both_met row Never w = refl
 both_met row (All es) Never = sym (and-false (list_all (λ c. holds c row) es))
 both_met row (All es) (All fs) = list_all-append (λ c. holds c row) es fs
 
-turned : (a b : Text) → same_form a b ≡ same_form b a
-turned None None = refl
-turned None (Some t) = refl
-turned (Some s) None = refl
-turned (Some s) (Some t) = eq_comm bytes_test s t
-
 texts_met : (sort : Sort) (row : Row) (ps qs : List Piece) → is_met (texts_agree sort ps qs) row ≡ same_form (pieces_text sort row ps) (pieces_text sort row qs)
 texts_met sort row ps qs =
     and-true _
@@ -101,7 +94,7 @@ module _ (sort : Sort) (row : Row) where
   constant_right ps qs s None c l h g = texts_met sort row ps qs
   constant_right ps qs s (Some hole) c l h g =
       let lone = lone_is ps hole l h in
-      hole_met sort row hole s lone.fits ∙ (λ i. same_form (sym (constant_is qs s c) i) (sym lone.is i)) ∙ turned (pieces_text sort row qs) (pieces_text sort row ps)
+      hole_met sort row hole s lone.fits ∙ (λ i. same_form (sym (constant_is qs s c) i) (sym lone.is i)) ∙ both_pass_comm bytes_test (pieces_text sort row qs) (pieces_text sort row ps)
 
   by_holes : (ps qs : List Piece) (o p : Option (ℕ × SqlType)) → lone_hole ps ≡ o → lone_hole qs ≡ p → AllByRecursion (FitsPiece row) ps → AllByRecursion (FitsPiece row) qs
       → is_met (holes_or_texts sort ps qs o p) row ≡ same_form (pieces_text sort row ps) (pieces_text sort row qs)
@@ -194,16 +187,11 @@ labelled_is (b ∷ digits) t e = by (decode_of digits) e
         (subst IsUtf8 h.1 h.0.0, ap blank_label (sym h.1) ∙ (bytes_eq-Decides (blank_label octets) (b ∷ digits)).0 h.0.1)
 
 -- ---- terms of one sort
-labels_same : (s t : List ℕ) → bytes_eq (blank_label s) (blank_label t) ≡ bytes_eq s t
-labels_same s t = same_truth _ _
-    (λ e. (bytes_eq-Decides s t).1 (label_same s t ((bytes_eq-Decides (blank_label s) (blank_label t)).0 e)))
-    (λ e. (bytes_eq-Decides (blank_label s) (blank_label t)).1 (ap blank_label ((bytes_eq-Decides s t).0 e)))
-
 terms_made : (a b : Sort) (o p : Text) → same_sort a b ≡ true → same_terms (option_map (term_made a) o) (option_map (term_made b) p) ≡ same_form o p
 terms_made a b None p e = refl
 terms_made a b (Some s) None e = refl
 terms_made OfIri OfIri (Some s) (Some t) e = refl
-terms_made OfBlank OfBlank (Some s) (Some t) e = labels_same s t
+terms_made OfBlank OfBlank (Some s) (Some t) e = test_along bytes_test bytes_test blank_label s t (label_same s t)
 terms_made (OfLit x) (OfLit y) (Some s) (Some t) e = ap (λ c. bytes_eq s t && c) e ∙ and-true (bytes_eq s t)
 terms_made OfIri OfBlank (Some s) (Some t) e = cc
 terms_made OfIri (OfLit y) (Some s) (Some t) e = cc
@@ -258,13 +246,10 @@ pieces_exact row e f ps qs s h g =
 abbrev Spelled : Text → Type 0
 Spelled o = IfSome o IsUtf8
 
-spelled_joined : (a b : Text) → Spelled a → Spelled b → Spelled (joined a b)
-spelled_joined a b h k = joined_each IsUtf8 IsUtf8-append a b h k
-
 blank_spelled : (row : Row) (ps : List Piece) → AllByRecursion IsTextPiece ps → AllByRecursion (FitsPiece row) ps → Spelled (pieces_text OfBlank row ps)
 blank_spelled row [] t h = IsUtf8-nil
-blank_spelled row (Chars s ∷ ps) t h = spelled_joined (Some s) (pieces_text OfBlank row ps) t.0 (blank_spelled row ps t.1 h.1)
-blank_spelled row (Hole at k ∷ ps) t h = spelled_joined (lexical_form (cell_at row at)) (pieces_text OfBlank row ps) (of (held k (cell_at row at) h.0)) (blank_spelled row ps t.1 h.1)
+blank_spelled row (Chars s ∷ ps) t h = joined_each IsUtf8 IsUtf8-append (Some s) (pieces_text OfBlank row ps) t.0 (blank_spelled row ps t.1 h.1)
+blank_spelled row (Hole at k ∷ ps) t h = joined_each IsUtf8 IsUtf8-append (lexical_form (cell_at row at)) (pieces_text OfBlank row ps) (of (held k (cell_at row at) h.0)) (blank_spelled row ps t.1 h.1)
   where
     of : Held k (cell_at row at) → Spelled (lexical_form (cell_at row at))
     of (inl e) = subst Spelled (sym (ap lexical_form e)) tt
@@ -273,12 +258,6 @@ blank_spelled row (Hole at k ∷ ps) t h = spelled_joined (lexical_form (cell_at
 no_text : (l : List ℕ) (o : Text) → labelled_of l ≡ None → Spelled o → same_terms (Some (Blank l)) (option_map (term_made OfBlank) o) ≡ false
 no_text l None e h = refl
 no_text l (Some t) e h = is_false _ (λ f. none-some t (sym e ∙ ap labelled_of ((bytes_eq-Decides l (blank_label t)).0 f) ∙ labelled_there t h))
-
-terms_turned : (o p : Option Term) → same_terms o p ≡ same_terms p o
-terms_turned None None = refl
-terms_turned None (Some t) = refl
-terms_turned (Some s) None = refl
-terms_turned (Some s) (Some t) = eq_comm terms_apart s t
 
 abbrev is_fixed : TermExpr → Bool
 is_fixed (Fixed t) = true
@@ -332,7 +311,7 @@ cut_exact row e f (Some ps) None a b c r q s h g =
     let n = no_pieces f b q in
     let c' : is_fixed e ≡ false = first (is_fixed e) (subst (λ x. (is_fixed e && is_fixed x) ≡ false) n.is c) in
     let s' : same_sort OfBlank (sort_of e) ≡ true = subst (λ x. same_sort (sort_of x) (sort_of e) ≡ true) n.is (sort_turned (sort_of e) (sort_of f) s) in
-    terms_turned (made_term row e) (made_term row f) ∙ ap (λ x. same_terms (made_term row x) (made_term row e)) n.is ∙ blank_apart row n.label e n.none c' r s' h.0 h.1
+    both_pass_comm terms_apart (made_term row e) (made_term row f) ∙ ap (λ x. same_terms (made_term row x) (made_term row e)) n.is ∙ blank_apart row n.label e n.none c' r s' h.0 h.1
   where
     first : (b : Bool) → (b && true) ≡ false → b ≡ false
     first true e = e

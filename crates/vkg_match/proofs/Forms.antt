@@ -75,18 +75,14 @@ proper_bin octets from e = record {
   of_family = refl;
 }
 
--- a law of one cell, used at an equal one
-along : (k : SqlType) (d c : Cell) (text : List ℕ) → FromRead k d → d ≡ c → cell_of_field k text ≡ Ok c → Proper k c
-along k d c text h e r = subst (FromRead k) e h text r
-
 pub proper : (k : SqlType) (c : Cell) (text : List ℕ) → IsUtf8 text → cell_of_field k text ≡ Ok c → Proper k c
-proper kind.Text c text u e = along kind.Text (cell.Text text) c text (λ from f. record { form = text; is = refl; spelled = u; read = refl; of_family = refl }) (ok_same (cell.Text text) c e) e
-proper kind.Int c text u e = let h = number_ok (is_integer text) text (cell.Int (canonical text)) c e in along kind.Int (cell.Int (canonical text)) c text (proper_int text (integer-decimal text h.0)) h.2 e
-proper kind.Dec c text u e = let h = number_ok (is_decimal text) text (cell.Dec (canonical text)) c e in along kind.Dec (cell.Dec (canonical text)) c text (proper_dec text h.0) h.2 e
-proper kind.Bool c text u e = let h = field_ok (is_true_word text || is_false_word text) (cell.Bool (is_true_word text)) c e in along kind.Bool (cell.Bool (is_true_word text)) c text (proper_bool (is_true_word text)) h.1 e
+proper kind.Text c text u e = subst (FromRead kind.Text) (ok_same (cell.Text text) c e) (λ from f. record { form = text; is = refl; spelled = u; read = refl; of_family = refl }) text e
+proper kind.Int c text u e = let h = number_ok (is_integer text) text (cell.Int (canonical text)) c e in subst (FromRead kind.Int) h.2 (proper_int text (integer-decimal text h.0)) text e
+proper kind.Dec c text u e = let h = number_ok (is_decimal text) text (cell.Dec (canonical text)) c e in subst (FromRead kind.Dec) h.2 (proper_dec text h.0) text e
+proper kind.Bool c text u e = let h = field_ok (is_true_word text || is_false_word text) (cell.Bool (is_true_word text)) c e in subst (FromRead kind.Bool) h.1 (proper_bool (is_true_word text)) text e
 proper kind.Date c text u e =
     let h = field_ok (is_date text) (cell.Date text) c e in
-    along kind.Date (cell.Date text) c text (λ from f. record { form = text; is = refl; spelled = u; read = read-back kind.Date from (cell.Date text) f; of_family = refl }) h.1 e
-proper kind.Stamp c text u e = let h = stamp_ok (stamp_form text) c e in along kind.Stamp (cell.Stamp h.0) c text (proper_stamp h.0 text h.1) h.2 e
-proper kind.Bin c text u e = let h = octets_ok (decode_of text) c e in along kind.Bin (cell.Bin (encode_upper h.0)) c text (proper_bin h.0) h.1 e
+    subst (FromRead kind.Date) h.1 (λ from f. record { form = text; is = refl; spelled = u; read = read-back kind.Date from (cell.Date text) f; of_family = refl }) text e
+proper kind.Stamp c text u e = let h = stamp_ok (stamp_form text) c e in subst (FromRead kind.Stamp) h.2 (proper_stamp h.0 text h.1) text e
+proper kind.Bin c text u e = let h = octets_ok (decode_of text) c e in subst (FromRead kind.Bin) h.1 (proper_bin h.0) text e
 proper kind.Term c text u e = cc

@@ -11,11 +11,11 @@ use Rattle.vkg_expr.proofs.ReadBack.{truth_back}
 use Rattle.percent_encoding.specs.Percent.{percent_decode}
 use lib.Utf8.{encode, scalar, scalars}
 use Rattle.vkg_lists.proofs.Bools.{and_parts, is_false, same_truth}
-use Rattle.vkg_lists.proofs.Counts.{eq_comm}
+use Rattle.vkg_lists.proofs.Counts.{eq_comm, eq_itself}
+use Rattle.vkg_lists.proofs.Tests.{test_along, bytes_test}
 use Rattle.vkg_lists.proofs.Texts.{bytes_test}
 use Rattle.vkg_terms.specs.Safe.{is_safe_character, is_unreserved, percent, safe, safe_character}
 use Rattle.vkg_terms.proofs.SafeLemmas.{decode-safe, safe_same, plain, plain_percent, octets}
-use Rattle.vkg_terms.proofs.SameLemmas.{bytes_itself}
 use Rattle.vkg_cells.specs.declared.cell.SqlType.{SqlType}
 use Rattle.vkg_cells.specs.declared.cell.Cell.{Cell}
 use Rattle.vkg_cells.specs.declared.cell.Cell.TheVariants as cell
@@ -79,12 +79,9 @@ null_right c d e = ap (λ x. is_known_true (same c x)) e ∙ of c
     of (cell.Bin a) = refl
     of (cell.Term a) = refl
 
-null_form : (c : Cell) → c ≡ cell.Null → lexical_form c ≡ None
-null_form c e = ap lexical_form e
-
 -- ---- the cell that has a form
 form_itself : (c : Cell) (s : List ℕ) → lexical_form c ≡ Some s → same_form (lexical_form c) (Some s) ≡ true
-form_itself c s e = ap (λ o. same_form o (Some s)) e ∙ bytes_itself s
+form_itself c s e = ap (λ o. same_form o (Some s)) e ∙ eq_itself bytes_test s
 
 with_form : (k : SqlType) (c : Cell) → (h : Proper k c) → cell_with k h.form ≡ Some c
 with_form k c h = ap (cell_if h.form) h.read ∙ ap (λ b. cond b (Some c) None) (form_itself c h.form h.is)
@@ -137,7 +134,7 @@ text_there s b u e = rw (is_utf8-from_IsUtf8 s u, e) refl
 source_there : (t : List ℕ) → IsUtf8 t → source_of (safe t) ≡ Some t
 source_there t u =
     let d = decode-safe t u in
-    ap (λ x. text_if x (bytes_eq (safe x) (safe t))) d ∙ text_there t (bytes_eq (safe t) (safe t)) u (bytes_itself (safe t))
+    ap (λ x. text_if x (bytes_eq (safe x) (safe t))) d ∙ text_there t (bytes_eq (safe t) (safe t)) u (eq_itself bytes_test (safe t))
 
 source_is : (s t : List ℕ) → source_of s ≡ Some t → IsUtf8 t × (safe t ≡ s)
 source_is s t e =
@@ -145,9 +142,7 @@ source_is s t e =
     (subst IsUtf8 h.1 h.0.0, ap safe (sym h.1) ∙ (bytes_eq-Decides (safe (percent_decode s)) s).0 h.0.1)
 
 safe_forms : (s t : List ℕ) → IsUtf8 s → IsUtf8 t → bytes_eq s t ≡ bytes_eq (safe s) (safe t)
-safe_forms s t u v = same_truth _ _
-    (λ e. (bytes_eq-Decides (safe s) (safe t)).1 (ap safe ((bytes_eq-Decides s t).0 e)))
-    (λ e. (bytes_eq-Decides s t).1 (safe_same s t u v ((bytes_eq-Decides (safe s) (safe t)).0 e)))
+safe_forms s t u v = sym (test_along bytes_test bytes_test safe s t (safe_same s t u v))
 
 iri_met : (row : Row) (hole : ℕ × SqlType) (h : Proper hole.1 (cell_at row hole.0)) (s : List ℕ) (o : Text) → source_of s ≡ o
     → is_met (where_cell hole (option_and_then (cell_with hole.1) o)) row ≡ bytes_eq s (safe h.form)
@@ -164,8 +159,8 @@ proper_met (OfLit a) row hole h s = cell_met row hole h s (cell_with hole.1 s) r
 
 null_text : (sort : Sort) (row : Row) (at : ℕ) (k : SqlType) → cell_at row at ≡ cell.Null → piece_text sort row (Hole at k) ≡ None
 null_text OfIri row at k e = ap (λ c. option_map safe (lexical_form c)) e
-null_text OfBlank row at k e = null_form (cell_at row at) e
-null_text (OfLit a) row at k e = null_form (cell_at row at) e
+null_text OfBlank row at k e = ap lexical_form e
+null_text (OfLit a) row at k e = ap lexical_form e
 
 -- a hole makes a text where its piece does
 pub hole_met : (sort : Sort) (row : Row) (hole : ℕ × SqlType) (s : List ℕ) → FitsHole hole.1 (cell_at row hole.0)
@@ -185,7 +180,7 @@ forms_held : (sort : Sort) (row : Row) (h i : ℕ × SqlType) → Held h.1 (cell
     → same_form (lexical_form (cell_at row h.0)) (lexical_form (cell_at row i.0)) ≡ same_form (piece_text sort row (Hole h.0 h.1)) (piece_text sort row (Hole i.0 i.1))
 forms_held OfIri row h i (inl e) q = ap (λ c. same_form (lexical_form c) (lexical_form (cell_at row i.0))) e ∙ sym (ap (λ o. same_form o (piece_text OfIri row (Hole i.0 i.1))) (null_text OfIri row h.0 h.1 e))
 forms_held OfIri row h i (inr p) (inl e) =
-    ap (same_form (lexical_form (cell_at row h.0))) (null_form (cell_at row i.0) e) ∙ form_none (lexical_form (cell_at row h.0))
+    ap (same_form (lexical_form (cell_at row h.0))) (ap lexical_form e) ∙ form_none (lexical_form (cell_at row h.0))
     ∙ sym (ap (same_form (piece_text OfIri row (Hole h.0 h.1))) (null_text OfIri row i.0 i.1 e) ∙ form_none (piece_text OfIri row (Hole h.0 h.1)))
 forms_held OfIri row h i (inr p) (inr q) =
     (λ j. same_form (p.is j) (q.is j)) ∙ safe_forms p.form q.form p.spelled q.spelled ∙ (λ j. same_form (option_map safe (sym p.is j)) (option_map safe (sym q.is j)))
@@ -195,7 +190,7 @@ forms_held (OfLit a) row h i p q = refl
 cells_held : (row : Row) (h i : ℕ × SqlType) → family h.1 ≡ family i.1 → Held h.1 (cell_at row h.0) → Held i.1 (cell_at row i.0)
     → is_known_true (same (cell_at row h.0) (cell_at row i.0)) ≡ same_form (lexical_form (cell_at row h.0)) (lexical_form (cell_at row i.0))
 cells_held row h i f (inl e) q = null_left (cell_at row h.0) (cell_at row i.0) e ∙ sym (ap (λ c. same_form (lexical_form c) (lexical_form (cell_at row i.0))) e)
-cells_held row h i f (inr p) (inl e) = null_right (cell_at row h.0) (cell_at row i.0) e ∙ sym (ap (same_form (lexical_form (cell_at row h.0))) (null_form (cell_at row i.0) e) ∙ form_none (lexical_form (cell_at row h.0)))
+cells_held row h i f (inr p) (inl e) = null_right (cell_at row h.0) (cell_at row i.0) e ∙ sym (ap (same_form (lexical_form (cell_at row h.0))) (ap lexical_form e) ∙ form_none (lexical_form (cell_at row h.0)))
 cells_held row h i f (inr p) (inr q) =
     same_known (cell_at row h.0) (cell_at row i.0) p.form q.form (p.of_family ∙ f ∙ sym q.of_family) p.is q.is ∙ (λ j. same_form (sym p.is j) (sym q.is j))
 

@@ -4,12 +4,11 @@ use Rattle.std.specs.Prelude.{Some, None, bytes_eq, IfSome}
 use Rattle.std.specs.List.{AllByRecursion}
 use Rattle.std.specs.Str.{NonePass, NoCharPasses}
 use Rattle.std.proofs.lemmas.Slice.Eq.{bytes_eq-Decides}
-use Rattle.std.proofs.lemmas.Str.{encode_same, NoCharPasses-append}
+use Rattle.std.proofs.lemmas.Str.{encode_same}
 use Rattle.std.proofs.Math.Bool.{and-false, and_assoc}
 use lib.Utf8.{encode, encodes}
 use Rattle.vkg_lists.specs.Options.{joined}
 use Rattle.vkg_lists.proofs.Bools.{and_parts, is_false, same_truth}
-use Rattle.vkg_lists.proofs.Onto.{joined_each}
 use Rattle.vkg_terms.proofs.Octets.{not_nothing}
 use Rattle.vkg_cells.specs.Order.{same_form}
 use Rattle.vkg_expr.proofs.TermValues.{Text}
@@ -44,9 +43,6 @@ module _ (p : ℕ → Bool) where
   -- no character of the text, if there is one, passes
   abbrev pub Clear : Text → Type 0
   Clear o = IfSome o (NoCharPasses p)
-
-  pub clear_joined : (a b : Text) → Clear a → Clear b → Clear (joined a b)
-  clear_joined a b h k = joined_each (NoCharPasses p) (NoCharPasses-append p) a b h k
 
   abbrev pub ClearPart : (Text × ℕ) → Type 0
   ClearPart x = Clear x.0 × (p x.1 ≡ true)

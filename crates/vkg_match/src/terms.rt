@@ -105,11 +105,7 @@ fn is_resolved(e: &TermExpr) -> bool
 fn text_of_term(alloc: Global, term: &Term) -> Result<Expr, Memory>
     ensures { IfOk result (λ x. expr_seen x ≡ text_const (term_name term.now)) }
 {
-    match term {
-        Term::Iri(text) => text_constant(alloc, text.as_str()),
-        Term::Blank(label) => text_constant(alloc, label.as_str()),
-        Term::Lit(text, _) => text_constant(alloc, text.as_str()),
-    }
+    text_constant(alloc, term.name())
 }
 
 fn whole_text(alloc: Global, e: &TermExpr) -> Result<Expr, Memory>

@@ -27,14 +27,9 @@ by_escape c letter v (inr (quote, back, inline, p)) is = absurd (back (octet c 9
 pub meant_is : (c letter : ℕ) → escaped c ≡ 92 ∷ letter ∷ [] → unescaped letter ≡ c
 meant_is c letter is = by_escape c letter (escaped c) (written c) is
 
-pub means_feed : (e c : ℕ) → e ≡ 110 → unescaped e ≡ c → 10 ≡ c
-means_feed e c h m = ap unescaped (sym h) ∙ m
-
-pub means_return : (e c : ℕ) → e ≡ 114 → unescaped e ≡ c → 13 ≡ c
-means_return e c h m = ap unescaped (sym h) ∙ m
-
-pub means_tab : (e c : ℕ) → e ≡ 116 → unescaped e ≡ c → 9 ≡ c
-means_tab e c h m = ap unescaped (sym h) ∙ m
+-- what a letter stands for, by its number
+pub means_letter : (n e c : ℕ) → e ≡ n → unescaped e ≡ c → unescaped n ≡ c
+means_letter n e c h m = ap unescaped (sym h) ∙ m
 
 pub means_itself : (e c : ℕ) → e ≢ 110 → e ≢ 114 → e ≢ 116 → unescaped e ≡ c → e ≡ c
 means_itself e c feed return tab m = grind (arith, nat_tests)

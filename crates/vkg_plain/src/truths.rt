@@ -13,13 +13,12 @@ use crate::fault::PlainFault;
 use std::alloc::Global;
 use vkg_base::{Memory, Text};
 use vkg_cells::is_wide_number;
+use vkg_terms::vocabulary::XSD_BOOLEAN;
 use vkg_terms::{Annotation, Term};
 use vkg_values::{
     Compare, Take, Test, compare_terms, conjunction, disjunction, effective_truth, negation,
     take_of, test_of,
 };
-
-const XSD_BOOLEAN: &str = "http://www.w3.org/2001/XMLSchema#boolean";
 
 /// The literal of a truth.
 pub fn truth_term(alloc: Global, truth: bool) -> Result<Term, Memory>

@@ -1,22 +1,13 @@
 -- Cells and rows that are one are equal.
-use Rattle.std.proofs.Common.{◌≡◌, refl, sym, ◌∙◌, ap, Bool, true, false}
+use Rattle.std.proofs.Common.{◌≡◌, refl, sym, ◌∙◌, ap, true}
+use Rattle.std.specs.Cmp.{booleans_Decides}
 use Rattle.vkg_lists.specs.Sets.{IsEqualityTest}
 use Rattle.vkg_lists.proofs.Counts.{eq_itself, eq_same}
-use Rattle.vkg_lists.proofs.Tests.{list_test}
-use Rattle.vkg_terms.proofs.SameLemmas.{bytes_itself, same_bytes, terms_apart}
+use Rattle.vkg_lists.proofs.Tests.{list_test, bytes_test}
+use Rattle.vkg_terms.proofs.SameLemmas.{terms_apart}
 use Rattle.vkg_cells.specs.declared.cell.Cell.{Cell}
 use Rattle.vkg_cells.specs.declared.cell.Cell.TheVariants as cell
-use Rattle.vkg_plan.specs.Rows.{one_cell, one_row, truth_eq}
-
-same_bool : (b c : Bool) → truth_eq b c ≡ true → b ≡ c
-same_bool true true e = refl
-same_bool true false e = cc
-same_bool false true e = cc
-same_bool false false e = refl
-
-bool_itself : (b : Bool) → truth_eq b b ≡ true
-bool_itself true = refl
-bool_itself false = refl
+use Rattle.vkg_plan.specs.Rows.{one_cell, one_row}
 
 same_cell : (a b : Cell) → one_cell a b ≡ true → a ≡ b
 same_cell cell.Null cell.Null e = refl
@@ -29,7 +20,7 @@ same_cell cell.Null (cell.Stamp y) e = cc
 same_cell cell.Null (cell.Bin y) e = cc
 same_cell cell.Null (cell.Term y) e = cc
 same_cell (cell.Text x) cell.Null e = cc
-same_cell (cell.Text x) (cell.Text y) e = ap cell.Text (same_bytes x y e)
+same_cell (cell.Text x) (cell.Text y) e = ap cell.Text (eq_same bytes_test x y e)
 same_cell (cell.Text x) (cell.Int y) e = cc
 same_cell (cell.Text x) (cell.Dec y) e = cc
 same_cell (cell.Text x) (cell.Bool y) e = cc
@@ -39,7 +30,7 @@ same_cell (cell.Text x) (cell.Bin y) e = cc
 same_cell (cell.Text x) (cell.Term y) e = cc
 same_cell (cell.Int x) cell.Null e = cc
 same_cell (cell.Int x) (cell.Text y) e = cc
-same_cell (cell.Int x) (cell.Int y) e = ap cell.Int (same_bytes x y e)
+same_cell (cell.Int x) (cell.Int y) e = ap cell.Int (eq_same bytes_test x y e)
 same_cell (cell.Int x) (cell.Dec y) e = cc
 same_cell (cell.Int x) (cell.Bool y) e = cc
 same_cell (cell.Int x) (cell.Date y) e = cc
@@ -49,7 +40,7 @@ same_cell (cell.Int x) (cell.Term y) e = cc
 same_cell (cell.Dec x) cell.Null e = cc
 same_cell (cell.Dec x) (cell.Text y) e = cc
 same_cell (cell.Dec x) (cell.Int y) e = cc
-same_cell (cell.Dec x) (cell.Dec y) e = ap cell.Dec (same_bytes x y e)
+same_cell (cell.Dec x) (cell.Dec y) e = ap cell.Dec (eq_same bytes_test x y e)
 same_cell (cell.Dec x) (cell.Bool y) e = cc
 same_cell (cell.Dec x) (cell.Date y) e = cc
 same_cell (cell.Dec x) (cell.Stamp y) e = cc
@@ -59,7 +50,7 @@ same_cell (cell.Bool x) cell.Null e = cc
 same_cell (cell.Bool x) (cell.Text y) e = cc
 same_cell (cell.Bool x) (cell.Int y) e = cc
 same_cell (cell.Bool x) (cell.Dec y) e = cc
-same_cell (cell.Bool x) (cell.Bool y) e = ap cell.Bool (same_bool x y e)
+same_cell (cell.Bool x) (cell.Bool y) e = ap cell.Bool ((booleans_Decides x y).0 e)
 same_cell (cell.Bool x) (cell.Date y) e = cc
 same_cell (cell.Bool x) (cell.Stamp y) e = cc
 same_cell (cell.Bool x) (cell.Bin y) e = cc
@@ -69,7 +60,7 @@ same_cell (cell.Date x) (cell.Text y) e = cc
 same_cell (cell.Date x) (cell.Int y) e = cc
 same_cell (cell.Date x) (cell.Dec y) e = cc
 same_cell (cell.Date x) (cell.Bool y) e = cc
-same_cell (cell.Date x) (cell.Date y) e = ap cell.Date (same_bytes x y e)
+same_cell (cell.Date x) (cell.Date y) e = ap cell.Date (eq_same bytes_test x y e)
 same_cell (cell.Date x) (cell.Stamp y) e = cc
 same_cell (cell.Date x) (cell.Bin y) e = cc
 same_cell (cell.Date x) (cell.Term y) e = cc
@@ -79,7 +70,7 @@ same_cell (cell.Stamp x) (cell.Int y) e = cc
 same_cell (cell.Stamp x) (cell.Dec y) e = cc
 same_cell (cell.Stamp x) (cell.Bool y) e = cc
 same_cell (cell.Stamp x) (cell.Date y) e = cc
-same_cell (cell.Stamp x) (cell.Stamp y) e = ap cell.Stamp (same_bytes x y e)
+same_cell (cell.Stamp x) (cell.Stamp y) e = ap cell.Stamp (eq_same bytes_test x y e)
 same_cell (cell.Stamp x) (cell.Bin y) e = cc
 same_cell (cell.Stamp x) (cell.Term y) e = cc
 same_cell (cell.Bin x) cell.Null e = cc
@@ -89,7 +80,7 @@ same_cell (cell.Bin x) (cell.Dec y) e = cc
 same_cell (cell.Bin x) (cell.Bool y) e = cc
 same_cell (cell.Bin x) (cell.Date y) e = cc
 same_cell (cell.Bin x) (cell.Stamp y) e = cc
-same_cell (cell.Bin x) (cell.Bin y) e = ap cell.Bin (same_bytes x y e)
+same_cell (cell.Bin x) (cell.Bin y) e = ap cell.Bin (eq_same bytes_test x y e)
 same_cell (cell.Bin x) (cell.Term y) e = cc
 same_cell (cell.Term x) cell.Null e = cc
 same_cell (cell.Term x) (cell.Text y) e = cc
@@ -103,13 +94,13 @@ same_cell (cell.Term x) (cell.Term y) e = ap cell.Term (eq_same terms_apart x y 
 
 cell_itself : (a : Cell) → one_cell a a ≡ true
 cell_itself cell.Null = refl
-cell_itself (cell.Text x) = bytes_itself x
-cell_itself (cell.Int x) = bytes_itself x
-cell_itself (cell.Dec x) = bytes_itself x
-cell_itself (cell.Bool x) = bool_itself x
-cell_itself (cell.Date x) = bytes_itself x
-cell_itself (cell.Stamp x) = bytes_itself x
-cell_itself (cell.Bin x) = bytes_itself x
+cell_itself (cell.Text x) = eq_itself bytes_test x
+cell_itself (cell.Int x) = eq_itself bytes_test x
+cell_itself (cell.Dec x) = eq_itself bytes_test x
+cell_itself (cell.Bool x) = (booleans_Decides x x).1 refl
+cell_itself (cell.Date x) = eq_itself bytes_test x
+cell_itself (cell.Stamp x) = eq_itself bytes_test x
+cell_itself (cell.Bin x) = eq_itself bytes_test x
 cell_itself (cell.Term x) = eq_itself terms_apart x
 
 cells_apart : IsEqualityTest one_cell

@@ -4,17 +4,18 @@ use Rattle.std.proofs.Math.Bool.{and-false}
 use Rattle.std.specs.Prelude.{Option, Some, None, is_some, option_map, if◌then◌else◌}
 use Rattle.std.specs.Cmp.Lexicographic.{pointwise}
 use Rattle.vkg_lists.specs.Options.{with_first}
+use Rattle.vkg_lists.proofs.Counts.{eq_itself}
 use Rattle.vkg_lists.proofs.Onto.{onto, onto_none, joined_nil}
+use Rattle.vkg_lists.proofs.Tests.{list_test}
 use Rattle.vkg_expr.specs.Typing.{same_kind}
 use Rattle.vkg_plan.specs.declared.plan.Plan.{Plan as PlanValue}
 use Rattle.vkg_plan.specs.Kinds.{Kinds, Tables, alike, are_alike, beside_all, is_alike, side_by_side, kinds_of_each, plan_kinds}
 use Rattle.vkg_plan.specs.Plan.{plans}
 use Rattle.vkg_plan.specs.Seen.{plan_seen}
-use Rattle.vkg_expr.proofs.KindLists.{itself}
+use Rattle.vkg_expr.proofs.ValueFits.{kinds_apart}
 
 pub themselves : (ks : Kinds) → pointwise same_kind ks ks ≡ true
-themselves [] = refl
-themselves (k ∷ ks) = rw (itself k) (themselves ks)
+themselves ks = eq_itself (list_test kinds_apart) ks
 
 pub are_alike-more : (ks : Kinds) (a : Option Kinds) (o : Option (List Kinds)) → are_alike ks (with_first a o) ≡ (is_alike ks a && are_alike ks o)
 are_alike-more ks None o = refl

@@ -1,18 +1,20 @@
 -- The rows of a well-typed plan have a cell for each of its columns, NULL or of that column's kind.
 use Rattle.std.proofs.Common.{◌≡◌, Bool, true, false, List, [], ◌∷◌, ◌++◌, map, length, refl, sym, ap, subst}
-use Rattle.std.specs.Prelude.{IfSome, Option, Some, None, option_and_then, replicate, if◌then◌else◌, is_some}
+use Rattle.std.specs.Prelude.{IfSome, Option, Some, None, replicate, if◌then◌else◌, is_some}
 use Rattle.std.specs.List.{filter, flat_map, list_all, AllZip}
 use Rattle.std.specs.Option.{option_map_or}
 use Rattle.std.specs.Cmp.Lexicographic.{pointwise}
 use Rattle.std.proofs.lemmas.Option.{same_Some, cond_some, option_and_then_some}
+use Rattle.vkg_lists.proofs.Counts.{eq_same}
 use Rattle.vkg_lists.proofs.Each.{recursion_filter, recursion_map_weaken, recursion_distinct}
 use Rattle.vkg_lists.proofs.Members.{recursion_append}
 use Rattle.vkg_lists.proofs.Onto.{first_given, both_given}
+use Rattle.vkg_lists.proofs.Tests.{list_test}
 use Rattle.vkg_lists.specs.Options.{joined}
 use Rattle.vkg_cells.specs.declared.cell.Cell.TheVariants as cell
 use Rattle.vkg_cells.specs.declared.cell.SqlType.TheVariants as kind
 use Rattle.vkg_schema.specs.Rows.{Database, Row}
-use Rattle.vkg_expr.proofs.ValueFits.{kind_same, null_fits, values-fit}
+use Rattle.vkg_expr.proofs.ValueFits.{kinds_apart, null_fits, values-fit}
 use Rattle.vkg_expr.proofs.TypedParts.{fits_row, kinds-append, one_is}
 use Rattle.vkg_expr.specs.Expr.{Expr, exprs}
 use Rattle.vkg_expr.specs.Laws.{HasKinds}
@@ -21,8 +23,8 @@ use Rattle.vkg_expr.specs.Value.{holds, values_of}
 use Rattle.vkg_plan.specs.Kinds.{Kinds, Tables, alike, beside_all, checked, side_by_side, kinds_of_each, plan_kinds, width}
 use Rattle.vkg_plan.specs.Laws.{HasRowsOf, HaveKinds, TablesFit}
 use Rattle.vkg_plan.specs.Plan.{Plan, Plans, Unit as UnitPlan, Empty, Scan, Select, Project, Join, Left, UnionAll, Distinct, Nil, More}
-use Rattle.vkg_plan.specs.Rows.{is_alone, left_pairs, one_row, pairs, product, rows_of, rows_of_each}
 use Rattle.vkg_plan.proofs.KindLists.{themselves}
+use Rattle.vkg_plan.specs.Rows.{is_alone, left_pairs, one_row, pairs, product, rows_of, rows_of_each}
 use Rattle.vkg_lists.proofs.Bools.{and_parts}
 use Rattle.vkg_lists.proofs.Results.{some_if}
 
@@ -53,16 +55,6 @@ left-fit pass ks ls xs ys h k = recursion_append (HasKinds (ks ++ ls)) (filter p
     (recursion_map_weaken (HasKinds ks) (HasKinds (ks ++ ls)) (λ l. l ++ replicate (length ls) cell.Null) (λ l e. kinds-append ks ls l (replicate (length ls) cell.Null) e (nulls-fit ls)) (filter (is_alone pass ys) xs)
     (recursion_filter (HasKinds ks) (is_alone pass ys) xs h))
 
-same_kinds : (ks ls : Kinds) → pointwise same_kind ks ls ≡ true → ks ≡ ls
-same_kinds [] [] e = refl
-same_kinds [] (l ∷ ls) e = cc
-same_kinds (k ∷ ks) [] e = cc
-same_kinds (k ∷ ks) (l ∷ ls) e =
-    let b = and_parts (same_kind k l) (pointwise same_kind ks ls) e in
-    let first = kind_same k l b.0 in
-    let rest = same_kinds ks ls b.1 in
-    cc
-
 union-fit : (ks : Kinds) (kss : List Kinds) (rss : List (List Row)) → EachHasKinds kss rss → list_all (pointwise same_kind ks) kss ≡ true → HaveKinds ks (flat_map (λ rows. rows) rss)
 union-fit ks [] [] h e = tt
 union-fit ks [] (rs ∷ rss) h e = absurd h
@@ -70,7 +62,7 @@ union-fit ks (ls ∷ kss) [] h e = absurd h
 union-fit ks (ls ∷ kss) (rs ∷ rss) h e =
     let b = and_parts (pointwise same_kind ks ls) (list_all (pointwise same_kind ks) kss) e in
     recursion_append (HasKinds ks) rs (flat_map (λ rows. rows) rss)
-    (subst (λ m. HaveKinds m rs) (sym (same_kinds ks ls b.0)) h.0) (union-fit ks kss rss h.1 b.1)
+    (subst (λ m. HaveKinds m rs) (sym (eq_same (list_test kinds_apart) ks ls b.0)) h.0) (union-fit ks kss rss h.1 b.1)
 
 checked_is : (c : Expr) (o : Option Kinds) (ks : Kinds) → checked c o ≡ Some ks → o ≡ Some ks
 checked_is c None ks e = cc
@@ -84,9 +76,6 @@ pub beside_is : (o : Option (List Kinds)) (ks : Kinds) → beside_all o ≡ Some
 beside_is None ks e = cc
 beside_is (Some []) ks e = cc
 beside_is (Some (ls ∷ kss)) ks e = (ls ∷ kss, refl, same_Some (side_by_side (ls ∷ kss)) ks e)
-
-and_then_is : (f : Kinds → Option Kinds) (o : Option Kinds) (ks : Kinds) → option_and_then f o ≡ Some ks → (ls : Kinds) × (o ≡ Some ls) × (f ls ≡ Some ks)
-and_then_is f o ks e = option_and_then_some f o ks e (λ x i j. (x, i, j))
 
 alike_is : (o : Option (List Kinds)) (ks : Kinds) → alike o ≡ Some ks → (kss : List Kinds) × (o ≡ Some kss) × (list_all (pointwise same_kind ks) kss ≡ true)
 alike_is None ks e = cc
@@ -107,9 +96,8 @@ module _ (s : Tables) (db : Database) (t : TablesFit s db) where
     rows-fit (Empty ls) ks e = tt
     rows-fit (Scan table) ks e = t table ks e
     rows-fit (Select c p) ks e = recursion_filter (HasKinds ks) (holds c) (rows_of s p db) (rows-fit p ks (checked_is c (plan_kinds s p) ks e))
-    rows-fit (Project es p) ks e =
-        let a = and_then_is (kinds_of (exprs es)) (plan_kinds s p) ks e in
-        recursion_map_weaken (HasKinds a.0) (HasKinds ks) (values_of (exprs es)) (λ row h. values-fit (exprs es) a.0 ks row (fits_row a.0 row h) a.2) (rows_of s p db) (rows-fit p a.0 a.1)
+    rows-fit (Project es p) ks e = option_and_then_some (kinds_of (exprs es)) (plan_kinds s p) ks e (λ ls i j.
+        recursion_map_weaken (HasKinds ls) (HasKinds ks) (values_of (exprs es)) (λ row h. values-fit (exprs es) ls ks row (fits_row ls row h) j) (rows_of s p db) (rows-fit p ls i))
     rows-fit (Join ps c) ks e =
         let a = beside_is (kinds_of_each s ps) ks (checked_is c (beside_all (kinds_of_each s ps)) ks e) in
         recursion_filter (HasKinds ks) (holds c) (product (rows_of_each s ps db))

@@ -1,6 +1,6 @@
 -- The kinds of a plan's columns over a schema; none where it is ill typed.
 use Rattle.std.specs.Prelude.{ℕ, Bool, false, List, [], ◌∷◌, ◌++◌, length, Option, Some, None, option_and_then, is_some, if◌then◌else◌}
-use Rattle.std.specs.List.{list_all}
+use Rattle.std.specs.List.{flat_map, list_all}
 use Rattle.std.specs.Cmp.Lexicographic.{pointwise}
 use Rattle.std.specs.Option.{option_map_or}
 use Rattle.vkg_lists.specs.Options.{with_first, joined}
@@ -26,8 +26,7 @@ checked c (Some ks) = if is_one kind.Bool (kind_of c ks) then Some ks else None
 
 -- one after another
 abbrev pub side_by_side : List Kinds → Kinds
-side_by_side [] = []
-side_by_side (ks ∷ kss) = ks ++ side_by_side kss
+side_by_side kss = flat_map (λ ks. ks) kss
 
 -- the kinds of one or more after each other
 abbrev pub beside_all : Option (List Kinds) → Option Kinds

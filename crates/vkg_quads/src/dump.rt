@@ -16,7 +16,7 @@ use vkg_cells::Cell;
 use vkg_index::{grouped, key_of};
 use vkg_maps::{Mapping, QuadRule};
 use vkg_schema::agree;
-use vkg_tables::Database;
+use vkg_tables::{Database, child_columns, parent_columns};
 
 /// The lines of the quads of the dataset, each once, ascending by bytes.
 pub fn dump_lines(alloc: Global, mapping: &Mapping, db: &Database) -> Result<Lines, Memory>
@@ -126,18 +126,6 @@ fn push_joined(
         )?;
     }
     Ok(())
-}
-
-fn child_columns(alloc: Global, conditions: &[(usize, usize)]) -> Result<Vec<usize>, Memory>
-    ensures { IfOk result (λ v. v.items ≡ map (λ p. p.0) conditions.now) }
-{
-    Ok(conditions.iter().map(|pair| pair.0).collect(alloc)?)
-}
-
-fn parent_columns(alloc: Global, conditions: &[(usize, usize)]) -> Result<Vec<usize>, Memory>
-    ensures { IfOk result (λ v. v.items ≡ map (λ p. p.1) conditions.now) }
-{
-    Ok(conditions.iter().map(|pair| pair.1).collect(alloc)?)
 }
 
 /// The lines of a row and the parents that it agrees with.

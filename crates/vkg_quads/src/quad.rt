@@ -11,6 +11,7 @@ use std::alloc::Global;
 use vkg_base::Memory;
 use vkg_cells::Cell;
 use vkg_maps::{QuadRule, TermMap};
+use vkg_terms::vocabulary::DEFAULT_GRAPH;
 use vkg_terms::{Term, quad_line};
 
 /// The line of the quad of a row and its object's row, if there is one.
@@ -55,8 +56,6 @@ fn target_of(
         },
     }
 }
-
-const DEFAULT_GRAPH: &str = "http://www.w3.org/ns/r2rml#defaultGraph";
 
 fn named(name: Term) -> Option<Term>
     ensures { result ≡ graph_name name }

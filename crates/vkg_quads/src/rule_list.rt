@@ -6,6 +6,7 @@ use std::alloc::Global;
 use vkg_base::{Items, Memory, Text};
 use vkg_maps::{Join, Mapping, ObjectMap, PredicateObjectMap, QuadRule, TermMap, TriplesMap};
 use vkg_terms::Term;
+use vkg_terms::vocabulary::RDF_TYPE;
 
 /// The quad rules of a mapping, in its order.
 pub fn rules(alloc: Global, mapping: &Mapping) -> Result<Items<QuadRule>, Memory>
@@ -145,8 +146,6 @@ fn class_map(alloc: Global, m: &TriplesMap) -> Result<PredicateObjectMap, Memory
         graphs,
     })
 }
-
-const RDF_TYPE: &str = "http://www.w3.org/1999/02/22-rdf-syntax-ns#type";
 
 fn rule(
     alloc: Global,

@@ -4,6 +4,7 @@ use Rattle.std.specs.Prelude.{IfErr, IfOk}
 use Rattle.std.specs.List.{Contains, enumerate_from}
 use Rattle.std.proofs.lemmas.Bool.{ltb-true, ltb-false}
 use Rattle.std.proofs.lemmas.Result.{IfErr-weaker, IfOk-weaker}
+use Rattle.std.proofs.Math.Nat.{eq-or-lt_of_le}
 use Rattle.vkg_lists.proofs.Numbered.{numbered_from}
 use Rattle.vkg_lists.specs.Results.{unless, in_front}
 use Rattle.vkg_lists.proofs.Members.{Contains-none, Contains-here, Contains-there, Contains-cons_cases}
@@ -93,11 +94,8 @@ module _ (triples : List Triple) (schema : List Table) (base : List ℕ) where
         first = λ g h. ⊎_elim (λ l. inr (inl l)) (λ i. order f g i.0 i.1) (r.first (g.map, h.node) g.check h.is_map h.fails);
       }
     where
-      low : (a b : ℕ) → a ≤ b → (a ≡ b) ⊎ (a < b)
-      low a b h = grind (arith, h)
-
       order : (f g : MapFault) → f.map ≡ g.map → f.check ≤ g.check → (f ≡ g) ⊎ Precedes f g
-      order f g i h = ⊎_elim (λ e. inl (λ k. record { check = e k; map = i k })) (λ l. inr (inr (i, l))) (low f.check g.check h)
+      order f g i h = ⊎_elim (λ e. inl (λ k. record { check = e k; map = i k })) (λ l. inr (inr (i, l))) (eq-or-lt_of_le h)
 
   faultless : (made : List TriplesMap) → read ≡ Ok made → IsFaultless triples schema base maps
   faultless made e = λ f h. no_fault (OnTriplesMap triples schema base maps) (triples_map triples schema base maps) (on_triples_map triples schema base maps) 1 maps made e (f.map, h.node) f.check h.is_map h.fails

@@ -12,19 +12,16 @@ use Rattle.vkg_r2rml.specs.Gathered.{IsGathered}
 use Rattle.vkg_r2rml.specs.Checked.{Checked, all_of}
 
 module _ {A : Type 0} where
-  least_more : (parts : List (Checked A)) (p : Checked A) → least_of result_err (parts ++ p ∷ []) ≡ lesser (least_of result_err parts) (result_err p)
-  least_more parts p = fold_push (λ best q. lesser best (result_err q)) None parts p
-
   pub value_added : (parts : List (Checked A)) (p : Checked A) (a : A) (old new : Gathered A) → p ≡ Ok a → new.values ≡ old.values ++ a ∷ [] → new.fault ≡ old.fault → IsGathered parts old → IsGathered (parts ++ p ∷ []) new
   value_added parts p a old new is values fault h = record {
     values = values ∙ ap (λ l. l ++ a ∷ []) h.values ∙ sym (filter_map-append result_ok parts (Ok a ∷ [])) ∙ ap (λ q. filter_map result_ok (parts ++ q ∷ [])) (sym is);
-    fault = fault ∙ h.fault ∙ sym (lesser-none (least_of result_err parts)) ∙ ap (λ q. lesser (least_of result_err parts) (result_err q)) (sym is) ∙ sym (least_more parts p);
+    fault = fault ∙ h.fault ∙ sym (lesser-none (least_of result_err parts)) ∙ ap (λ q. lesser (least_of result_err parts) (result_err q)) (sym is) ∙ sym (fold_push (λ best q. lesser best (result_err q)) None parts p);
   }
 
   pub fault_added : (parts : List (Checked A)) (p : Checked A) (check : ℕ) (old new : Gathered A) → p ≡ Err check → new.values ≡ old.values → new.fault ≡ lesser old.fault (Some check) → IsGathered parts old → IsGathered (parts ++ p ∷ []) new
   fault_added parts p check old new is values fault h = record {
     values = values ∙ h.values ∙ sym (filter_map-append result_ok parts (Err check ∷ []) ∙ append-nil (filter_map result_ok parts)) ∙ ap (λ q. filter_map result_ok (parts ++ q ∷ [])) (sym is);
-    fault = fault ∙ ap (λ l. lesser l (Some check)) h.fault ∙ ap (λ q. lesser (least_of result_err parts) (result_err q)) (sym is) ∙ sym (least_more parts p);
+    fault = fault ∙ ap (λ l. lesser l (Some check)) h.fault ∙ ap (λ q. lesser (least_of result_err parts) (result_err q)) (sym is) ∙ sym (fold_push (λ best q. lesser best (result_err q)) None parts p);
   }
 
   -- where a loop over parts ends, all are read

@@ -76,15 +76,12 @@ module _ {X A : Type 0} (P : X → ℕ → Type 0) (f : X → Checked A) (xs : L
   fault_is (Ok a) n e = cc
   fault_is (Err m) n e = cc
 
-  fault_of : (c : Checked A) (n : ℕ) → c ≡ Err n → result_err c ≡ Some n
-  fault_of c n e = ap result_err e
-
   among : (found : Option ℕ) → least_of result_err (map f xs) ≡ found → AnswersLeast (Among xs P) (unless found (Ok (filter_map result_ok (map f xs))))
   among None e = record {
     fails = λ check h. absurd (ok_err _ check h);
     least = λ check h.
         let r = (each h.0 h.1).least check h.2 in
-        absurd (none-some r.0 (sym (least_of-none result_err (map f xs) e (f h.0) (Contains-map f xs h.0 h.1)) ∙ fault_of (f h.0) r.0 r.1));
+        absurd (none-some r.0 (sym (least_of-none result_err (map f xs) e (f h.0) (Contains-map f xs h.0 h.1)) ∙ ap result_err r.1));
   }
   among (Some c) e =
       let l = least_of-some result_err (map f xs) c e in
@@ -95,7 +92,7 @@ module _ {X A : Type 0} (P : X → ℕ → Type 0) (f : X → Checked A) (xs : L
             (m.0, m.1, (each m.0 m.1).fails check (m.2 ∙ fault_is l.item check (l.here ∙ ap (λ (n : ℕ). Some n) is)));
         least = λ check h.
             let r = (each h.0 h.1).least check h.2 in
-            let low : c ≤ r.0 = l.least (f h.0) r.0 (Contains-map f xs h.0 h.1) (fault_of (f h.0) r.0 r.1) in
+            let low : c ≤ r.0 = l.least (f h.0) r.0 (Contains-map f xs h.0 h.1) (ap result_err r.1) in
             (c, refl, omega (arith, low, r.2));
       }
 

@@ -4,9 +4,8 @@ use Rattle.std.specs.Prelude.{Option, Some, None, Ok, Err, filter_map, ok_or}
 use Rattle.std.specs.List.{AllByRecursion, cons_option}
 use Rattle.std.specs.Result.{result_ok, result_err}
 use Rattle.vkg_lists.proofs.Places.{least_of-kept}
-use Rattle.vkg_lists.specs.Results.{unless}
 use Rattle.vkg_lists.specs.Places.{least_of}
-use Rattle.vkg_lists.proofs.Results.{ok_same}
+use Rattle.vkg_lists.proofs.Results.{ok_same, unless_given}
 use Rattle.vkg_r2rml.specs.Checked.{Checked, both, all_of, and_then}
 
 module _ {A B : Type 0} where
@@ -29,11 +28,9 @@ module _ {A B : Type 0} where
       of (Err check) e rest = rest
 
   pub of_all : (P : B → Type 0) (f : A → Checked B) (xs : List A) (ys : List B) → ((x : A) (y : B) → f x ≡ Ok y → P y) → all_of (map f xs) ≡ Ok ys → AllByRecursion P ys
-  of_all P f xs ys h e = subst (AllByRecursion P) (unfailed (least_of result_err (map f xs)) e) (values P f xs h)
-    where
-      unfailed : (o : Option ℕ) → unless o (Ok (filter_map result_ok (map f xs))) ≡ Ok ys → filter_map result_ok (map f xs) ≡ ys
-      unfailed None e = ok_same (filter_map result_ok (map f xs)) ys e
-      unfailed (Some check) e = cc
+  of_all P f xs ys h e =
+      let made = filter_map result_ok (map f xs) in
+      subst (AllByRecursion P) (ok_same made ys (unless_given (least_of result_err (map f xs)) (Ok made) ys e).1) (values P f xs h)
 
 module _ {A : Type 0} where
   pub of_option : (o : Option A) (check : ℕ) (a : A) → ok_or o check ≡ Ok a → o ≡ Some a
@@ -51,13 +48,7 @@ module _ {A B : Type 0} where
       parts c = c ∷ map f xs
 
       of : (c : Checked B) → all_of (parts c) ≡ Ok ys → (y : B) × (zs : List B) × (ys ≡ y ∷ zs)
-      of (Ok y) e = (y, filter_map result_ok (map f xs), unfailed (least_of result_err (parts (Ok y))) e)
-        where
-          unfailed : (o : Option ℕ) → unless o (Ok (y ∷ filter_map result_ok (map f xs))) ≡ Ok ys → ys ≡ y ∷ filter_map result_ok (map f xs)
-          unfailed None e = sym (ok_same (y ∷ filter_map result_ok (map f xs)) ys e)
-          unfailed (Some check) e = cc
-      of (Err check) e = failed (least_of result_err (parts (Err check))) refl e
-        where
-          failed : (o : Option ℕ) → least_of result_err (parts (Err check)) ≡ o → unless o (Ok (filter_map result_ok (map f xs))) ≡ Ok ys → (y : B) × (zs : List B) × (ys ≡ y ∷ zs)
-          failed None w e = absurd (least_of-kept result_err check (map f xs) w)
-          failed (Some least) w e = cc
+      of (Ok y) e =
+          let rest = filter_map result_ok (map f xs) in
+          (y, rest, sym (ok_same (y ∷ rest) ys (unless_given (least_of result_err (parts (Ok y))) (Ok (y ∷ rest)) ys e).1))
+      of (Err check) e = absurd (least_of-kept result_err check (map f xs) (unless_given (least_of result_err (parts (Err check))) (Ok (filter_map result_ok (map f xs))) ys e).0)

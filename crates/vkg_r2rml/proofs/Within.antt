@@ -38,7 +38,7 @@ use Rattle.vkg_r2rml.specs.declared.map_error.MapFault.{MapFault}
 use Rattle.vkg_r2rml.specs.declared.map_node.MapNode.{MapNode}
 use Rattle.vkg_r2rml.specs.Checked.{Checked, both, all_of, and_then, at_least_one, exactly_one, numbered, resource}
 use Rattle.vkg_r2rml.specs.LogicalTable.{source, table_named, table_of, table_of_node, table_of_text}
-use Rattle.vkg_r2rml.specs.Mapping.{count_fault, fault, in_order, mapping_of, of_maps}
+use Rattle.vkg_r2rml.specs.Mapping.{count_fault, fault, in_order, of_maps}
 use Rattle.vkg_r2rml.specs.ReferencingMap.{columns_of, column_if_known, column_named, comparable, condition, conditions, family_at, no_term_map, parent_of, reference, referencing_map, side, table_of_parent}
 use Rattle.vkg_r2rml.specs.TriplesMap.{as_object, assembled, classes, classes_and_graphs, graph_maps, object_at_node, object_map, object_maps, objects_of, pair, pair_at, predicate_object_map, predicate_object_maps, predicates, subject, subject_at, term_map, term_maps, triples_map, triples_map_over}
 use Rattle.vkg_r2rml.specs.TriplesMaps.{map_node, nodes_of_maps, place_of, table_at, triples_maps}
@@ -292,8 +292,8 @@ module _ (triples : List Triple) (schema : List Table) (base : List ℕ) where
   all_inside [] = tt
   all_inside (x ∷ xs) = (table_inside x, all_inside xs)
 
-  maps_within : (mapping : Mapping) → mapping_of triples schema base ≡ Ok mapping → IsWithin schema mapping
-  maps_within mapping e = of (count_fault nodes) e
+  pub read_is_within : (mapping : Mapping) → ReadIsWithin triples schema base mapping
+  read_is_within mapping e = of (count_fault nodes) e
     where
       nodes : List MapNode
       nodes = triples_maps triples schema
@@ -315,6 +315,3 @@ module _ (triples : List Triple) (schema : List Table) (base : List ℕ) where
       of : (o : Option MapFault) → unless o (of_maps base read) ≡ Ok mapping → IsWithin schema mapping
       of None e = maps read refl e
       of (Some f) e = cc
-
-pub read_is_within : (triples : List Triple) (schema : List Table) (base : List ℕ) (mapping : Mapping) → ReadIsWithin triples schema base mapping
-read_is_within triples schema base mapping e = maps_within triples schema base mapping e

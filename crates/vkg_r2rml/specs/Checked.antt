@@ -1,6 +1,6 @@
 -- What checks make of a part of a mapping: its value, or the number of the least check that fails.
 use Rattle.std.specs.Prelude.{ℕ, min, List, [], ◌∷◌, filter_map, Result, Ok, Err}
-use Rattle.std.specs.Result.{result_ok, result_err}
+use Rattle.std.specs.Result.{result_ok, result_err, result_map_both}
 use Rattle.vkg_lists.specs.Results.{unless}
 use Rattle.vkg_lists.specs.Places.{least_of}
 use Rattle.vkg_terms.specs.declared.term.Term.{Term}
@@ -46,5 +46,4 @@ resource check t = Ok t
 
 -- the checks of a term map, by their numbers
 abbrev pub numbered : {A : Type 0} → Result A TermMapFault → Checked A
-numbered (Ok a) = Ok a
-numbered (Err f) = Err (check_of f)
+numbered r = result_map_both (λ a. a) check_of r

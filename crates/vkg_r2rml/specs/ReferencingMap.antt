@@ -7,6 +7,7 @@ use Rattle.vkg_cells.specs.Order.{family}
 use Rattle.vkg_turtle.specs.declared.triple.Triple.{Triple}
 use Rattle.vkg_schema.specs.declared.table.Table.{Table}
 use Rattle.vkg_schema.specs.declared.table.Column.{Column}
+pub use Rattle.vkg_schema.specs.Kinds.{columns_of}
 use Rattle.vkg_maps.specs.declared.mapping.ObjectMap.{ObjectMap}
 use Rattle.vkg_maps.specs.declared.mapping.ObjectMap.TheVariants.{Parent}
 use Rattle.vkg_term_maps.specs.Vocabulary.{rr}
@@ -29,9 +30,6 @@ parent_of maps parents = and_then (exactly_one 18 parents) (λ p. ok_or (place_o
 -- the parent's table, where both are known
 abbrev pub table_of_parent : List MapNode → Checked ℕ → Option ℕ
 table_of_parent maps parent = option_and_then (table_at maps) (result_ok parent)
-
-abbrev pub columns_of : List Table → ℕ → List Column
-columns_of schema table = option_map_or (λ t. t.columns) (slice_get schema table) []
 
 -- R2RML, 8: the value of rr:child or rr:parent is a column's name
 abbrev pub column_named : List Column → Term → Option ℕ

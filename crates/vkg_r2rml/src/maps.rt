@@ -9,13 +9,14 @@ ghost use Rattle.vkg_r2rml.specs.Index.{IsIndexOf, with_triple};
 
 use crate::logical_table::table_of;
 use crate::map_node::MapNode;
-use crate::vocabulary::{RDF_TYPE, RR_LOGICAL_TABLE, RR_TRIPLES_MAP};
+use crate::vocabulary::{RR_LOGICAL_TABLE, RR_TRIPLES_MAP};
 use std::alloc::Global;
 use std::collections::HashMap;
 use std::marker::Model;
 use vkg_base::{Items, Memory};
 use vkg_schema::Schema;
 use vkg_term_maps::Graph;
+use vkg_terms::vocabulary::RDF_TYPE;
 use vkg_terms::{Term, term_text};
 use vkg_turtle::Triple;
 

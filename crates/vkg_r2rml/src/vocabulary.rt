@@ -1,6 +1,4 @@
-// The names that triples maps are written with (R2RML, 5, 6 and 8; RDF Schema 1.1, 3.3).
-
-pub const RDF_TYPE: &str = "http://www.w3.org/1999/02/22-rdf-syntax-ns#type";
+// The names that triples maps are written with (R2RML, 5, 6 and 8).
 
 pub const RR_TRIPLES_MAP: &str = "http://www.w3.org/ns/r2rml#TriplesMap";
 

@@ -2,8 +2,9 @@
 use Rattle.std.proofs.Common.{◌≡◌, ◌∙◌, ℕ, [], length, refl, ap}
 use Rattle.std.specs.Prelude.{Contains}
 use Rattle.std.proofs.lemmas.List.{length-map}
+use Rattle.std.proofs.lemmas.Slice.Zip.{AllZip-long}
 use Rattle.vkg_lists.specs.Sets.{distinct}
-use Rattle.vkg_lists.proofs.Members.{each_from_recursion, flat_map_agree_on, zip_length}
+use Rattle.vkg_lists.proofs.Members.{each_from_recursion, flat_map_agree_on}
 use Rattle.vkg_lists.proofs.Walks.{flat_map-map}
 use Rattle.vkg_schema.specs.declared.table.Column.{Column}
 use Rattle.vkg_schema.specs.Meets.{FitsColumn, MeetsSchema}
@@ -13,12 +14,12 @@ use Rattle.vkg_maps.proofs.TableKinds.{kinds_of}
 use Rattle.vkg_maps.specs.declared.mapping.Mapping.{Mapping}
 use Rattle.vkg_maps.specs.declared.quad_rule.QuadRule.{QuadRule}
 use Rattle.vkg_maps.specs.DataFaults.{data_faults}
-use Rattle.vkg_maps.specs.Dataset.{dataset, quad_eq, quads_of_rule}
+use Rattle.vkg_maps.specs.Dataset.{quad_eq, quads_of_rule}
 use Rattle.vkg_maps.specs.QuadRules.{quad_rules}
 use Rattle.vkg_plan.specs.Kinds.{Tables}
 use Rattle.vkg_row_rules.specs.Laws.{GivesDataset}
-use Rattle.vkg_row_rules.specs.RowDataset.{dataset_of, quads_of}
-use Rattle.vkg_row_rules.specs.RowRules.{row_rule, row_rules}
+use Rattle.vkg_row_rules.specs.RowDataset.{quads_of}
+use Rattle.vkg_row_rules.specs.RowRules.{row_rule}
 use Rattle.vkg_maps.specs.Within.{IsMapWithin, IsWithin, kinds_at}
 use Rattle.vkg_row_rules.proofs.Faultless.{all_made}
 use Rattle.vkg_row_rules.proofs.RuleQuads.{IsFine, IsSound, rule_quads}
@@ -29,7 +30,7 @@ use Rattle.vkg_row_rules.proofs.SoundRules.{listed_over, of_rules}
 row_width : (schema : Tables) (db : Database) → MeetsSchema schema db → (table : ℕ) (row : Row) → Contains (rows_of db table) row → length (kinds_at schema table) ≡ length row
 row_width schema db meets table row c =
     let r = row_of_table db schema db meets table row c in
-    ap length (kinds_of schema table r.0 r.1) ∙ length-map r.0.columns (λ (c : Column). c.kind) ∙ zip_length FitsColumn r.0.columns row r.2
+    ap length (kinds_of schema table r.0 r.1) ∙ length-map r.0.columns (λ (c : Column). c.kind) ∙ sym (AllZip-long FitsColumn r.0.columns row r.2)
 
 module _ (schema : Tables) (mapping : Mapping) (db : Database) (within : IsWithin schema mapping) (meets : MeetsSchema schema db) (faultless : data_faults mapping db ≡ []) where
   pub rule_sound : (rule : QuadRule) → Contains (quad_rules mapping) rule → IsSound mapping.base schema db rule
@@ -43,11 +44,8 @@ module _ (schema : Tables) (mapping : Mapping) (db : Database) (within : IsWithi
         }) rule c;
   }
 
-  same_dataset : dataset_of schema (row_rules schema mapping) db ≡ dataset mapping db
-  same_dataset =
-      ap (distinct quad_eq) (flat_map-map (quads_of schema db) (row_rule mapping.base schema) (quad_rules mapping)
-      ∙ flat_map_agree_on (λ rule. quads_of schema db (row_rule mapping.base schema rule)) (quads_of_rule mapping.base db) (quad_rules mapping)
-      (λ rule c. rule_quads mapping.base schema db rule (rule_sound rule c)))
-
 pub gives_dataset : (schema : Tables) (mapping : Mapping) (db : Database) → GivesDataset schema mapping db
-gives_dataset schema mapping db within meets faultless = same_dataset schema mapping db within meets faultless
+gives_dataset schema mapping db within meets faultless =
+    ap (distinct quad_eq) (flat_map-map (quads_of schema db) (row_rule mapping.base schema) (quad_rules mapping)
+    ∙ flat_map_agree_on (λ rule. quads_of schema db (row_rule mapping.base schema rule)) (quads_of_rule mapping.base db) (quad_rules mapping)
+    (λ rule c. rule_quads mapping.base schema db rule (rule_sound schema mapping db within meets faultless rule c)))

@@ -71,10 +71,6 @@ module _ (ks : List SqlType) (row : Row) where
   template_text t [] = refl
   template_text t (p ∷ ps) = λ i. joined (one_piece t p i) (template_text t ps i)
 
-  -- a hole alone, whose text is the form itself
-  form_text : (t : TermType) (c : ℕ) → pieces_text (sort_of t) row (hole ks c ∷ []) ≡ piece_text (sort_of t) row (hole ks c)
-  form_text t c = joined_nil (piece_text (sort_of t) row (hole ks c))
-
 pub row_term_value : (base : List ℕ) (ks : List SqlType) (t : TermMap) (row : Row) → IsMade (term_of base t row) → term_at (row_term base ks t) row ≡ term_if_any (term_of base t row)
 row_term_value base ks (from.Constant term) row h = refl
 row_term_value base ks (from.Column c sort.Iri) row h =
@@ -82,12 +78,12 @@ row_term_value base ks (from.Column c sort.Iri) row h =
 row_term_value base ks (from.Column c sort.Blank) row h =
     let form = lexical_form (cell_at row c) in
     term_read row (Made OfBlank (hole ks c ∷ []))
-    ∙ ap (option_map (term_made OfBlank)) (form_text ks row sort.Blank c ∙ sym (option_map_id form))
+    ∙ ap (option_map (term_made OfBlank)) (joined_nil (piece_text OfBlank row (hole ks c)) ∙ sym (option_map_id form))
     ∙ sym (where_text sort.Blank (option_map (maps.against base sort.Blank) form) h)
 row_term_value base ks (from.Column c (sort.Literal a)) row h =
     let form = lexical_form (cell_at row c) in
     term_read row (Made (OfLit a) (hole ks c ∷ []))
-    ∙ ap (option_map (term_made (OfLit a))) (form_text ks row (sort.Literal a) c ∙ sym (option_map_id form))
+    ∙ ap (option_map (term_made (OfLit a))) (joined_nil (piece_text (OfLit a) row (hole ks c)) ∙ sym (option_map_id form))
     ∙ sym (where_text (sort.Literal a) (option_map (maps.against base (sort.Literal a)) form) h)
 row_term_value base ks (from.Template ps t) row h =
     term_read row (Made (sort_of t) (map (piece_of ks) ps))

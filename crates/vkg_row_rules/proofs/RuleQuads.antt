@@ -1,12 +1,12 @@
 -- The quads of a rule over rows are those of the quad rule, where its term maps make no data error.
-use Rattle.std.proofs.Common.{◌≡◌, ◌∙◌, ℕ, ◌<◌, Bool, List, [], ◌++◌, map, length, refl, sym, ap, subst}
+use Rattle.std.proofs.Common.{◌≡◌, ◌∙◌, ℕ, ◌<◌, Bool, List, [], ◌++◌, map, length, refl, sym, ap, subst, append-nil}
 use Rattle.std.specs.Prelude.{Option, Some, None, IfSome, option_map, filter, filter_map, Contains}
 use Rattle.std.specs.Option.{option_to_list}
 use Rattle.std.specs.List.{list_all, cons_option, AllByRecursion}
 use Rattle.vkg_lists.specs.Lists.{AllBelow}
 use Rattle.vkg_lists.proofs.Each.{recursion_weaken}
 use Rattle.vkg_lists.proofs.Members.{Contains-from_filter, flat_map_agree_on, filter_map_agree_on}
-use Rattle.vkg_lists.proofs.Walks.{filter_map_is_flat_map, filter-flat_map, filter-map, filter_map-map, filter_map-flat_map}
+use Rattle.vkg_lists.proofs.Walks.{cons_option_is, filter_map_is_flat_map, filter-flat_map, filter-map, filter_map-map, filter_map-flat_map}
 use Rattle.vkg_terms.specs.NQuads.{Quad}
 use Rattle.vkg_cells.specs.declared.cell.SqlType.{SqlType}
 use Rattle.vkg_schema.specs.Rows.{Database, Row, rows_of as table_rows, agree}
@@ -24,13 +24,7 @@ use Rattle.vkg_row_rules.specs.RowTerms.{row_term}
 use Rattle.vkg_maps.specs.Within.{IsCondition, IsOver, term_columns, kinds_at}
 use Rattle.vkg_row_rules.proofs.PairedRows.{conditions_hold, term_before, term_behind}
 use Rattle.vkg_row_rules.proofs.RowTermValues.{IsMade, row_term_value}
-use Rattle.vkg_row_rules.proofs.SoundRules.{OfGraph, OfRule}
-
--- ---- walks
-
-list_of : {B : Type 0} (o : Option B) → option_to_list o ≡ cons_option o []
-list_of None = refl
-list_of (Some b) = refl
+use Rattle.vkg_row_rules.proofs.SoundRules.{OfRule}
 
 -- ---- what is known of a rule over a database
 
@@ -67,11 +61,11 @@ module _ (base : List ℕ) (ks : List SqlType) where
   graph_same (Some g) row child h = ap (option_map graph_name) h
 
 module _ (base : List ℕ) (schema : Tables) (db : Database) (table : ℕ) where
-  pub graph_of : (g : Option TermMap) (row : Row) → Contains (table_rows db table) row → OfGraph (IsFine base schema db table) g → GraphIs base (kinds_at schema table) g row row
+  pub graph_of : (g : Option TermMap) (row : Row) → Contains (table_rows db table) row → IfSome g (IsFine base schema db table) → GraphIs base (kinds_at schema table) g row row
   graph_of None row c h = tt
   graph_of (Some g) row c h = row_term_value base (kinds_at schema table) g row (h.made row c)
 
-  pub graph_before : (r s : Row) → length (kinds_at schema table) ≡ length r → (g : Option TermMap) → Contains (table_rows db table) r → OfGraph (IsFine base schema db table) g → GraphIs base (kinds_at schema table) g (r ++ s) r
+  pub graph_before : (r s : Row) → length (kinds_at schema table) ≡ length r → (g : Option TermMap) → Contains (table_rows db table) r → IfSome g (IsFine base schema db table) → GraphIs base (kinds_at schema table) g (r ++ s) r
   graph_before r s width None c h = tt
   graph_before r s width (Some g) c h = before base (kinds_at schema table) r s width g h.over (h.made r c)
 
@@ -97,7 +91,7 @@ module _ (base : List ℕ) (schema : Tables) (db : Database) (table : ℕ) (subj
     where
       each : (row : Row) → Contains rows row → option_to_list (quad None row) ≡ cons_option (quad_of base (rule None) row row) []
       each row c =
-          list_of (quad None row)
+          sym (cons_option_is (quad None row) [] ∙ append-nil (option_to_list (quad None row)))
           ∙ (λ i. cons_option (quad_from
           (row_term_value base ks subject row (h.terms.subject.made row c) i)
           (row_term_value base ks predicate row (h.terms.predicate.made row c) i)

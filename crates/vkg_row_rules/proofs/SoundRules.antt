@@ -26,10 +26,6 @@ abbrev pub object_table : ℕ → Option Join → ℕ
 object_table table None = table
 object_table table (Some join) = join.table
 
--- what holds of the graph's term map, if there is one
-abbrev pub OfGraph : (TermMap → Type 0) → Option TermMap → Type 0
-OfGraph P o = IfSome o P
-
 -- the parent's table and the columns of the conditions are there
 abbrev pub AreJoined : Tables → ℕ → Option Join → Type 0
 AreJoined schema table o = IfSome o (λ join. (join.table < length schema) × AllByRecursion (IsCondition (kinds_at schema table) (kinds_at schema join.table)) join.conditions)
@@ -40,7 +36,7 @@ pub record OfRule (P : ℕ → TermMap → Type 0) (schema : Tables) (rule : Qua
   pub subject : P rule.table rule.subject
   pub predicate : P rule.table rule.predicate
   pub object : P (object_table rule.table rule.join) rule.object
-  pub graph : OfGraph (P rule.table) rule.graph
+  pub graph : IfSome rule.graph (P rule.table)
   pub joined : AreJoined schema rule.table rule.join
 
 -- ---- places in lists
@@ -121,12 +117,6 @@ module _ (P : ℕ → TermMap → Type 0) (schema : Tables) (mapping : Mapping) 
   Holds = OfRule P schema
 
   module _ (m : TriplesMap) (is_map : Contains mapping.maps m) where
-    map_within : (n : TriplesMap) → Contains mapping.maps n → IsMapWithin schema mapping.maps n
-    map_within n c = each_from_recursion (IsMapWithin schema mapping.maps) mapping.maps within n c
-
-    listed : (t : TermMap) → Contains (term_maps m) (Some t) → P m.table t
-    listed t c = of_map m is_map t c
-
     -- what holds of a predicate-object map
     record OfPair (po : PredicateObjectMap) : Type 0 where
       predicates : (p : TermMap) → Contains po.predicates p → P m.table p
@@ -152,25 +142,25 @@ module _ (P : ℕ → TermMap → Type 0) (schema : Tables) (mapping : Mapping) 
 
     of_listed : (po : PredicateObjectMap) → Contains m.predicate_objects po → OfPair po
     of_listed po c = record {
-      predicates = λ p d. listed p (is_predicate m po c p d);
-      objects = λ t d. listed t (is_object m po c t d);
+      predicates = λ p d. of_map m is_map p (is_predicate m po c p d);
+      objects = λ t d. of_map m is_map t (is_object m po c t d);
       parents = λ k cs d. (each_from_recursion (IsObjectWithin schema mapping.maps m) po.objects
-          (each_from_recursion (IsPairWithin schema mapping.maps m) m.predicate_objects (map_within m is_map).predicate_objects po c).objects (object.Parent k cs) d).1;
-      graphs = λ g d. listed g (is_pair_graph m po c g d);
+          (each_from_recursion (IsPairWithin schema mapping.maps m) m.predicate_objects (each_from_recursion (IsMapWithin schema mapping.maps) mapping.maps within m is_map).predicate_objects po c).objects (object.Parent k cs) d).1;
+      graphs = λ g d. of_map m is_map g (is_pair_graph m po c g d);
     }
 
-    of_target : (po : PredicateObjectMap) → OfPair po → (g : Option TermMap) → Contains (targets (m.graphs ++ po.graphs)) g → OfGraph (P m.table) g
+    of_target : (po : PredicateObjectMap) → OfPair po → (g : Option TermMap) → Contains (targets (m.graphs ++ po.graphs)) g → IfSome g (P m.table)
     of_target po h g c = elim (target_is (m.graphs ++ po.graphs) g c) [
-      | inl e ↦ subst (OfGraph (P m.table)) (sym e) tt
-      | inr r ↦ subst (OfGraph (P m.table)) (sym r.2) (⊎_elim (λ d. listed r.0 (is_graph m r.0 d)) (h.graphs r.0) (Contains-append_cases m.graphs po.graphs r.0 r.1))
+      | inl e ↦ subst (λ o. IfSome o (P m.table)) (sym e) tt
+      | inr r ↦ subst (λ o. IfSome o (P m.table)) (sym r.2) (⊎_elim (λ d. of_map m is_map r.0 (is_graph m r.0 d)) (h.graphs r.0) (Contains-append_cases m.graphs po.graphs r.0 r.1))
     ]
 
-    of_object : (p : TermMap) (g : Option TermMap) → P m.table p → OfGraph (P m.table) g → (o : ObjectMap) →
+    of_object : (p : TermMap) (g : Option TermMap) → P m.table p → IfSome g (P m.table) → (o : ObjectMap) →
         ((t : TermMap) → o ≡ object.Term t → P m.table t) → ((k : ℕ) (cs : List (ℕ × ℕ)) → o ≡ object.Parent k cs → AreConditions schema m.table (parent_of mapping.maps m k).table cs) →
         Holds (object_rule mapping.maps m p o g)
     of_object p g hp hg (object.Term t) term parent = record {
-      table = (map_within m is_map).table;
-      subject = listed m.subject (is_subject m);
+      table = (each_from_recursion (IsMapWithin schema mapping.maps) mapping.maps within m is_map).table;
+      subject = of_map m is_map m.subject (is_subject m);
       predicate = hp;
       object = term t refl;
       graph = hg;
@@ -189,20 +179,20 @@ module _ (P : ℕ → TermMap → Type 0) (schema : Tables) (mapping : Mapping) 
 
         of : (cs : List (ℕ × ℕ)) → AreConditions schema m.table above.table cs → Holds (object_rule mapping.maps m p (object.Parent k cs) g)
         of [] h = record {
-          table = (map_within m is_map).table;
-          subject = listed m.subject (is_subject m);
+          table = (each_from_recursion (IsMapWithin schema mapping.maps) mapping.maps within m is_map).table;
+          subject = of_map m is_map m.subject (is_subject m);
           predicate = hp;
           object = subst (λ table. P table above.subject) h above_subject;
           graph = hg;
           joined = tt;
         }
         of (c ∷ cs) h = record {
-          table = (map_within m is_map).table;
-          subject = listed m.subject (is_subject m);
+          table = (each_from_recursion (IsMapWithin schema mapping.maps) mapping.maps within m is_map).table;
+          subject = of_map m is_map m.subject (is_subject m);
           predicate = hp;
           object = above_subject;
           graph = hg;
-          joined = ((map_within above above_is).table, h);
+          joined = ((each_from_recursion (IsMapWithin schema mapping.maps) mapping.maps within above above_is).table, h);
         }
 
     of_pair_rules : (po : PredicateObjectMap) → OfPair po → (rule : QuadRule) → Contains (predicate_object_rules mapping.maps m po) rule → Holds rule

@@ -68,9 +68,6 @@ names_stay : (names : List (List ℕ)) (ms : List Meaning) (t : Tree) → (query
 names_stay names ms (pair prologue (pair select (pair kind (pair selection (pair where_ g))))) = refl
 names_stay names ms t = refl
 
-zero_more : (n : ℕ) → 0 + n ≡ n
-zero_more n = omega arith
-
 -- where what is behind the prologue begins
 begins : (ks : List ℕ) (at : ℕ) (t : Tree) → Has SPARQL ks 0 t 166 → IsFrom at t → first_token t ≡ at
 begins ks at (pair (leaf i) t) h f = f.0

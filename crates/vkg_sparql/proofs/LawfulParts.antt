@@ -36,9 +36,6 @@ module _ (keys : List (List ℕ)) where
   abbrev pub Good : List Node → Type 0
   Good xs = AllByRecursion (Fits keys) xs
 
-  beside : (xs ys : List Node) → Good xs → Good ys → Good (xs ++ ys)
-  beside xs ys h k = recursion_append (Fits keys) xs ys h k
-
   fits_node : (m : Meaning) → IsNode keys m → Fits keys (node_of m)
   fits_node (meaning.Variable n) h = h
   fits_node (meaning.Label n) h = h
@@ -74,21 +71,17 @@ module _ (keys : List (List ℕ)) where
   fits_operand (meaning.Fixed t) h = by_seen _ (seen-Constant t) (h, tt)
   fits_operand m h = absurd (h)
 
-  good_or : (cs : List ConditionValue) (a : Condition) → Good (condition_nodes a) → GoodConditions cs → Good (condition_nodes (fold Or a (map condition_seen cs)))
-  good_or [] a h k = h
-  good_or (c ∷ cs) a h k = good_or cs (Or a (condition_seen c)) (beside (condition_nodes a) (condition_nodes (condition_seen c)) h k.0) k.1
-
-  good_and : (cs : List ConditionValue) (a : Condition) → Good (condition_nodes a) → GoodConditions cs → Good (condition_nodes (fold And a (map condition_seen cs)))
-  good_and [] a h k = h
-  good_and (c ∷ cs) a h k = good_and cs (And a (condition_seen c)) (beside (condition_nodes a) (condition_nodes (condition_seen c)) h k.0) k.1
+  good_chain : (join : Condition → Condition → Condition) → ((a b : Condition) → Good (condition_nodes a) → Good (condition_nodes b) → Good (condition_nodes (join a b))) → (cs : List ConditionValue) (a : Condition) → Good (condition_nodes a) → GoodConditions cs → Good (condition_nodes (fold join a (map condition_seen cs)))
+  good_chain join f [] a h k = h
+  good_chain join f (c ∷ cs) a h k = good_chain join f cs (join a (condition_seen c)) (f a (condition_seen c) h k.0) k.1
 
   good_or_joined : (c : ConditionValue) (cs : List ConditionValue) → GoodCondition c → GoodConditions cs → GoodCondition (or_joined c cs)
   good_or_joined c [] h k = h
-  good_or_joined c (d ∷ ds) h k = by_seen _ (seen-Or c (d ∷ ds)) (good_or (d ∷ ds) (condition_seen c) h k)
+  good_or_joined c (d ∷ ds) h k = by_seen _ (seen-Or c (d ∷ ds)) (good_chain Or (λ a b. recursion_append (Fits keys) (condition_nodes a) (condition_nodes b)) (d ∷ ds) (condition_seen c) h k)
 
   good_and_joined : (c : ConditionValue) (cs : List ConditionValue) → GoodCondition c → GoodConditions cs → GoodCondition (and_joined c cs)
   good_and_joined c [] h k = h
-  good_and_joined c (d ∷ ds) h k = by_seen _ (seen-And c (d ∷ ds)) (good_and (d ∷ ds) (condition_seen c) h k)
+  good_and_joined c (d ∷ ds) h k = by_seen _ (seen-And c (d ∷ ds)) (good_chain And (λ a b. recursion_append (Fits keys) (condition_nodes a) (condition_nodes b)) (d ∷ ds) (condition_seen c) h k)
 
   good_negated : (b : Bool) (c : ConditionValue) → GoodCondition c → GoodCondition (negated b c)
   good_negated true c h = by_seen _ (seen-Not c) h
@@ -154,7 +147,7 @@ module _ (keys : List (List ℕ)) where
 
       good_rel_more : (c : ConditionValue) (t : Tree) → GoodCondition c → Of t 141 → GoodCondition (rel_more ms c t)
       good_rel_more c (first (pair sign b)) g h =
-          by_seen _ (seen-Compare (compare_of (meaning_at ms (first_token sign))) c (unary_value ms b)) (beside (condition_nodes (condition_seen c)) (condition_nodes (condition_seen (unary_value ms b))) g (good_unary b h.1))
+          by_seen _ (seen-Compare (compare_of (meaning_at ms (first_token sign))) c (unary_value ms b)) (recursion_append (Fits keys) (condition_nodes (condition_seen c)) (condition_nodes (condition_seen (unary_value ms b))) g (good_unary b h.1))
       good_rel_more c t g h = g
 
       good_unary : (t : Tree) → Of t 93 → GoodCondition (unary_value ms t)
@@ -180,7 +173,7 @@ module _ (keys : List (List ℕ)) where
 
       good_same_term : (t : Tree) → Of t 107 → GoodCondition (same_term_value ms t)
       good_same_term (pair left (pair a (pair comma (pair b right)))) h =
-          by_seen _ (seen-SameTerm (or_value ms a) (or_value ms b)) (beside (condition_nodes (condition_seen (or_value ms a))) (condition_nodes (condition_seen (or_value ms b))) (good_or_value a h.1.0) (good_or_value b h.1.1.1.0))
+          by_seen _ (seen-SameTerm (or_value ms a) (or_value ms b)) (recursion_append (Fits keys) (condition_nodes (condition_seen (or_value ms a))) (condition_nodes (condition_seen (or_value ms b))) (good_or_value a h.1.0) (good_or_value b h.1.1.1.0))
       good_same_term (pair left (pair a (pair comma t))) h = absurd (h.1.1.1)
       good_same_term (pair left (pair a t)) h = absurd (h.1.1)
       good_same_term (pair left t) h = absurd (h.1)
@@ -199,20 +192,17 @@ module _ (keys : List (List ℕ)) where
     abbrev AllFit : List TripleTokens → Type 0
     AllFit ts = AllByRecursion FitTokens ts
 
-    along : (ts us : List TripleTokens) → AllFit ts → AllFit us → AllFit (ts ++ us)
-    along ts us h k = recursion_append FitTokens ts us h k
-
     good_patterns : (ts : List TripleTokens) → AllFit ts → Good (patterns_nodes (patterns_of ms ts))
     good_patterns [] h = tt
     good_patterns (t ∷ ts) h = (h.0.0, (h.0.1, (h.0.2, good_patterns ts h.1)))
 
     mutual
       fit_plist : (s : ℕ) (t : Tree) → Fit s → Of t 48 → AllFit (plist_value s t)
-      fit_plist s (pair verb (pair objects more)) f h = along (olist_value s (first_token verb) objects) (plist_more s more) (fit_olist s (first_token verb) objects f (node_first verb 49 refl h.0) h.1.0) (fit_plist_more s more f h.1.1)
+      fit_plist s (pair verb (pair objects more)) f h = recursion_append FitTokens (olist_value s (first_token verb) objects) (plist_more s more) (fit_olist s (first_token verb) objects f (node_first verb 49 refl h.0) h.1.0) (fit_plist_more s more f h.1.1)
       fit_plist s t f h = tt
 
       fit_plist_more : (s : ℕ) (t : Tree) → Fit s → Of t 66 → AllFit (plist_more s t)
-      fit_plist_more s (pair (pair semicolon t) more) f h = along (verb_value s t) (plist_more s more) (fit_verb s t f h.0.1) (fit_plist_more s more f h.1)
+      fit_plist_more s (pair (pair semicolon t) more) f h = recursion_append FitTokens (verb_value s t) (plist_more s more) (fit_verb s t f h.0.1) (fit_plist_more s more f h.1)
       fit_plist_more s t f h = tt
 
       fit_verb : (s : ℕ) (t : Tree) → Fit s → Of t 64 → AllFit (verb_value s t)
@@ -220,11 +210,11 @@ module _ (keys : List (List ℕ)) where
       fit_verb s t f h = tt
 
       fit_olist : (s p : ℕ) (t : Tree) → Fit s → Fit p → Of t 52 → AllFit (olist_value s p t)
-      fit_olist s p (pair o more) f g h = along (object_value s p o) (olist_more s p more) (fit_object s p o f g h.0) (fit_olist_more s p more f g h.1)
+      fit_olist s p (pair o more) f g h = recursion_append FitTokens (object_value s p o) (olist_more s p more) (fit_object s p o f g h.0) (fit_olist_more s p more f g h.1)
       fit_olist s p t f g h = tt
 
       fit_olist_more : (s p : ℕ) (t : Tree) → Fit s → Fit p → Of t 61 → AllFit (olist_more s p t)
-      fit_olist_more s p (pair (pair comma o) more) f g h = along (object_value s p o) (olist_more s p more) (fit_object s p o f g h.0.1) (fit_olist_more s p more f g h.1)
+      fit_olist_more s p (pair (pair comma o) more) f g h = recursion_append FitTokens (object_value s p o) (olist_more s p more) (fit_object s p o f g h.0.1) (fit_olist_more s p more f g h.1)
       fit_olist_more s p t f g h = tt
 
       fit_object : (s p : ℕ) (t : Tree) → Fit s → Fit p → Of t 53 → AllFit (object_value s p t)
@@ -240,7 +230,7 @@ module _ (keys : List (List ℕ)) where
 
     fit_bracket : (s : ℕ) (t : Tree) → Fit s → Of t 72 → AllFit (bracket_value s t)
     fit_bracket s (first (pair right list)) f h = fit_plist s list f h.1
-    fit_bracket s (second (pair list (pair right more))) f h = along (plist_value s list) (inner_value s more) (fit_plist s list f h.0) (fit_inner s more f h.1.1)
+    fit_bracket s (second (pair list (pair right more))) f h = recursion_append FitTokens (plist_value s list) (inner_value s more) (fit_plist s list f h.0) (fit_inner s more f h.1.1)
     fit_bracket s t f h = tt
 
     fit_same : (t : Tree) → Of t 25 → AllFit (same_value t)
@@ -249,7 +239,7 @@ module _ (keys : List (List ℕ)) where
     fit_same t h = tt
 
     fit_block : (t : Tree) → Of t 24 → AllFit (block_value t)
-    fit_block (pair same (first (pair dot (first more)))) h = along (same_value same) (block_value more) (fit_same same h.0) (fit_block more h.1.1)
+    fit_block (pair same (first (pair dot (first more)))) h = recursion_append FitTokens (same_value same) (block_value more) (fit_same same h.0) (fit_block more h.1.1)
     fit_block (pair same t) h = fit_same same h.0
     fit_block t h = tt
 
@@ -261,7 +251,7 @@ module _ (keys : List (List ℕ)) where
     good_parts_append : (ps qs : List PartValue) → GoodParts ps → GoodParts qs → GoodParts (ps ++ qs)
     good_parts_append [] qs h k = k
     good_parts_append (p ∷ ps) qs h k =
-        beside (part_nodes (part_seen p)) (group_nodes (group_seen (ps ++ qs))) (recursion_left (Fits keys) (part_nodes (part_seen p)) (group_nodes (group_seen ps)) h)
+        recursion_append (Fits keys) (part_nodes (part_seen p)) (group_nodes (group_seen (ps ++ qs))) (recursion_left (Fits keys) (part_nodes (part_seen p)) (group_nodes (group_seen ps)) h)
         (good_parts_append ps qs (recursion_right (Fits keys) (part_nodes (part_seen p)) (group_nodes (group_seen ps)) h) k)
 
     by_part : (p : PartValue) {s : Part} → part_seen p ≡ s → Good (part_nodes s) → Good (part_nodes (part_seen p))
@@ -271,7 +261,7 @@ module _ (keys : List (List ℕ)) where
     good_no_part = by_part _ (seen-Triples []) tt
 
     good_block_parts : (t : Tree) → Of t 78 → GoodParts (block_parts ms t)
-    good_block_parts (first t) h = beside (part_nodes (part_seen (part.Triples (patterns_of ms (block_value t))))) [] (by_part _ (seen-Triples (patterns_of ms (block_value t))) (good_patterns (block_value t) (fit_block t h))) tt
+    good_block_parts (first t) h = recursion_append (Fits keys) (part_nodes (part_seen (part.Triples (patterns_of ms (block_value t))))) [] (by_part _ (seen-Triples (patterns_of ms (block_value t))) (good_patterns (block_value t) (fit_block t h))) tt
     good_block_parts t h = tt
 
     mutual
@@ -282,7 +272,7 @@ module _ (keys : List (List ℕ)) where
       good_parts : (t : Tree) → Of t 159 → GoodParts (parts_value ms t)
       good_parts (pair (pair p (pair dot block)) more) h =
           good_parts_append (part_value ms p ∷ block_parts ms block) (parts_value ms more)
-          (beside (part_nodes (part_seen (part_value ms p))) (group_nodes (group_seen (block_parts ms block))) (good_part p h.0.0) (good_block_parts block h.0.1.1))
+          (recursion_append (Fits keys) (part_nodes (part_seen (part_value ms p))) (group_nodes (group_seen (block_parts ms block))) (good_part p h.0.0) (good_block_parts block h.0.1.1))
           (good_parts more h.1)
       good_parts t h = tt
 
@@ -304,11 +294,11 @@ module _ (keys : List (List ℕ)) where
 
       good_union : (t : Tree) → Of t 153 → Good (part_nodes (part_seen (union_value ms t)))
       good_union (pair g more) h =
-          by_part _ (seen-Groups (group_value ms g) (groups_value ms more)) (beside (group_nodes (group_seen (group_value ms g))) (unions_nodes (unions_seen (groups_value ms more))) (good_group g h.0) (good_groups more h.1))
+          by_part _ (seen-Groups (group_value ms g) (groups_value ms more)) (recursion_append (Fits keys) (group_nodes (group_seen (group_value ms g))) (unions_nodes (unions_seen (groups_value ms more))) (good_group g h.0) (good_groups more h.1))
       good_union t h = good_no_part
 
       good_groups : (t : Tree) → Of t 152 → Good (unions_nodes (unions_seen (groups_value ms t)))
-      good_groups (pair (pair word g) more) h = beside (group_nodes (group_seen (group_value ms g))) (unions_nodes (unions_seen (groups_value ms more))) (good_group g h.0.1) (good_groups more h.1)
+      good_groups (pair (pair word g) more) h = recursion_append (Fits keys) (group_nodes (group_seen (group_value ms g))) (unions_nodes (unions_seen (groups_value ms more))) (good_group g h.0.1) (good_groups more h.1)
       good_groups t h = tt
 
     -- ---- the query
@@ -323,5 +313,5 @@ module _ (keys : List (List ℕ)) where
 
     pub good_query : (names : List (List ℕ)) (prologue rest : Tree) → Of rest 166 → Good (query_nodes (query_seen (query_value names ms (pair prologue rest))))
     good_query names prologue (pair select (pair kind (pair selection (pair where_ g)))) h =
-        beside (selected_nodes (selection_value ms selection)) (group_nodes (group_seen (group_value ms g))) (good_selection selection h.1.1.0) (good_group g h.1.1.1.1)
+        recursion_append (Fits keys) (selected_nodes (selection_value ms selection)) (group_nodes (group_seen (group_value ms g))) (good_selection selection h.1.1.0) (good_group g h.1.1.1.1)
     good_query names prologue t h = tt

@@ -1,5 +1,5 @@
 -- Trees by the rules of a grammar, as a type that computes: what a symbol of a known rule is made of can be read off.
-use Rattle.std.proofs.Common.{◌≡◌, ℕ, ◌+◌, ◌≤◌, Bool, true, false, List, Some, zero, suc, arith, ◌&&◌}
+use Rattle.std.proofs.Common.{◌≡◌, ℕ, ◌+◌, ◌≤◌, Bool, true, false, List, Some, zero, suc, sym, subst, arith, ◌&&◌}
 use Rattle.std.specs.Prelude.{slice_get}
 use Rattle.vkg_lists.proofs.Bools.{and_parts}
 use Rattle.vkg_grammar.specs.declared.rule.Rule.{Rule}
@@ -75,12 +75,9 @@ module _ (g : List Rule) (ks : List ℕ) (start : ℕ) where
   further : (at n : ℕ) → start ≤ at → start ≤ at + n
   further at n l = omega (arith, l)
 
-  here : (at i : ℕ) → i ≡ at → start ≤ at → start ≤ i
-  here at i e l = omega (arith, e, l)
-
   -- a tree whose tokens are numbered from a place behind the start
   pub has : (t : Tree) (n at : ℕ) → IsTree g ks n t → IsFrom at t → start ≤ at → Has t n
-  has (leaf i) n at h f l = at_leaf (rule g n) n i (made h) (here at i f l)
+  has (leaf i) n at h f l = at_leaf (rule g n) n i (made h) (subst (λ j. start ≤ j) (sym f) l)
   has nothing n at h f l = at_nothing (rule g n) n (made h)
   has (pair x y) n at h f l = at_pair (rule g n) n x y (Has x) (Has y) (made h) (λ a k. has x a at k f.0 l) (λ a k. has y a (at + size x) k f.1 (further at (size x) l))
   has (first x) n at h f l = at_first (rule g n) n x (Has x) (made h) (λ a k. has x a at k f l)

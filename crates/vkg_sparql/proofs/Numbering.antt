@@ -3,7 +3,7 @@ use Rattle.std.proofs.Common.{◌≡◌, ◌∙◌, ℕ, ◌+◌, ◌||◌, ◌=
 use Rattle.std.specs.Prelude.{slice_get}
 use Rattle.std.specs.List.{list_any}
 use Rattle.std.specs.Str.{bytes_eq}
-use Rattle.std.proofs.lemmas.List.Folds.{list_any-append}
+use Rattle.std.proofs.lemmas.List.Folds.{fold_along, list_any-append}
 use Rattle.std.proofs.lemmas.Slice.Eq.{bytes_eq-Decides}
 use Rattle.std.proofs.Math.Bool.{or-true}
 use Rattle.vkg_lists.proofs.Positions.{first_found}
@@ -44,10 +44,6 @@ module _ (key : List ℕ) where
   kept None named x h = h
   kept (Some k) named x h = kept_if (list_any (bytes_eq k) named.keys) named k x h
 
-  kept_on : (xs : List Lexeme) (named : Named) → Known key named → Known key (fold step named xs)
-  kept_on [] named h = h
-  kept_on (x ∷ xs) named h = kept_on xs (step named x) (kept (key_of x) named x h)
-
   added : (keys : List (List ℕ)) → list_any (bytes_eq key) (keys ++ key ∷ []) ≡ true
   added keys = list_any-append (bytes_eq key) keys (key ∷ []) ∙ ap (λ b. list_any (bytes_eq key) keys || (b || false)) ((bytes_eq-Decides key key).1 refl) ∙ or-true (list_any (bytes_eq key) keys)
 
@@ -64,7 +60,7 @@ module _ (key : List ℕ) where
   known_on [] named (suc i) x e k = absurd (cc)
   known_on (y ∷ xs) named zero x e k =
       let same : y ≡ x = cc in
-      kept_on xs (step named y) (known (key_of y) named y (ap key_of same ∙ k))
+      fold_along step {C = Unit {0}} (λ c _. c) (λ b c. Known key b) (λ b c z. kept (key_of z) b z) (step named y) tt xs (known (key_of y) named y (ap key_of same ∙ k))
   known_on (y ∷ xs) named (suc i) x e k = known_on xs (step named y) i x e k
 
 pub numbered : (xs : List Lexeme) (i : ℕ) (x : Lexeme) (key : List ℕ) → slice_get xs i ≡ Some x → key_of x ≡ Some key → slice_get (named_of xs).keys (number_in (named_of xs).keys (key_of x)) ≡ Some key
@@ -83,9 +79,5 @@ even_step : (o : Option (List ℕ)) (named : Named) (x : Lexeme) → IsEven name
 even_step None named x h = h
 even_step (Some k) named x h = even_if (list_any (bytes_eq k) named.keys) named k x h
 
-even_on : (xs : List Lexeme) (named : Named) → IsEven named → IsEven (fold step named xs)
-even_on [] named h = h
-even_on (x ∷ xs) named h = even_on xs (step named x) (even_step (key_of x) named x h)
-
 pub as_many : (xs : List Lexeme) → length (named_of xs).keys ≡ length (named_of xs).names
-as_many xs = even_on xs _ refl
+as_many xs = fold_along step {C = Unit {0}} (λ c _. c) (λ b c. IsEven b) (λ b c x. even_step (key_of x) b x) _ tt xs refl

@@ -1,8 +1,9 @@
 -- What the tokens of a query mean, where no check fails of them.
+use Rattle.vkg_lists.proofs.Results.{none_if}
 use Rattle.std.proofs.Common.{◌≡◌, ◌∙◌, ℕ, ◌≤◌, ◌||◌, ◌==◌, Bool, true, false, if◌then◌else◌, zero, suc, List, [], ◌∷◌, codes, drop, Option, Some, None, option_map, refl, sym, ap, subst, arith, eqb-true}
 use Rattle.std.specs.Prelude.{slice_get}
 use Rattle.std.specs.Str.{str_to_ascii_lowercase}
-use Rattle.std.proofs.lemmas.Bool.{and_right}
+use Rattle.std.proofs.lemmas.Bool.{and_right, cond-true}
 use Rattle.std.proofs.lemmas.Option.{slice_get-map}
 use Rattle.vkg_grammar.specs.Kinds.{kinds_of}
 use Rattle.vkg_cells.specs.WellTyped.{is_well_typed, is_too_wide, is_wide_number}
@@ -51,17 +52,13 @@ meaning_is e keys (y ∷ xs) zero x h =
     ap (λ z. meaning_of e keys z xs) same
 meaning_is e keys (y ∷ xs) (suc i) x h = meaning_is e keys xs i x h
 
-no_place : (b : Bool) (at : ℕ) (later : Option ℕ) → (if b then Some at else later) ≡ None → (b ≡ false) × (later ≡ None)
-no_place true at later h = absurd (cc)
-no_place false at later h = (refl, h)
-
 passes_at : (check : Check) (e : Environment) (xs : List Lexeme) (i : ℕ) (x : Lexeme) → first_place check e xs ≡ None → slice_get xs i ≡ Some x → fails check e x (behind xs i) ≡ false
 passes_at check e [] zero x n h = absurd (cc)
 passes_at check e [] (suc i) x n h = absurd (cc)
 passes_at check e (y ∷ xs) zero x n h =
     let same : y ≡ x = cc in
-    ap (λ z. fails check e z xs) (sym same) ∙ (no_place (fails check e y xs) y.at (first_place check e xs) n).0
-passes_at check e (y ∷ xs) (suc i) x n h = passes_at check e xs i x (no_place (fails check e y xs) y.at (first_place check e xs) n).1 h
+    ap (λ z. fails check e z xs) (sym same) ∙ (none_if (fails check e y xs) y.at (first_place check e xs) n).0
+passes_at check e (y ∷ xs) (suc i) x n h = passes_at check e xs i x (none_if (fails check e y xs) y.at (first_place check e xs) n).1 h
 
 -- ---- terms that are no numbers
 
@@ -165,13 +162,9 @@ module _ (keys : List (List ℕ)) where
     marked : (b : Bool) → HasKey (lexeme kind at token) b → Marked keys number b
     marked b k = ap (option_map is_variable_key) (numbers k.key k.is) ∙ ap Some k.mark
 
-    literal_by : (a : Bool) (b : Bool) → a ≡ true → (if a then b else false) ≡ false → b ≡ false
-    literal_by true b h f = f
-    literal_by false b h f = absurd (cc)
-
     literal : is_literal kind ≡ true → is_wide_number (term_of e (lexeme_word kind token) xs) ≡ false
     unfolding fails
-    literal h = literal_by (is_literal kind) (is_wide_number (term_of e (lexeme_word kind token) xs)) h fine
+    literal h = sym (cond-true (is_literal kind) (is_wide_number (term_of e (lexeme_word kind token) xs)) false h) ∙ fine
 
     term : is_term kind ≡ true → is_wide_number (term_of e (lexeme_word kind token) xs) ≡ false
     term h = narrow e token xs kind h literal

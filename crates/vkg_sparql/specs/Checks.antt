@@ -1,7 +1,7 @@
 -- What may be wrong with a query that is a text of the grammar.
-use Rattle.std.specs.Prelude.{ℕ, Bool, false, ◌||◌, ◌&&◌, not, List, [], ◌∷◌, ◌++◌, codes, filter, fold, map, position, slice_get, Option, Some, None, option_map, if◌then◌else◌, ◌==◌, nat_le, nat_lt, is_none}
-use Rattle.std.specs.List.{list_any}
+use Rattle.std.specs.Prelude.{ℕ, Bool, false, ◌||◌, ◌&&◌, not, List, [], ◌∷◌, ◌++◌, codes, filter, fold, map, position, slice_get, Option, Some, None, option_and_then, option_map, if◌then◌else◌, ◌==◌, nat_le, nat_lt, is_none}
 use Rattle.std.specs.Str.{bytes_eq}
+use Rattle.indexmap.specs.IndexSet.{insert_key}
 use Rattle.vkg_lists.specs.Places.{earlier}
 use Rattle.vkg_terms.specs.declared.term.Term.{Term}
 use Rattle.vkg_terms.specs.declared.term.Term.TheVariants.{Lit}
@@ -55,15 +55,12 @@ first_place check e (x ∷ xs) = if fails check e x xs then Some x.at else first
 
 -- SPARQL 1.1, 5.1: a filter ends no basic graph pattern, any other pattern does, and each of those has braces. So a basic graph
 -- pattern is told by the last brace before it.
-abbrev pub with_text : List (List ℕ) → List ℕ → List (List ℕ)
-with_text texts text = if list_any (bytes_eq text) texts then texts else texts ++ text ∷ []
-
 abbrev pub is_here : Blocks → Option ℕ → Bool
 is_here b None = false
 is_here b (Some brace) = brace == b.brace
 
 abbrev pub with_found : Blocks → ℕ → List ℕ → Option ℕ → Blocks
-with_found b at label None = record b { labels = with_text b.labels label; braces = b.braces ++ b.brace ∷ [] }
+with_found b at label None = record b { labels = insert_key bytes_eq b.labels label; braces = b.braces ++ b.brace ∷ [] }
 with_found b at label (Some n) = if is_here b (slice_get b.braces n) then b else record b { again = earlier b.again at }
 
 abbrev pub with_label : Blocks → ℕ → Word → Blocks
@@ -92,8 +89,7 @@ abbrev pub place_in : List Lexeme → ℕ → Option ℕ
 place_in xs token = option_map (λ x. x.at) (slice_get xs token)
 
 abbrev pub subject_place : List Lexeme → Option TripleTokens → Option ℕ
-subject_place xs None = None
-subject_place xs (Some t) = place_in xs t.subject
+subject_place xs triple = option_and_then (λ (t : TripleTokens). place_in xs t.subject) triple
 
 -- own: at most 128 triple patterns and 1,024 nodes
 abbrev pub triples_over : List Lexeme → List TripleTokens → Option ℕ

@@ -1,5 +1,5 @@
 -- Which bytes are a query, what it says, and the first fault of others.
-use Rattle.std.specs.Prelude.{◌≡◌, ℕ, Bool, ◌||◌, List, [], ◌∷◌, drop, length, map, slice_index_or, IsUtf8, Option, Some, None, Ok, Err, if◌then◌else◌, ◌==◌, nat_le, ◌&&◌, Result}
+use Rattle.std.specs.Prelude.{◌≡◌, ℕ, Bool, ◌||◌, List, [], ◌∷◌, drop, length, slice_index_or, IsUtf8, Option, Some, None, Ok, Err, if◌then◌else◌, ◌==◌, nat_le, ◌&&◌, Result}
 use Rattle.std.specs.Str.Lossy.{utf8_valid_len}
 use Rattle.std.specs.Option.{option_or}
 use Rattle.vkg_grammar.specs.Form.{Form, IsTooDeep, IsShallow}
@@ -42,7 +42,7 @@ sparql = record {
 }
 
 abbrev pub kind_at : List Token → ℕ → ℕ
-kind_at ts i = slice_index_or (map (λ t. t.kind) ts) i 0
+kind_at ts i = slice_index_or (kinds_of ts) i 0
 
 abbrev pub fault : ℕ → ℕ → QueryFault
 fault check at = record { check = check; at = at }

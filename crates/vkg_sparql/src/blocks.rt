@@ -1,4 +1,4 @@
-ghost use Rattle.std.specs.Prelude.{◌≡◌, position, slice_get, OnOk, IfOk};
+ghost use Rattle.std.specs.Prelude.{◌≡◌, position, OnOk, IfOk};
 ghost use Rattle.std.specs.Str.{bytes_eq};
 ghost use Rattle.vkg_sparql.specs.Checks.{is_here, with_found, with_label, block_step, label_again};
 
@@ -16,15 +16,6 @@ pub struct Blocks {
     pub braces: Items<usize>,
     pub brace: usize,
     pub again: Option<usize>,
-}
-
-fn brace_at(braces: &[usize], number: usize) -> Option<usize>
-    ensures { result ≡ slice_get braces.now number }
-{
-    match braces.get(number) {
-        Some(brace) => Some(*brace),
-        None => None,
-    }
 }
 
 impl Blocks {
@@ -52,7 +43,7 @@ impl Blocks {
                 self.braces.push(self.brace)
             }
             Some(number) => {
-                let brace = brace_at(self.braces.as_slice(), number);
+                let brace = self.braces.get(number).copied();
                 if !self.is_here(brace) {
                     self.again = earlier(self.again, at);
                 }

@@ -9,6 +9,7 @@ use crate::meaning::TripleTokens;
 use std::alloc::Global;
 use vkg_base::{Memory, Text};
 use vkg_cells::is_wide_number;
+use vkg_terms::vocabulary::{XSD_DOUBLE, XSD_FLOAT};
 use vkg_terms::{Annotation, Term, is_absolute};
 use vkg_turtle::Word;
 
@@ -24,10 +25,6 @@ pub enum Check {
     /// A well-typed number past 38 digits.
     Wide,
 }
-
-const XSD_DOUBLE: &str = "http://www.w3.org/2001/XMLSchema#double";
-
-const XSD_FLOAT: &str = "http://www.w3.org/2001/XMLSchema#float";
 
 fn is_unknown(alloc: Global, environment: &Environment, word: &Word) -> Result<bool, Memory>
     ensures { IfOk result (λ b. b ≡ is_unknown environment.now word.now) }
@@ -148,16 +145,7 @@ pub fn nodes_over(alloc: Global, lexemes: &[Lexeme]) -> Result<Option<usize>, Me
     ensures { IfOk result (λ at. at ≡ nodes_over lexemes.now) }
 {
     let places = node_places(alloc, lexemes)?;
-    Ok(number_at(&places, 1024))
-}
-
-fn number_at(numbers: &[usize], at: usize) -> Option<usize>
-    ensures { result ≡ slice_get numbers.now at }
-{
-    match numbers.get(at) {
-        Some(number) => Some(*number),
-        None => None,
-    }
+    Ok(places.get(1024).copied())
 }
 
 fn place_in(lexemes: &[Lexeme], token: usize) -> Option<usize>

@@ -1,4 +1,4 @@
-ghost use Rattle.std.specs.Prelude.{◌≡◌, ◌<◌, ◌++◌, option_map, slice_get, Some, [], IfOk, OnOk};
+ghost use Rattle.std.specs.Prelude.{◌≡◌, ◌<◌, ◌++◌, option_map, Some, [], IfOk, OnOk};
 ghost use Rattle.std.specs.Option.{option_copied};
 ghost use Rattle.vkg_grammar.specs.Forest.{tree, node_count};
 ghost use Rattle.vkg_sparql.specs.Environment.{iri_of, iri_text, begun, relative_or, with_base, with_prefix, declaration, declarations, environment_of, body_start};
@@ -6,10 +6,10 @@ ghost use Rattle.vkg_sparql.specs.Environment.{iri_of, iri_text, begun, relative
 use crate::lexeme::Lexeme;
 use crate::meaning::first_token;
 use std::alloc::Global;
-use vkg_base::{Memory, Text, earlier};
+use vkg_base::{Memory, Text, at as lexeme_at, earlier};
 use vkg_grammar::{Forest, Node};
 use vkg_terms::is_absolute;
-use vkg_turtle::{Prefixes, Word, iri_named, prefix_of};
+use vkg_turtle::{Prefixes, Word, iri_named, or_empty, prefix_of};
 
 /// What a query's IRIs are read against: the base and the prefixes, with the place of the first IRI of the prologue that is
 /// not absolute.
@@ -52,10 +52,7 @@ impl Environment {
     pub fn iri_text(&self, alloc: Global, word: &Word) -> Result<Text, Memory>
         ensures { IfOk result (λ t. t ≡ iri_text self.now word.now) }
     {
-        match self.iri_of(alloc, word)? {
-            Some(iri) => Ok(iri),
-            None => Text::new(alloc, ""),
-        }
+        or_empty(alloc, self.iri_of(alloc, word)?)
     }
 
     fn set_base(&mut self, alloc: Global, lexeme: Option<&Lexeme>) -> Result<(), Memory>
@@ -143,12 +140,6 @@ impl Environment {
         }
         Ok(())
     }
-}
-
-fn lexeme_at(lexemes: &[Lexeme], token: usize) -> Option<&Lexeme>
-    ensures { option_copied result ≡ slice_get lexemes.now token }
-{
-    lexemes.get(token)
 }
 
 /// What the prologue of a query declares.

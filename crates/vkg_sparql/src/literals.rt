@@ -9,17 +9,10 @@ use crate::meaning::Meaning;
 use crate::names::{Names, number_in};
 use std::alloc::Global;
 use vkg_base::{Memory, Text};
+use vkg_terms::vocabulary::{RDF_TYPE, XSD_BOOLEAN, XSD_DECIMAL, XSD_INTEGER};
 use vkg_terms::{Annotation, Term};
 use vkg_turtle::{Word, lowered};
 use vkg_values::{Compare, Take, Test};
-
-const XSD_INTEGER: &str = "http://www.w3.org/2001/XMLSchema#integer";
-
-const XSD_DECIMAL: &str = "http://www.w3.org/2001/XMLSchema#decimal";
-
-const XSD_BOOLEAN: &str = "http://www.w3.org/2001/XMLSchema#boolean";
-
-const RDF_TYPE: &str = "http://www.w3.org/1999/02/22-rdf-syntax-ns#type";
 
 fn type_behind(
     alloc: Global,

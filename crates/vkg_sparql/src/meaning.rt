@@ -1,12 +1,11 @@
-ghost use Rattle.std.specs.Prelude.{◌≡◌, ◌<◌, IfOk, slice_get, unwrap_or};
-ghost use Rattle.std.specs.Option.{option_copied};
+ghost use Rattle.std.specs.Prelude.{◌≡◌, ◌<◌, IfOk, unwrap_or};
 ghost use Rattle.vkg_grammar.specs.Forest.{tree, node_count};
 ghost use Rattle.vkg_sparql.specs.Meanings.{first_token, meaning_at, node_of, number_of, operand_of, compare_of, applied, pattern_of, name_of};
 
 use crate::condition::Condition;
 use crate::pattern::{GraphName, Node, TriplePattern};
 use std::alloc::Global;
-use vkg_base::{Box, Memory, Text};
+use vkg_base::{Box, Memory, Text, at};
 use vkg_grammar::{Forest, Node as Made};
 use vkg_terms::Term;
 use vkg_values::{Compare, Take, Test};
@@ -50,12 +49,6 @@ pub fn first_token(forest: &Forest, at: usize) -> usize
             Made::Second(a) => rest = a,
         }
     }
-}
-
-fn at(meanings: &[Meaning], token: usize) -> Option<&Meaning>
-    ensures { option_copied result ≡ slice_get meanings.now token }
-{
-    meanings.get(token)
 }
 
 /// The place of a pattern that a token stands for.

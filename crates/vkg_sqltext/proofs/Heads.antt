@@ -1,5 +1,5 @@
 -- The text of an expression begins with a word, and the word tells its form.
-use Rattle.std.proofs.Common.{◌≡◌, ◌∙◌, ℕ, ◌<◌, ◌^◌, ◌==◌, ◌&&◌, Bool, true, false, if◌then◌else◌, suc, List, [], ◌∷◌, ◌++◌, flat_map, refl, sym, ap, arith, append_assoc, nat_le}
+use Rattle.std.proofs.Common.{◌≡◌, ◌∙◌, ℕ, ◌<◌, ◌^◌, ◌==◌, ◌&&◌, Bool, true, false, not, if◌then◌else◌, suc, List, [], ◌∷◌, ◌++◌, flat_map, refl, sym, ap, arith, append_assoc, nat_le}
 use Rattle.std.specs.Char.{is_ascii_digit}
 use Rattle.std.specs.Prelude.{IsUtf8, codes, decimal}
 use Rattle.std.specs.List.{list_all, list_any}
@@ -387,32 +387,21 @@ pub data Ends : List ℕ → Type 0 where
   at_comma : (x : List ℕ) → Ends (44 ∷ x)
   at_space : (x : List ℕ) → Ends (32 ∷ x)
 
-pub ends_letters : {x : List ℕ} → Ends x → stops is_letter x ≡ true
-ends_letters at_end = refl
-ends_letters (at_bracket x) = refl
-ends_letters (at_comma x) = refl
-ends_letters (at_space x) = refl
-
-ends_digits : {x : List ℕ} → Ends x → stops is_ascii_digit x ≡ true
-ends_digits at_end = refl
-ends_digits (at_bracket x) = refl
-ends_digits (at_comma x) = refl
-ends_digits (at_space x) = refl
-
-ends_quotes : {x : List ℕ} → Ends x → stops (λ b. b == 39) x ≡ true
-ends_quotes at_end = refl
-ends_quotes (at_bracket x) = refl
-ends_quotes (at_comma x) = refl
-ends_quotes (at_space x) = refl
+-- bytes of another kind
+pub ends_stop : (p : ℕ → Bool) {x : List ℕ} → not (p 41) ≡ true → not (p 44) ≡ true → not (p 32) ≡ true → Ends x → stops p x ≡ true
+ends_stop p bracket comma space at_end = refl
+ends_stop p bracket comma space (at_bracket x) = bracket
+ends_stop p bracket comma space (at_comma x) = comma
+ends_stop p bracket comma space (at_space x) = space
 
 digit_no_letter : (b : ℕ) → is_ascii_digit b ≡ true → is_letter b ≡ false
 digit_no_letter b h = grind (arith, nat_tests)
 
 rest_stops : (h : Head) (x : List ℕ) → SoundHead h → Ends x → stops is_letter (rest h ++ x) ≡ true
-rest_stops (Bare w) x s e = ends_letters e
+rest_stops (Bare w) x s e = ends_stop is_letter refl refl refl e
 rest_stops (Spaced w t) x s e = refl
 rest_stops (Quote t) x s e = refl
-rest_stops (Column n) x s e = stops_behind is_letter is_ascii_digit (decimal (suc n)) x (decimal_digits (suc n) s) digit_no_letter (ends_letters e)
+rest_stops (Column n) x s e = stops_behind is_letter is_ascii_digit (decimal (suc n)) x (decimal_digits (suc n) s) digit_no_letter (ends_stop is_letter refl refl refl e)
 rest_stops (Cast k) x s e = refl
 rest_stops (Whole t) x s e = refl
 rest_stops (Calls w es) x s e = refl
@@ -522,13 +511,13 @@ arguments_same (expr.More e es) (expr.More f fs) x y a s t same =
 head_one : (h k : Head) (x y : List ℕ) → HeadIsOne h → SoundHead h → SoundHead k → Ends x → Ends y → word h ≡ word k → number h ≡ number k → rest h ++ x ≡ rest k ++ y → (h ≡ k) × (x ≡ y)
 head_one (Bare v) (Bare w) x y a s t u z e n same = (ap Bare e, same)
 head_one (Spaced v p) (Spaced w q) x y a s t u z e n same =
-    let r = quoted_same p q x y s t (ends_quotes u) (ends_quotes z) (tail_same 32 32 _ _ same) in
+    let r = quoted_same p q x y s t (ends_stop (λ b. b == 39) refl refl refl u) (ends_stop (λ b. b == 39) refl refl refl z) (tail_same 32 32 _ _ same) in
     ((λ i. Spaced (e i) (r.0 i)), r.1)
 head_one (Quote p) (Quote q) x y a s t u z e n same =
-    let r = quoted_same p q x y s t (ends_quotes u) (ends_quotes z) same in
+    let r = quoted_same p q x y s t (ends_stop (λ b. b == 39) refl refl refl u) (ends_stop (λ b. b == 39) refl refl refl z) same in
     (ap Quote r.0, r.1)
 head_one (Column i) (Column j) x y a s t u z e n same =
-    let r = run_same is_ascii_digit (decimal (suc i)) (decimal (suc j)) x y (decimal_digits (suc i) s) (decimal_digits (suc j) t) (ends_digits u) (ends_digits z) same in
+    let r = run_same is_ascii_digit (decimal (suc i)) (decimal (suc j)) x y (decimal_digits (suc i) s) (decimal_digits (suc j) t) (ends_stop is_ascii_digit refl refl refl u) (ends_stop is_ascii_digit refl refl refl z) same in
     let g : suc i ≡ suc j = decimal_injective (suc i) (suc j) s t r.0 in
     let h : i ≡ j = omega (arith, g) in
     (ap Column h, r.1)
@@ -537,7 +526,7 @@ head_one (Cast k) (Cast l) x y a s t u z e n same =
     let r = kind_same k l (41 ∷ x) (41 ∷ y) refl refl (sym (append_assoc (kind_text k) (codes ")") x) ∙ opened ∙ append_assoc (kind_text l) (codes ")") y) in
     (ap Cast r.0, tail_same 41 41 x y r.1)
 head_one (Whole p) (Whole q) x y a s t u z e n same =
-    let r = quoted_same (term_text p) (term_text q) x y s.1 t.1 (ends_quotes u) (ends_quotes z) (tail_same 32 32 _ _ same) in
+    let r = quoted_same (term_text p) (term_text q) x y s.1 t.1 (ends_stop (λ b. b == 39) refl refl refl u) (ends_stop (λ b. b == 39) refl refl refl z) (tail_same 32 32 _ _ same) in
     (ap Whole (term_text_same p q s.0 t.0 r.0), r.1)
 head_one (Calls v es) (Calls w fs) x y a s t u z e n same =
     let r = arguments_same es fs x y a s t (sym (append_assoc (commas (expr_texts es)) (codes ")") x) ∙ tail_same 40 40 _ _ same ∙ append_assoc (commas (expr_texts fs)) (codes ")") y) in

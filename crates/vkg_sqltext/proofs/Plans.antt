@@ -15,7 +15,7 @@ use Rattle.vkg_plan.specs.Plan.{Plan, Plans, Unit as Once, Empty, Scan, Select, 
 use Rattle.vkg_sqltext.specs.Laws.{HaveOwnTexts}
 use Rattle.vkg_sqltext.specs.Text.{column_text, commas, doubled, expr_text, in_brackets, kind_text, outputs, outputs_text, separated, sources, sql_text, sql_texts}
 use Rattle.vkg_sqltext.proofs.Cutting.{decimal_opens, within_same}
-use Rattle.vkg_sqltext.proofs.Heads.{Begins, Ends, SoundExprs, at_bracket, at_end, at_space, begins, class, expr_one, is_letter, kind_same, not_begun, ends_letters}
+use Rattle.vkg_sqltext.proofs.Heads.{Begins, Ends, SoundExprs, at_bracket, at_end, at_space, begins, class, expr_one, ends_stop, is_letter, kind_same, not_begun}
 use Rattle.vkg_sqltext.proofs.Sound.{SoundPlan, SoundPlans, sound_plan}
 
 -- what may stand behind a plan
@@ -26,10 +26,6 @@ data Closes : List ℕ → Type 0 where
 closes_ends : {x : List ℕ} → Closes x → Ends x
 closes_ends closes_end = at_end
 closes_ends (closes_bracket x) = at_bracket x
-
-closes_names : {x : List ℕ} → Closes x → stops (λ b. b == 34) x ≡ true
-closes_names closes_end = refl
-closes_names (closes_bracket x) = refl
 
 not_spaced : {x : List ℕ} (y : List ℕ) → Closes x → x ≡ 32 ∷ y → ⊥
 not_spaced y closes_end e = absurd (cc)
@@ -203,7 +199,7 @@ module _ (schema : Tables) (names : HasOwnNames schema) where
   plan_stops : (p : Plan) (x : List ℕ) → Closes x → stops is_letter (plan_rest p ++ x) ≡ true
   plan_stops (Join Nil c) x u = refl
   plan_stops (Join (More p ps) c) x u = refl
-  plan_stops (UnionAll Nil) x u = ends_letters (closes_ends u)
+  plan_stops (UnionAll Nil) x u = ends_stop is_letter refl refl refl (closes_ends u)
   plan_stops (UnionAll (More p ps)) x u = refl
   plan_stops p x u = refl
 
@@ -324,7 +320,7 @@ module _ (schema : Tables) (names : HasOwnNames schema) where
       let r = kinds_one ks ls x y (sym (append_assoc (commas (map kind_text ks)) (codes ")") x) ∙ opened ∙ append_assoc (commas (map kind_text ls)) (codes ")") y) in
       (ap Empty r.0, r.1)
   rest_one (Scan i) (Scan j) x y a s t u v n e =
-      let r = within_same 34 (omega arith) (table_name schema i) (table_name schema j) x y (names.utf8 i) (names.utf8 j) (closes_names u) (closes_names v) (append_cancel_left (codes " \"") _ _ e) in
+      let r = within_same 34 (omega arith) (table_name schema i) (table_name schema j) x y (names.utf8 i) (names.utf8 j) (ends_stop (λ b. b == 34) refl refl refl (closes_ends u)) (ends_stop (λ b. b == 34) refl refl refl (closes_ends v)) (append_cancel_left (codes " \"") _ _ e) in
       (ap Scan (names.apart i j s t r.0), r.1)
   rest_one (Select c p) (Select d q) x y a s t u v n e =
       let r = star_one p q (where_tail c x) (where_tail d y) a s.1 t.1 (sym (select_is c p x) ∙ e ∙ select_is d q y) in

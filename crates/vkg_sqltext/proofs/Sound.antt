@@ -5,12 +5,12 @@ use Rattle.std.proofs.lemmas.Option.{slice_get_within}
 use Rattle.vkg_lists.proofs.Onto.{first_some, both_some, map_given}
 use Rattle.vkg_lists.specs.Options.{joined}
 use Rattle.vkg_lists.proofs.Bools.{and_parts}
-use Rattle.vkg_lists.proofs.Results.{some_if, some_of, some_then}
+use Rattle.vkg_lists.proofs.Results.{some_if, some_of, some_then, then_test}
 use Rattle.vkg_cells.specs.declared.cell.SqlType.{SqlType}
 use Rattle.vkg_cells.specs.declared.cell.SqlType.TheVariants as kind
 use Rattle.vkg_expr.specs.Expr.{Expr, Exprs, Col, Const, MakeIri, IriOf, MakeBlank, MakeLit, Lex, IriSafe, Concat, Same, IsNull, Not, And, Or, Coalesce, Sparql, Ebv, each, exprs}
 use Rattle.vkg_expr.specs.Expr as expr
-use Rattle.vkg_expr.specs.Typing.{are_all, arity, common, equality_kind, fits, giving, is_one, kind_of, kinds_of, lexical_kind, no_column}
+use Rattle.vkg_expr.specs.Typing.{are_all, arity, common, equality_kind, fits, is_one, kind_of, kinds_of, lexical_kind, no_column}
 use Rattle.vkg_expr.proofs.TypedParts.{all_is, equality_given, lexical_given, one_is}
 use Rattle.vkg_expr.proofs.ValueFits.{common_given}
 use Rattle.vkg_plan.specs.Kinds.{Tables, beside_all, kinds_of_each, plan_kinds}
@@ -19,9 +19,6 @@ use Rattle.vkg_plan.proofs.KindLists.{alike_some, beside_some}
 use Rattle.vkg_plan.proofs.RowsFit.{checked_parts}
 use Rattle.vkg_sqltext.specs.Laws.{HoldsExpr, HoldsExprs, HoldsPlan, HoldsPlans}
 use Rattle.vkg_sqltext.proofs.Heads.{SoundExpr, SoundExprs}
-
-giving_some : (k : SqlType) (b : Bool) → is_some (giving k b) ≡ true → b ≡ true
-giving_some k b h = (some_if b (Some k) h).0
 
 one_some : (k : SqlType) (o : Option SqlType) → is_one k o ≡ true → is_some o ≡ true
 one_some k o h = ap is_some (one_is k o h)
@@ -47,24 +44,24 @@ common_some o h = let s = some_of (common o) h in ap is_some (common_given o s.0
 mutual
   pub sound_expr : (e : Expr) (ks : List SqlType) → is_some (kind_of e ks) ≡ true → HoldsExpr e → SoundExpr e
   sound_expr (Col at) ks h w = w
-  sound_expr (Const c k) ks h w = (giving_some k (fits k c) h, w)
-  sound_expr (MakeIri e) ks h w = sound_expr e ks (one_some kind.Text (kind_of e ks) (giving_some kind.Term (is_one kind.Text (kind_of e ks)) h)) w
-  sound_expr (IriOf base e) ks h w = (w.0, sound_expr e ks (one_some kind.Text (kind_of e ks) (giving_some kind.Text (is_one kind.Text (kind_of e ks)) h)) w.1)
-  sound_expr (MakeBlank e) ks h w = sound_expr e ks (one_some kind.Text (kind_of e ks) (giving_some kind.Term (is_one kind.Text (kind_of e ks)) h)) w
-  sound_expr (MakeLit e annotation) ks h w = (sound_expr e ks (one_some kind.Text (kind_of e ks) (giving_some kind.Term (is_one kind.Text (kind_of e ks)) h)) w.0, w.1)
+  sound_expr (Const c k) ks h w = (then_test (fits k c) k h, w)
+  sound_expr (MakeIri e) ks h w = sound_expr e ks (one_some kind.Text (kind_of e ks) (then_test (is_one kind.Text (kind_of e ks)) kind.Term h)) w
+  sound_expr (IriOf base e) ks h w = (w.0, sound_expr e ks (one_some kind.Text (kind_of e ks) (then_test (is_one kind.Text (kind_of e ks)) kind.Text h)) w.1)
+  sound_expr (MakeBlank e) ks h w = sound_expr e ks (one_some kind.Text (kind_of e ks) (then_test (is_one kind.Text (kind_of e ks)) kind.Term h)) w
+  sound_expr (MakeLit e annotation) ks h w = (sound_expr e ks (one_some kind.Text (kind_of e ks) (then_test (is_one kind.Text (kind_of e ks)) kind.Term h)) w.0, w.1)
   sound_expr (Lex e) ks h w = sound_expr e ks (lexical_some (kind_of e ks) h) w
-  sound_expr (IriSafe e) ks h w = sound_expr e ks (one_some kind.Text (kind_of e ks) (giving_some kind.Text (is_one kind.Text (kind_of e ks)) h)) w
-  sound_expr (Concat es) ks h w = sound_exprs es ks (all_some kind.Text (kinds_of es ks) (and_parts (no_column es) (are_all kind.Text (kinds_of es ks)) (giving_some kind.Text (no_column es && are_all kind.Text (kinds_of es ks)) h)).1) w
+  sound_expr (IriSafe e) ks h w = sound_expr e ks (one_some kind.Text (kind_of e ks) (then_test (is_one kind.Text (kind_of e ks)) kind.Text h)) w
+  sound_expr (Concat es) ks h w = sound_exprs es ks (all_some kind.Text (kinds_of es ks) (and_parts (no_column es) (are_all kind.Text (kinds_of es ks)) (then_test (no_column es && are_all kind.Text (kinds_of es ks)) kind.Text h)).1) w
   sound_expr (Same a b) ks h w =
       let s = equality_some (kind_of a ks) (kind_of b ks) h in
       (sound_expr a ks s.0 w.0, sound_expr b ks s.1 w.1)
   sound_expr (IsNull e) ks h w = sound_expr e ks (mapped_some (λ k. kind.Bool) (kind_of e ks) h) w
-  sound_expr (Not e) ks h w = sound_expr e ks (one_some kind.Bool (kind_of e ks) (giving_some kind.Bool (is_one kind.Bool (kind_of e ks)) h)) w
-  sound_expr (And es) ks h w = sound_exprs es ks (all_some kind.Bool (kinds_of es ks) (giving_some kind.Bool (are_all kind.Bool (kinds_of es ks)) h)) w
-  sound_expr (Or es) ks h w = sound_exprs es ks (all_some kind.Bool (kinds_of es ks) (giving_some kind.Bool (are_all kind.Bool (kinds_of es ks)) h)) w
+  sound_expr (Not e) ks h w = sound_expr e ks (one_some kind.Bool (kind_of e ks) (then_test (is_one kind.Bool (kind_of e ks)) kind.Bool h)) w
+  sound_expr (And es) ks h w = sound_exprs es ks (all_some kind.Bool (kinds_of es ks) (then_test (are_all kind.Bool (kinds_of es ks)) kind.Bool h)) w
+  sound_expr (Or es) ks h w = sound_exprs es ks (all_some kind.Bool (kinds_of es ks) (then_test (are_all kind.Bool (kinds_of es ks)) kind.Bool h)) w
   sound_expr (Coalesce es) ks h w = sound_exprs es ks (common_some (kinds_of es ks) h) w
-  sound_expr (Sparql op es) ks h w = sound_exprs es ks (all_some kind.Term (kinds_of es ks) (and_parts (length (each es) == arity op) (are_all kind.Term (kinds_of es ks)) (giving_some _ ((length (each es) == arity op) && are_all kind.Term (kinds_of es ks)) h)).1) w
-  sound_expr (Ebv e) ks h w = sound_expr e ks (one_some kind.Term (kind_of e ks) (giving_some kind.Bool (is_one kind.Term (kind_of e ks)) h)) w
+  sound_expr (Sparql op es) ks h w = sound_exprs es ks (all_some kind.Term (kinds_of es ks) (and_parts (length (each es) == arity op) (are_all kind.Term (kinds_of es ks)) (then_test ((length (each es) == arity op) && are_all kind.Term (kinds_of es ks)) _ h)).1) w
+  sound_expr (Ebv e) ks h w = sound_expr e ks (one_some kind.Term (kind_of e ks) (then_test (is_one kind.Term (kind_of e ks)) kind.Bool h)) w
 
   pub sound_exprs : (es : Exprs) (ks : List SqlType) → is_some (kinds_of es ks) ≡ true → HoldsExprs es → SoundExprs es
   sound_exprs expr.Nil ks h w = tt

@@ -1,5 +1,6 @@
 -- The text of a plan over a schema, as a statement in the manner of SQL-92.
 use Rattle.std.specs.Prelude.{ℕ, suc, Bool, true, false, List, [], ◌∷◌, ◌++◌, map, flat_map, Option, Some, None, chars, codes, decimal, encode_utf8, ◌==◌, if◌then◌else◌}
+use Rattle.std.specs.List.{join_by}
 use Rattle.vkg_terms.specs.declared.term.Annotation.{Annotation}
 use Rattle.vkg_terms.specs.declared.term.Annotation.TheVariants.{Plain, Lang, Typed}
 use Rattle.vkg_terms.specs.NQuads.{term_text}
@@ -77,8 +78,7 @@ operator_text (Test op) = test_text op
 
 -- the pieces with a text between each two
 abbrev pub separated : List ℕ → List (List ℕ) → List ℕ
-separated sign [] = []
-separated sign (t ∷ ts) = t ++ flat_map (λ u. sign ++ u) ts
+separated sign ts = join_by (λ t. t) sign ts
 
 abbrev pub commas : List (List ℕ) → List ℕ
 commas = separated (codes ", ")

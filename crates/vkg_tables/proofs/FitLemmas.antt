@@ -1,6 +1,6 @@
 -- The cells that are read fit their columns.
 use Rattle.std.proofs.Common.{◌≡◌, ◌≢◌, ◌∙◌, ◌+◌, ◌<◌, ◌&&◌, ◌==◌, ◌⊎◌, inl, inr, ℕ, zero, suc, Bool, true, false, List, [], ◌∷◌, Option, Some, None, if◌then◌else◌, refl, sym, ap, subst, arith, length, get_or, nat_lt, map, IsUtf8}
-use Rattle.std.specs.Prelude.{Result, Ok, Err, OnErr, OnOk, ◌++◌, slice_get, slice_set, unwrap_or}
+use Rattle.std.specs.Prelude.{Result, Ok, Err, OnErr, OnOk, ◌++◌, slice_set}
 use Rattle.std.proofs.lemmas.List.{set-get_or}
 use Rattle.std.proofs.lemmas.Option.{slice_get-get_or, unwrap_or-slice_get}
 use Rattle.std.proofs.lemmas.Slice.Zip.{AllZip-long}
@@ -25,7 +25,7 @@ use Rattle.vkg_cells.specs.Order.{family_of}
 use Rattle.vkg_cells.proofs.FieldLemmas.{family_is}
 use Rattle.vkg_schema.specs.declared.table.Column.{Column}
 use Rattle.vkg_schema.specs.declared.table.Table.{Table}
-use Rattle.vkg_schema.specs.Meets.{FitsColumn, IsColumn, IsTable, IsWellFormed}
+use Rattle.vkg_schema.specs.Meets.{FitsColumn, IsColumn, IsTable}
 use Rattle.vkg_schema.specs.Rows.{Row, is_null, rows_of}
 use Rattle.vkg_tables.specs.Field.{cell_of_csv, stands_for_null}
 use Rattle.vkg_tables.specs.Field.{field_of}
@@ -64,16 +64,10 @@ row-NoTerm (k ∷ ks) (c ∷ cs) h f = (fits-NoTerm k c h.0 f.0, row-NoTerm ks c
 rows-NoTerm : (columns : List Column) (rows : List Row) → AllByRecursion IsColumn columns → AllByRecursion (AllZip FitsColumn columns) rows → AllByRecursion HasNoTerm rows
 rows-NoTerm columns rows h f = recursion_weaken (AllZip FitsColumn columns) HasNoTerm rows (λ row fits. row-NoTerm columns row h fits) f
 
-tables-NoTerm : (all tables : List Table) (db : List (List Row)) → AllByRecursion (IsTable all) tables → HoldsCells tables db → AllByRecursion (AllByRecursion HasNoTerm) db
+pub tables-NoTerm : (all tables : List Table) (db : List (List Row)) → AllByRecursion (IsTable all) tables → HoldsCells tables db → AllByRecursion (AllByRecursion HasNoTerm) db
 tables-NoTerm all tables [] h f = tt
 tables-NoTerm all [] (rows ∷ db) h f = absurd f
 tables-NoTerm all (t ∷ ts) (rows ∷ db) h f = (rows-NoTerm t.columns rows h.0.columns f.0, tables-NoTerm all ts db h.1 f.1)
-
-pub database-NoTerm : (tables : List Table) (db : List (List Row)) → IsWellFormed tables → HoldsCells tables db → AllByRecursion (AllByRecursion HasNoTerm) db
-database-NoTerm tables db h f = tables-NoTerm tables tables db h f
-
-pub same-length : (tables : List Table) (db : List (List Row)) → HoldsCells tables db → length db ≡ length tables
-same-length tables db h = AllZip-long HoldsRows tables db h
 
 -- ---- what is read fits
 of-kind : (k : SqlType) (text : List ℕ) (c : Cell) → IsUtf8 text → cell_of_field k text ≡ Ok c → IsOfKind k c
@@ -181,10 +175,6 @@ table-width [] (rows ∷ db) i row d h l = absurd h
 table-width (t ∷ ts) [] i row d h l = absurd h
 table-width (t ∷ ts) (rows ∷ db) zero row d h l = AllZip-long FitsColumn t.columns (get_or rows row d) (recursion_at (AllZip FitsColumn t.columns) rows row d h.0 l)
 table-width (t ∷ ts) (rows ∷ db) (suc i) row d h l = table-width ts db i row d h.1 l
-
--- the list at a place of a list of lists
-pub list-there : {A : Type 0} (xs : List (List A)) (i : ℕ) (d : List A) → i < length xs → get_or xs i d ≡ unwrap_or (slice_get xs i) []
-list-there xs i d l = sym (ap (λ o. unwrap_or o []) (slice_get-get_or xs i d l))
 
 pub pushed-holds : (tables : List Table) (db : List (List Row)) (i : ℕ) (row : Row) → i < length tables → HoldsCells tables db → AllZip FitsColumn (columns_of tables i) row → HoldsCells tables (slice_set db i (rows_of db i ++ row ∷ []))
 pushed-holds [] db i row l h f = absurd (omega (arith, l))

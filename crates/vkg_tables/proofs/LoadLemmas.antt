@@ -1,6 +1,6 @@
 -- Walks over columns and over records.
-use Rattle.std.proofs.Common.{◌≡◌, ◌∙◌, ◌+◌, ◌<◌, ◌≤◌, ◌++◌, ℕ, zero, suc, Bool, true, false, List, [], ◌∷◌, refl, sym, ap, length, get_or, drop, add-one, drop-cons, nat_lt, map, IsUtf8, le-ltb}
-use Rattle.std.proofs.lemmas.List.{append-nil, get_or-map}
+use Rattle.std.proofs.Common.{◌≡◌, ◌∙◌, ◌+◌, ◌<◌, ◌≤◌, ◌++◌, ℕ, zero, suc, Bool, true, false, List, [], ◌∷◌, refl, sym, ap, length, get_or, drop, add-one, drop-cons, IsUtf8, le-ltb}
+use Rattle.std.proofs.lemmas.List.{append-nil}
 use Rattle.std.specs.Prelude.{Result, Ok, Err}
 use Rattle.vkg_lists.proofs.Results.{followed_first}
 use Rattle.vkg_lists.specs.Results.{followed_by, in_front}
@@ -49,18 +49,12 @@ pub rows-next : (header : List (List ℕ)) (columns : List Column) (i : ℕ) (re
     → rows_from header columns (i + 1) (drop i records) ≡ onto (row_from header columns (i + 1) (get_or records i d)) (rows_from header columns (i + 1 + 1) (drop (i + 1) records))
 rows-next header columns i records d h = ap (rows_from header columns (i + 1)) (drop-cons records i d h ∙ ap (λ n. get_or records i d ∷ drop n records) (sym (add-one i)))
 
-pub place-at : (header : List (List ℕ)) (columns : List Column) (i : ℕ) (d : Column) → i < length columns → get_or (map (place_in header) columns) i 0 ≡ place_in header (get_or columns i d)
-place-at header columns i d h = get_or-map (place_in header) columns i d 0 h
-
-not-long : (bytes : List ℕ) → length bytes ≤ 2147483647 → nat_lt 2147483647 (length bytes) ≡ false
-not-long bytes h = le-ltb _ _ h
-
 pub file-text : (bytes : List ℕ) → length bytes ≤ 2147483647 → IsUtf8 bytes → file_records bytes ≡ Ok (records default_config (strip_bom bytes))
-file-text bytes h u = rw (not-long bytes h, is_utf8-from_IsUtf8 bytes u) refl
+file-text bytes h u = rw (le-ltb 2147483647 (length bytes) h, is_utf8-from_IsUtf8 bytes u) refl
 
 pub file-no-text : (bytes : List ℕ) → length bytes ≤ 2147483647 → ¬ (IsUtf8 bytes) → file_records bytes ≡ Err (fault 5 0 0)
 file-no-text bytes h u = by (is_utf8 bytes) refl
   where
     by : (b : Bool) → is_utf8 bytes ≡ b → file_records bytes ≡ Err (fault 5 0 0)
     by true e = absurd (u (IsUtf8-from_is_utf8 bytes e))
-    by false e = rw (not-long bytes h, e) refl
+    by false e = rw (le-ltb 2147483647 (length bytes) h, e) refl

@@ -14,7 +14,7 @@ use Rattle.vkg_schema.specs.Meets.{KeyHolds, MeetsSchema, ReferenceHolds, TableM
 use Rattle.vkg_schema.specs.Rows.{Row, agree, has_no_null, rows_of}
 use Rattle.vkg_tables.specs.Checks.{broken_references, is_orphan, key_fault, reference_fault, repeated_keys, repeats, table_fault, with_itself}
 use Rattle.vkg_tables.specs.Firsts.{earlier, first_after, first_orphan, first_repeat}
-use Rattle.vkg_tables.proofs.Places.{first_table, first_table-first, least_place, least_place-first}
+use Rattle.vkg_tables.proofs.Places.{first_table, least_place, least_place-first, tables-first}
 use Rattle.vkg_tables.specs.Seen.{HoldsCells}
 use Rattle.vkg_tables.specs.declared.fault.TableFault.{TableFault}
 
@@ -57,9 +57,6 @@ refers-after db reference before (r ∷ rows) e =
     let one = none-step (λ before row. is_orphan reference.pairs (rows_of db reference.table) row) before r rows e in
     (found-there (has_no_null (child_columns reference) r) (list_any (agree reference.pairs r) (rows_of db reference.table)) one.0, refers-after db reference (before ++ r ∷ []) rows one.1)
 
-pub reference-holds : (db : List (List Row)) (rows : List Row) (reference : Reference) → first_orphan reference.pairs (rows_of db reference.table) rows ≡ None → ReferenceHolds db rows reference
-reference-holds db rows reference e = refers-after db reference [] rows e
-
 no-earlier : (a b : Option (ℕ × ℕ)) → earlier a b ≡ None → (a ≡ None) × (b ≡ None)
 no-earlier None b e = (refl, e)
 no-earlier (Some a) None e = cc e
@@ -90,11 +87,11 @@ meets all n (t ∷ ts) (rows ∷ dbs) h k r =
       record {
         cells = h.0;
         keys = recursion_weaken _ (λ key. KeyHolds key rows) t.keys (λ key e. key-holds key rows e) (no-place (λ key. first_repeat key.columns rows) 1 t.keys key_none);
-        references = recursion_weaken _ (ReferenceHolds all rows) t.references (λ ref e. reference-holds all rows ref e) (no-place (λ ref. first_orphan ref.pairs (rows_of all ref.table) rows) 1 t.references ref_none);
+        references = recursion_weaken _ (ReferenceHolds all rows) t.references (λ ref e. refers-after all ref [] rows e) (no-place (λ ref. first_orphan ref.pairs (rows_of all ref.table) rows) 1 t.references ref_none);
       },
       meets all (n + 1) ts dbs h.1 keys.1 refs.1,
     )
 
 -- after both checks the database meets its schema
 pub meets_schema : (tables : List Table) (db : List (List Row)) → HoldsCells tables db → key_fault tables db ≡ None → reference_fault tables db ≡ None → MeetsSchema tables db
-meets_schema tables db h k r = meets db 1 tables db h (first_table-first 9 repeated_keys tables db ∙ k) (first_table-first 10 (broken_references db) tables db ∙ r)
+meets_schema tables db h k r = meets db 1 tables db h (tables-first 9 repeated_keys 1 tables db ∙ k) (tables-first 10 (broken_references db) 1 tables db ∙ r)

@@ -2,15 +2,16 @@
 use Rattle.std.proofs.Common.{◌≡◌, ◌∙◌, ◌&&◌, ◌||◌, ◌++◌, ℕ, zero, suc, Bool, true, false, not, List, [], ◌∷◌, Option, Some, None, map, option_map, if◌then◌else◌, refl, sym, ap, ap₂, string_bytes, length, get_or, ◌<◌, ◌≤◌}
 use Rattle.std.specs.List.{list_any}
 use Rattle.std.specs.Cmp.Lexicographic.{bytes_decides, pointwise, pointwise_decides}
+use Rattle.std.specs.Cmp.Derive.Mapped.{pointwise-map}
 use Rattle.std.proofs.lemmas.List.{get_or_past, map-append, map-id}
 use Rattle.std.proofs.lemmas.Option.{slice_get-get_or, unwrap_or-slice_get}
 use Rattle.std.proofs.Math.Bool.{and-false, or-false}
 use Rattle.std.specs.Str.{bytes_eq}
-use Rattle.std.specs.Prelude.{String, is_some, unwrap_or}
+use Rattle.std.specs.Prelude.{String, is_some, slice_get, unwrap_or}
 use Rattle.std.specs.String.{string_eq}
 use Rattle.std.specs.Prelude.{Vec}
 use Rattle.std.specs.Option.{option_to_list}
-use Rattle.vkg_lists.specs.Options.{with_first}
+use Rattle.vkg_lists.specs.Options.{both_pass, with_first}
 use Rattle.vkg_lists.proofs.Heads.{any_more}
 use Rattle.vkg_lists.proofs.Onto.{is_some-first, onto_first}
 use Rattle.vkg_lists.proofs.Walks.{map-map}
@@ -20,11 +21,6 @@ use Rattle.vkg_cells.specs.Order.{same, same_form}
 use Rattle.vkg_schema.specs.Rows.{Row, agree, equal_at, has_no_null, is_known, is_known_true, is_null, cell_at}
 use Rattle.vkg_tables.specs.Checks.{is_orphan, repeats, with_itself}
 use Rattle.vkg_tables.specs.Parts.{IsNoTerm, HasNoTerm, all_parts, is_missing, part, parts, texts_eq, texts_of}
-
--- the parts are there and equal
-abbrev pub both : Option (List (List ℕ)) → Option (List (List ℕ)) → Bool
-both (Some a) (Some b) = texts_eq a b
-both a b = false
 
 cells-same : (c d : Cell) → IsNoTerm c → is_known_true (same c d) ≡ same_form (part c) (part d)
 unfolding part
@@ -99,7 +95,7 @@ cell-NoTerm [] k h = λ e. cc e
 cell-NoTerm (c ∷ r) zero h = h.0
 cell-NoTerm (c ∷ r) (suc k) h = cell-NoTerm r k h.1
 
-both-onto : (x y : Option (List ℕ)) (xs ys : Option (List (List ℕ))) → both (with_first x xs) (with_first y ys) ≡ same_form x y && both xs ys
+both-onto : (x y : Option (List ℕ)) (xs ys : Option (List (List ℕ))) → both_pass texts_eq (with_first x xs) (with_first y ys) ≡ same_form x y && both_pass texts_eq xs ys
 both-onto None y xs ys = refl
 both-onto (Some a) y None ys = sym (and-false (same_form (Some a) y))
 both-onto (Some a) None (Some us) ys = refl
@@ -107,7 +103,7 @@ both-onto (Some a) (Some b) (Some us) None = sym (and-false (bytes_eq a b))
 both-onto (Some a) (Some b) (Some us) (Some vs) = refl
 
 -- the rows agree where the parts of the two sides are there and equal
-pub agree-parts : (pairs : List (ℕ × ℕ)) (r s : Row) → HasNoTerm r → agree pairs r s ≡ both (parts (map (λ p. p.0) pairs) r) (parts (map (λ p. p.1) pairs) s)
+pub agree-parts : (pairs : List (ℕ × ℕ)) (r s : Row) → HasNoTerm r → agree pairs r s ≡ both_pass texts_eq (parts (map (λ p. p.0) pairs) r) (parts (map (λ p. p.1) pairs) s)
 unfolding equal_at
 agree-parts [] r s h = refl
 agree-parts (p ∷ ps) r s h =
@@ -125,18 +121,18 @@ abbrev pub found : Option (List (List ℕ)) → List (List (List ℕ)) → Bool
 found None known = false
 found (Some ps) known = list_any (texts_eq ps) known
 
-any-both : (o : Option (List (List ℕ))) (columns : List ℕ) (rows : List Row) → list_any (λ r. both o (parts columns r)) rows ≡ found o (all_parts columns rows)
+any-both : (o : Option (List (List ℕ))) (columns : List ℕ) (rows : List Row) → list_any (λ r. both_pass texts_eq o (parts columns r)) rows ≡ found o (all_parts columns rows)
 any-both None columns [] = refl
 any-both None columns (r ∷ rs) = any-both None columns rs
 any-both (Some ps) columns [] = refl
 any-both (Some ps) columns (r ∷ rs) = step (parts columns r) (all_parts columns rs) (any-both (Some ps) columns rs)
   where
-    step : (x : Option (List (List ℕ))) {rest : Bool} (more : List (List (List ℕ))) → rest ≡ list_any (texts_eq ps) more → both (Some ps) x || rest ≡ list_any (texts_eq ps) (option_to_list x ++ more)
+    step : (x : Option (List (List ℕ))) {rest : Bool} (more : List (List (List ℕ))) → rest ≡ list_any (texts_eq ps) more → both_pass texts_eq (Some ps) x || rest ≡ list_any (texts_eq ps) (option_to_list x ++ more)
     step None more e = e
     step (Some qs) more e = ap (λ b. texts_eq ps qs || b) e
 
 any-agree : (pairs : List (ℕ × ℕ)) (r : Row) (rows : List Row) → HasNoTerm r
-    → list_any (agree pairs r) rows ≡ list_any (λ s. both (parts (map (λ p. p.0) pairs) r) (parts (map (λ p. p.1) pairs) s)) rows
+    → list_any (agree pairs r) rows ≡ list_any (λ s. both_pass texts_eq (parts (map (λ p. p.0) pairs) r) (parts (map (λ p. p.1) pairs) s)) rows
 any-agree pairs r [] h = refl
 any-agree pairs r (s ∷ rows) h = ap₂ (λ a b. a || b) (agree-parts pairs r s h) (any-agree pairs r rows h)
 
@@ -177,16 +173,10 @@ orphan-missing pairs targets row h =
     ∙ missing (parts (map (λ p. p.0) pairs) row) (all_parts (map (λ p. p.1) pairs) targets)
 
 -- a set of lists of strings, as the texts in it
-strings-eq : {Y : Type 0} (xs ys : List (String Y)) → pointwise string_eq xs ys ≡ texts_eq (map string_bytes xs) (map string_bytes ys)
-strings-eq [] [] = refl
-strings-eq [] (y ∷ ys) = refl
-strings-eq (x ∷ xs) [] = refl
-strings-eq (x ∷ xs) (y ∷ ys) = ap (λ b. bytes_eq (string_bytes x) (string_bytes y) && b) (strings-eq xs ys)
-
 pub any-texts : {Y Z : Type 0} (xs : List (String Y)) (vs : List (Vec (String Y) Z))
     → list_any (λ v. pointwise string_eq xs v.items) vs ≡ list_any (texts_eq (map string_bytes xs)) (texts_of vs)
 any-texts xs [] = refl
-any-texts xs (v ∷ vs) = ap₂ (λ a b. a || b) (strings-eq xs v.items) (any-texts xs vs)
+any-texts xs (v ∷ vs) = ap₂ (λ a b. a || b) (sym (pointwise-map string_bytes bytes_eq xs v.items)) (any-texts xs vs)
 
 -- the walk over the columns
 pub parts-stop : (done : List (List ℕ)) (cs : List ℕ) (c : ℕ) (rest : List ℕ) (row : Row) (whole : Option (List (List ℕ))) → cs ≡ c ∷ rest → part (cell_at row c) ≡ None
@@ -198,15 +188,12 @@ pub parts-step : (done : List (List ℕ)) (cs : List ℕ) (c : ℕ) (rest : List
 parts-step done cs c rest row whole t e n w =
     sym (onto_first done t (parts rest row)) ∙ ap (λ x. option_map (λ ps. done ++ ps) (with_first x (parts rest row))) (sym n) ∙ ap (λ l. option_map (λ ps. done ++ ps) (parts l row)) (sym e) ∙ w
 
--- the cell at a place past the end, and at one within
+-- the cell at a place past the end, and an element at one within
 pub cell_at-past : (row : Row) (k : ℕ) → length row ≤ k → cell_at row k ≡ cell.Null
 cell_at-past row k h = unwrap_or-slice_get row k cell.Null ∙ get_or_past row k cell.Null h
 
-pub cell_at-in : (row : Row) (k : ℕ) (d : Cell) → k < length row → cell_at row k ≡ get_or row k d
-cell_at-in row k d h = ap (λ o. unwrap_or o cell.Null) (slice_get-get_or row k d h)
-
-texts-same : (f t : List (List ℕ)) → texts_eq f t ≡ true → f ≡ t
-texts-same f t e = (pointwise_decides bytes_decides f t).0 e
+pub value-there : {A : Type 0} (xs : List A) (i : ℕ) (d e : A) → i < length xs → unwrap_or (slice_get xs i) e ≡ get_or xs i d
+value-there xs i d e h = ap (λ o. unwrap_or o e) (slice_get-get_or xs i d h)
 
 -- what is among them adds nothing
 settled : (f t : List (List ℕ)) (ks : List (List (List ℕ))) → list_any (texts_eq t) ks ≡ true → list_any (texts_eq f) ks ≡ list_any (texts_eq f) (ks ++ t ∷ [])
@@ -214,7 +201,7 @@ settled f t ks e = by (texts_eq f t) refl ∙ sym (any_more (texts_eq f) ks t)
   where
     by : (b : Bool) → texts_eq f t ≡ b → list_any (texts_eq f) ks ≡ list_any (texts_eq f) ks || texts_eq f t
     by true h =
-        let here : list_any (texts_eq f) ks ≡ true = ap (λ g. list_any (texts_eq g) ks) (texts-same f t h) ∙ e in
+        let here : list_any (texts_eq f) ks ≡ true = ap (λ g. list_any (texts_eq g) ks) ((pointwise_decides bytes_decides f t).0 h) ∙ e in
         here ∙ sym (ap (λ b. b || texts_eq f t) here)
     by false h = sym (ap (λ b. list_any (texts_eq f) ks || b) h ∙ or-false (list_any (texts_eq f) ks))
 

@@ -3,9 +3,10 @@ use Rattle.std.proofs.Common.{◌≡◌, ◌∙◌, ◌+◌, ◌<◌, ◌≤◌,
 use Rattle.std.specs.Prelude.{IfSome, slice_get}
 use Rattle.std.specs.List.{enumerate_from, flat_map, position_from, zip}
 use Rattle.std.specs.Option.{option_or}
+use Rattle.std.proofs.lemmas.Option.{IfSome_then}
 use Rattle.vkg_schema.specs.declared.table.Table.{Table}
 use Rattle.vkg_schema.specs.Rows.{Row}
-use Rattle.vkg_tables.specs.Checks.{faults_over, places_where, table_fault, with_before}
+use Rattle.vkg_tables.specs.Checks.{places_where, table_fault, with_before}
 use Rattle.vkg_tables.specs.Firsts.{earlier, first_after}
 use Rattle.vkg_tables.specs.declared.fault.TableFault.{TableFault}
 
@@ -40,13 +41,9 @@ module _ {A : Type 0} (p : List A → A → Bool) where
   after-least before [] = tt
   after-least before (r ∷ rs) = by (p before r) (after-least (before ++ r ∷ []) rs)
     where
-      lower : (m n : ℕ) (o : Option ℕ) → m ≤ n → AtLeast n o → AtLeast m o
-      lower m n None l h = tt
-      lower m n (Some k) l h = omega (arith, l, h)
-
       by : (b : Bool) → AtLeast (length (before ++ r ∷ []) + 1) (first_after p (before ++ r ∷ []) rs) → AtLeast (length before + 1) (if b then Some (length before + 1) else first_after p (before ++ r ∷ []) rs)
       by true h = omega arith
-      by false h = lower (length before + 1) (length (before ++ r ∷ []) + 1) _ (omega (arith, length-append before (r ∷ []))) h
+      by false h = IfSome_then (first_after p (before ++ r ∷ []) rs) h (λ k l. omega (arith, l, length-append before (r ∷ [])))
 
 earlier-first : (m k : ℕ) (o : Option (ℕ × ℕ)) → FromRow m o → earlier (Some (m, k)) o ≡ Some (m, k)
 earlier-first m k None h = refl
@@ -69,13 +66,6 @@ from-map : (m n : ℕ) (o : Option ℕ) → AtLeast m o → FromRow m (option_ma
 from-map m n None h = tt
 from-map m n (Some r) h = h
 
-at-same : (m : ℕ) → AtLeast m (Some m)
-at-same m = omega arith
-
-at-lower : (m : ℕ) (o : Option ℕ) → AtLeast (m + 1) o → AtLeast m o
-at-lower m None h = tt
-at-lower m (Some k) h = omega (arith, h)
-
 module _ {X : Type 0} where
   from-least : (m : ℕ) (f : X → Option ℕ) → ((x : X) → AtLeast m (f x)) → (n : ℕ) (xs : List X) → FromRow m (least_place f n xs)
   from-least m f h n [] = tt
@@ -92,8 +82,8 @@ module _ {X : Type 0} where
   split-row q m g h n (x ∷ xs) = by (q x) (split-row q m g h (n + 1) xs)
     where
       here : (y : X) (b : Bool) → AtLeast m (if b then Some m else g y)
-      here y true = at-same m
-      here y false = at-lower m (g y) (h y)
+      here y true = omega arith
+      here y false = IfSome_then (g y) (h y) (λ k l. omega (arith, l))
 
       rest : Option (ℕ × ℕ)
       rest = least_place (λ y. if q y then Some m else g y) (n + 1) xs
@@ -150,13 +140,10 @@ first-map f [] rest = refl
 first-map f (x ∷ xs) rest = refl
 
 module _ (check : ℕ) (places : Table → List Row → List (ℕ × ℕ)) where
-  tables-first : (n : ℕ) (ts : List Table) (dbs : List (List Row))
+  pub tables-first : (n : ℕ) (ts : List Table) (dbs : List (List Row))
       → first_table check (λ t rows. slice_get (places t rows) 0) n ts dbs ≡ slice_get (flat_map (λ t. map (table_fault check t.0) (places t.1.0 t.1.1)) (enumerate_from n (zip ts dbs))) 0
   tables-first n [] dbs = refl
   tables-first n (t ∷ ts) [] = refl
   tables-first n (t ∷ ts) (rows ∷ dbs) =
       ap (option_or (option_map (table_fault check n) (slice_get (places t rows) 0))) (tables-first (n + 1) ts dbs)
       ∙ first-map (table_fault check n) (places t rows) _
-
-  pub first_table-first : (ts : List Table) (dbs : List (List Row)) → first_table check (λ t rows. slice_get (places t rows) 0) 1 ts dbs ≡ slice_get (faults_over check places ts dbs) 0
-  first_table-first ts dbs = tables-first 1 ts dbs

@@ -1,5 +1,5 @@
 -- The fields of a text are text.
-use Rattle.std.proofs.Common.{◌≡◌, ◌<◌, ◌≤◌, ◌+◌, ◌++◌, ◌&&◌, ◌==◌, ℕ, zero, suc, List, [], ◌∷◌, Bool, true, false, Option, Some, None, cond, if◌then◌else◌, length, nat_lt, sym, ap, subst, ◌∙◌, refl, arith, ne_eqb, IsUtf8, append_assoc, le-ltb, eqb-true}
+use Rattle.std.proofs.Common.{◌≡◌, ◌<◌, ◌≤◌, ◌+◌, ◌++◌, ◌&&◌, ◌==◌, ℕ, zero, suc, List, [], ◌∷◌, Bool, true, false, Option, Some, None, if◌then◌else◌, length, nat_lt, sym, ap, subst, ◌∙◌, refl, arith, ne_eqb, IsUtf8, append_assoc, le-ltb, eqb-true}
 use Rattle.std.specs.Prelude.{IfSome}
 use Rattle.std.specs.List.{AllByRecursion}
 use Rattle.std.proofs.lemmas.Str.{IsUtf8-append, IsUtf8-encode, IsUtf8-nil, encode_ascii, encode_same, len_utf8_bounds, length-encode}
@@ -22,17 +22,12 @@ use Rattle.vkg_tables.specs.Texts.{AreTexts}
 abbrev High : List ℕ → Type 0
 High bs = AllByRecursion (λ b. 128 ≤ b) bs
 
-pick : (P : List ℕ → Type 0) (a b c d : List ℕ) (x y z : Bool) → x ≡ false → P b → P c → P d → P (cond x a (cond y b (cond z c d)))
-pick P a b c d true y z e pb pc pd = cc e
-pick P a b c d false true z e pb pc pd = pb
-pick P a b c d false false true e pb pc pd = pc
-pick P a b c d false false false e pb pc pd = pd
-
 High-encode : (c : ℕ) → 128 ≤ c → High (encode c)
 unfolding encode
 High-encode c h =
-    pick High (c ∷ []) _ _ _ (nat_lt c 128) (nat_lt c 2048) (nat_lt c 65536) (le-ltb c 128 h)
-    (omega arith, (omega arith, tt)) (omega arith, (omega arith, (omega arith, tt))) (omega arith, (omega arith, (omega arith, (omega arith, tt))))
+    cond_both (nat_lt c 128) _ _ High (λ t. cc (sym t ∙ le-ltb c 128 h))
+    (λ _. cond_both (nat_lt c 2048) _ _ High (λ _. (omega arith, (omega arith, tt)))
+    (λ _. cond_both (nat_lt c 65536) _ _ High (λ _. (omega arith, (omega arith, (omega arith, tt)))) (λ _. (omega arith, (omega arith, (omega arith, (omega arith, tt)))))))
 
 -- the state after a byte past ASCII
 abbrev high_state : State → State

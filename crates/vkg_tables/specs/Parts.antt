@@ -3,20 +3,16 @@ use Rattle.std.specs.Prelude.{◌≢◌, ℕ, ◌+◌, Bool, false, not, List, [
 use Rattle.std.specs.Cmp.Lexicographic.{pointwise}
 use Rattle.std.specs.Str.{bytes_eq}
 use Rattle.std.specs.List.{AllByRecursion, list_any}
-use Rattle.std.specs.Option.{option_to_list}
+use Rattle.std.specs.Option.{option_map, option_to_list}
 use Rattle.vkg_lists.specs.Options.{with_first}
 use Rattle.vkg_cells.specs.declared.cell.Cell.{Cell}
 use Rattle.vkg_cells.specs.Form.{lexical_form}
 use Rattle.vkg_cells.specs.Order.{family_of}
 use Rattle.vkg_schema.specs.Rows.{Row, cell_at}
 
--- a family, and the lexical form
-abbrev pub part_of : ℕ → Option (List ℕ) → Option (List ℕ)
-part_of family None = None
-part_of family (Some text) = Some ((48 + family) ∷ text)
-
+-- the family's digit, and the lexical form
 unfoldable pub part : Cell → Option (List ℕ)
-part c = part_of (family_of c) (lexical_form c)
+part c = option_map (λ text. (48 + family_of c) ∷ text) (lexical_form c)
 
 -- the parts of the columns of a row, none where one is NULL
 abbrev pub parts : List ℕ → Row → Option (List (List ℕ))

@@ -1,9 +1,11 @@
 -- A database as contracts see it, and what a call makes of it.
-use Rattle.std.specs.Prelude.{◌≡◌, ℕ, ◌+◌, ◌++◌, ◌∷◌, List, map, slice_set, slice_get, unwrap_or, Option, Some, None, Result, Ok, Err, ⊤, []}
+use Rattle.std.specs.Prelude.{◌≡◌, ℕ, ◌+◌, ◌++◌, ◌∷◌, List, map, slice_set, slice_get, unwrap_or, Option, Some, Result, Ok, Err, ⊤, []}
 use Rattle.std.specs.List.{AllByRecursion, AllZip}
+use Rattle.std.specs.Option.{option_map_or}
 use Rattle.vkg_cells.specs.declared.cell.Cell.{Cell}
 use Rattle.vkg_schema.specs.declared.table.Table.{Table}
 use Rattle.vkg_schema.specs.declared.table.Column.{Column}
+pub use Rattle.vkg_schema.specs.Kinds.{columns_of}
 use Rattle.vkg_schema.specs.Meets.{FitsColumn}
 use Rattle.vkg_schema.specs.Rows.{Row, cell_at, rows_of}
 use Rattle.vkg_tables.specs.TableFile.{table_of_bytes}
@@ -27,11 +29,7 @@ abbrev pub without_rows : List Table → Seen
 without_rows schema = record { schema = schema; tables = map (λ t. []) schema }
 
 abbrev pub columns_at : Option Table → List Column
-columns_at None = []
-columns_at (Some t) = t.columns
-
-abbrev pub columns_of : List Table → ℕ → List Column
-columns_of tables i = columns_at (slice_get tables i)
+columns_at o = option_map_or (λ t. t.columns) o []
 
 -- the cell at a place, and NULL where there is none
 abbrev pub cell_of : Seen → ℕ → ℕ → ℕ → Cell

@@ -1,6 +1,7 @@
 -- A table file: its faults in the order in which they are told, and its rows.
 use Rattle.std.specs.Prelude.{ℕ, ◌==◌, ◌&&◌, List, [], ◌∷◌, ◌++◌, Result, Ok, Err, if◌then◌else◌, length, map, nat_lt, count_by, slice_get}
 use Rattle.std.specs.List.{enumerate_from, flat_map, list_any, position_or_len}
+use Rattle.std.specs.Result.{result_unwrap_or}
 use Rattle.std.specs.Str.{bytes_eq, is_utf8}
 use Rattle.vkg_lists.specs.Results.{unless}
 use Rattle.csv.specs.Reading.{default_config, records, strip_bom}
@@ -62,8 +63,7 @@ file_faults columns bytes =
     else fault 5 0 0 ∷ []
 
 abbrev pub cell_or_null : Result Cell FieldFault → Cell
-cell_or_null (Ok c) = c
-cell_or_null (Err e) = Null
+cell_or_null r = result_unwrap_or r Null
 
 abbrev pub row_of : List (List ℕ) → List Column → List (List ℕ) → Row
 row_of header columns fields = map (λ column. cell_or_null (cell_of_csv column.kind (field_under header fields column))) columns

@@ -110,13 +110,15 @@ fn is_orphan(
     Ok(!known.contains(found.as_slice()))
 }
 
-fn children_of(alloc: Global, pairs: &[(usize, usize)]) -> Result<Vec<usize>, Memory>
+/// The first of each pair of columns.
+pub fn child_columns(alloc: Global, pairs: &[(usize, usize)]) -> Result<Vec<usize>, Memory>
     ensures { IfOk result (λ v. v.items ≡ map (λ p. p.0) pairs.now) }
 {
     Ok(pairs.iter().map(|p| p.0).collect(alloc)?)
 }
 
-fn parents_of(alloc: Global, pairs: &[(usize, usize)]) -> Result<Vec<usize>, Memory>
+/// The second of each pair of columns.
+pub fn parent_columns(alloc: Global, pairs: &[(usize, usize)]) -> Result<Vec<usize>, Memory>
     ensures { IfOk result (λ v. v.items ≡ map (λ p. p.1) pairs.now) }
 {
     Ok(pairs.iter().map(|p| p.1).collect(alloc)?)
@@ -132,8 +134,8 @@ pub fn first_orphan(
     requires { AllByRecursion HasNoTerm rows.now }
     ensures { IfOk result (λ o. o ≡ first_orphan_of pairs.now targets.now rows.now) }
 {
-    let children = children_of(alloc, pairs)?;
-    let parents = parents_of(alloc, pairs)?;
+    let children = child_columns(alloc, pairs)?;
+    let parents = parent_columns(alloc, pairs)?;
     let known = known_parts(alloc, targets, parents.as_slice())?;
     for (i, row) in rows.iter().enumerate() {
         if is_orphan(alloc, row.as_slice(), children.as_slice(), &known)? {

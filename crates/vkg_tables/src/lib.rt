@@ -19,3 +19,4 @@ mod records;
 
 pub use database::Database;
 pub use fault::{TableError, TableFault};
+pub use keys::{child_columns, parent_columns};

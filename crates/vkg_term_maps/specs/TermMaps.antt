@@ -1,5 +1,5 @@
 -- R2RML, 7: the term map that stands at a place of a mapping graph, or the first check that fails there.
-use Rattle.std.specs.Prelude.{◌≡◌, ℕ, Bool, true, false, not, ◌&&◌, List, [], ◌∷◌, codes, map, slice_get, Option, Some, None, option_map, Result, Ok, Err, if◌then◌else◌}
+use Rattle.std.specs.Prelude.{◌≡◌, ℕ, Bool, true, false, not, ◌&&◌, List, [], ◌∷◌, codes, map, slice_get, Option, Some, None, option_and_then, option_map, Result, Ok, Err, if◌then◌else◌}
 use Rattle.std.specs.Char.{to_ascii_lowercase}
 use Rattle.std.specs.Str.{bytes_eq}
 use Rattle.vkg_lists.specs.Results.{mapped}
@@ -140,8 +140,7 @@ abbrev pub tagged : List ℕ → Option Annotation
 tagged tag = if is_language_tag tag then Some (Lang (map to_ascii_lowercase tag)) else None
 
 abbrev pub of_language : Option (List ℕ) → Option Annotation
-of_language None = None
-of_language (Some tag) = tagged tag
+of_language tag = option_and_then tagged tag
 
 -- RDF 1.1 Concepts, 3.3: xsd:string is the datatype of plain literals, rdf:langString that of tagged ones
 abbrev pub of_datatype : Term → Option Annotation

@@ -6,7 +6,7 @@ ghost use Rattle.vkg_term_maps.specs.Graph.{object_if as object_of_triple, objec
 ghost use Rattle.vkg_term_maps.specs.Index.{given_at, numbers_named};
 ghost use Rattle.vkg_term_maps.specs.Vocabulary.{map_property as map_property_of, shortcut as shortcut_of};
 
-use crate::index::{index_of, text_of};
+use crate::index::index_of;
 use crate::place::{Place, Role};
 use crate::vocabulary::{
     RR_GRAPH, RR_GRAPH_MAP, RR_OBJECT, RR_OBJECT_MAP, RR_PREDICATE, RR_PREDICATE_MAP, RR_SUBJECT,
@@ -14,7 +14,7 @@ use crate::vocabulary::{
 };
 use std::alloc::Global;
 use std::marker::Model;
-use vkg_base::{Groups, Items, Memory};
+use vkg_base::{Groups, Items, Memory, numbers_of};
 use vkg_terms::Term;
 use vkg_turtle::Triple;
 
@@ -71,10 +71,7 @@ impl<'a> Graph<'a> {
     fn numbers(&self, node: &Term) -> &[usize]
         ensures { result.now ≡ numbers_named (term_name node.now) (enumerate_from 0 self.now) }
     {
-        match self.index.get(text_of(node)) {
-            None => &[],
-            Some(numbers) => numbers.as_slice(),
-        }
+        numbers_of(&self.index, node.name())
     }
 }
 

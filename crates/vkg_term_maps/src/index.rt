@@ -1,14 +1,12 @@
 // The places of the triples of a graph, by the texts of their subjects.
 ghost use Rattle.std.specs.Prelude.{◌≡◌, ◌++◌, ◌∷◌, [], ℕ, List, IfOk, OnOk, if◌then◌else◌};
 ghost use Rattle.std.specs.Str.{bytes_eq};
-ghost use Rattle.vkg_terms.specs.Same.{term_name};
 ghost use Rattle.vkg_base.specs.Groups.{group};
 ghost use Rattle.vkg_term_maps.specs.Index.{IsIndexOf};
 
 use std::alloc::Global;
 use std::collections::HashMap;
 use vkg_base::{Groups, Memory, put};
-use vkg_terms::Term;
 use vkg_turtle::Triple;
 
 pub(crate) fn index_of(alloc: Global, triples: &[Triple]) -> Result<Groups, Memory>
@@ -16,7 +14,7 @@ pub(crate) fn index_of(alloc: Global, triples: &[Triple]) -> Result<Groups, Memo
 {
     let mut index = HashMap::new(alloc);
     for (k, triple) in triples.iter().enumerate() {
-        add(alloc, &mut index, text_of(&triple.subject), k)?;
+        add(alloc, &mut index, triple.subject.name(), k)?;
     }
     Ok(index)
 }
@@ -26,15 +24,4 @@ fn add(alloc: Global, index: &mut Groups, name: &str, k: usize) -> Result<(), Me
 {
     let key = String::from_str(alloc, name)?;
     put(index, key, k)
-}
-
-/// The IRI of a term, its label or its lexical form.
-pub(crate) fn text_of(term: &Term) -> &str
-    ensures { result.now ≡ term_name term.now }
-{
-    match term {
-        Term::Iri(text) => text.as_str(),
-        Term::Blank(text) => text.as_str(),
-        Term::Lit(text, _) => text.as_str(),
-    }
 }

@@ -1,11 +1,11 @@
 -- The label of a blank node is the kit's hex, and no two texts share one.
 use Rattle.std.proofs.Common.{◌≡◌, ◌<◌, ◌++◌, ◌/◌, ◌%◌, ℕ, List, [], ◌∷◌, true, ap, refl, arith, suc, ◌==◌}
 use Rattle.std.specs.Prelude.{flat_map, slice_index}
+use Rattle.std.proofs.lemmas.Bool.{agree_below_at}
 use Rattle.std.proofs.lemmas.Bool.Decides.{nat_tests}
 use Rattle.std.specs.Char.{digit_char}
 use Rattle.vkg_lists.proofs.Heads.{head_same, tail_same}
 use Rattle.hex.specs.Hex.{encode_with, encode_lower, lower_digits, IsBytes}
-use Rattle.vkg_terms.proofs.Octets.{use_below}
 use Rattle.vkg_terms.specs.Label.{blank_label}
 
 -- the digits of an octet
@@ -36,7 +36,7 @@ pub label_same : (a b : List ℕ) → blank_label a ≡ blank_label b → a ≡ 
 label_same a b e = digits_same a b (tail_same _ _ _ _ e)
 
 digit_table : (d : ℕ) → d < 16 → (digit_char d == slice_index lower_digits d) ≡ true
-digit_table = use_below 16 (λ d. digit_char d == slice_index lower_digits d) refl
+digit_table d h = agree_below_at (λ n. digit_char n == slice_index lower_digits n) (λ n. true) 16 d refl h
 
 digit_kit : (d : ℕ) → d < 16 → digit_char d ≡ slice_index lower_digits d
 digit_kit d h = let e = digit_table d h in grind (arith, nat_tests)

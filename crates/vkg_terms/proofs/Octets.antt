@@ -2,16 +2,12 @@
 use Rattle.std.proofs.Common.{◌≡◌, ℕ, ◌+◌, ◌/◌, ◌<◌, ◌≤◌, refl, ap, List, [], ◌∷◌, ◌++◌, length, length-append, Bool, true, false, cond, ltb, nat_lt, get_or, arith}
 use Rattle.std.specs.List.{list_all}
 use Rattle.std.specs.Str.{IsAscii}
-use Rattle.std.proofs.lemmas.Bool.{agree_below, agree_below_at, ltb-true}
+use Rattle.std.proofs.lemmas.Bool.{ltb-true}
 use Rattle.std.proofs.lemmas.List.Sums.{AllPass-from_list_all}
 use Rattle.std.proofs.lemmas.Str.{length-encode, len_utf8_bounds}
 use Rattle.std.proofs.lemmas.Str.Ascii.{IsAscii-from_all}
 use Rattle.vkg_lists.proofs.Bools.{and_true}
 use lib.Utf8.{encode, next, scalar}
-
--- a test that was made of every number below n
-pub use_below : (n : ℕ) (p : ℕ → Bool) → agree_below p (λ k. true) n ≡ true → (k : ℕ) → k < n → p k ≡ true
-use_below n p e k h = agree_below_at p (λ k. true) n k e h
 
 pub scalar_below : (c : ℕ) → scalar c ≡ true → c < 1114112
 scalar_below c e = grind arith

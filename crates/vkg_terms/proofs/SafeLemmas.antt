@@ -3,6 +3,7 @@ use Rattle.std.proofs.Common.{◌≡◌, ◌≢◌, ◌<◌, ◌≤◌, ◌++◌
 use Rattle.std.specs.Prelude.{flat_map, chars, IsUtf8}
 use Rattle.std.specs.List.{list_all}
 use Rattle.std.proofs.lemmas.Str.{encodes-chars, scalars-chars, chars-append, chars-encodes, chars-IsAscii, IsUtf8-from_ascii, IsUtf8-encode, chars-nil}
+use Rattle.std.proofs.lemmas.Bool.{agree_below_at}
 use Rattle.std.proofs.lemmas.Bool.Decides.{nat_tests}
 use Rattle.std.proofs.lemmas.List.{append-nil}
 use Rattle.std.proofs.lemmas.List.Folds.{list_all-append}
@@ -12,7 +13,7 @@ use Rattle.percent_encoding.proofs.PercentLemmas.{percent_decode-nil, percent_de
 use Rattle.vkg_lists.proofs.Bools.{and_true, and_parts, implied}
 use Rattle.vkg_lists.proofs.Positions.{all_weaken}
 use Rattle.vkg_lists.proofs.Walks.{list_all-flat_map}
-use Rattle.vkg_terms.proofs.Octets.{ascii_small, use_below, encode_all, scalar_below}
+use Rattle.vkg_terms.proofs.Octets.{ascii_small, encode_all, scalar_below}
 use Rattle.vkg_terms.specs.Safe.{safe, safe_character, percent, is_unreserved, is_safe_character}
 
 -- the escape of an octet is that of the kit
@@ -30,7 +31,7 @@ other_high b h = grind (arith, nat_tests)
 
 other_kept : (c : ℕ) → scalar c ≡ true → is_unreserved c ≡ true → list_all other (encode c) ≡ true
 unfolding other
-other_kept c e u = encode_all other c (scalar_below c e) (λ b h _. other_high b h) (λ l. implied _ _ (use_below 128 (λ b. not (is_unreserved b) || not (b == 37)) refl c l) u)
+other_kept c e u = encode_all other c (scalar_below c e) (λ b h _. other_high b h) (λ l. implied _ _ (agree_below_at (λ n. not (is_unreserved n) || not (n == 37)) (λ n. true) 128 c refl l) u)
 
 other_percent : (b : ℕ) → other b ≡ true → b ≢ 37
 unfolding other
@@ -79,7 +80,7 @@ plain x = is_safe_character x && nat_lt x 128
 
 -- an octet's escape holds only ASCII that is iunreserved or `%`
 pub plain_percent : (b : ℕ) → b < 256 → list_all plain (percent b) ≡ true
-plain_percent = use_below 256 (λ b. list_all plain (percent b)) refl
+plain_percent b h = agree_below_at (λ n. list_all plain (percent n)) (λ n. true) 256 b refl h
 
 plain_percents : (bs : List ℕ) → list_all (λ b. nat_lt b 256) bs ≡ true → list_all plain (flat_map percent bs) ≡ true
 plain_percents bs e =

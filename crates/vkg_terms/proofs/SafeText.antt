@@ -2,6 +2,7 @@
 use Rattle.std.proofs.Common.{◌≡◌, ℕ, suc, ◌+◌, ◌<◌, ◌≤◌, refl, sym, ◌∙◌, ap, List, [], ◌∷◌, ◌++◌, take, flat_map, Bool, true, false, not, cond, ◌||◌, arith, ◌==◌, nat_le}
 use Rattle.std.specs.Prelude.{chars, encode_utf8}
 use Rattle.std.specs.List.{list_all, list_any, before_first, position_or_len}
+use Rattle.std.proofs.lemmas.Bool.{agree_below_at}
 use Rattle.std.proofs.lemmas.List.Folds.{list_all-append, list_any-append}
 use lib.Utf8.{scalar, scalars}
 use Rattle.vkg_terms.specs.Iri.{is_iri_character, is_absolute, has_scheme, is_scheme}
@@ -9,16 +10,16 @@ use Rattle.vkg_terms.specs.Safe.{safe, safe_character, is_unreserved, percent}
 use Rattle.vkg_lists.proofs.Bools.{and_true, and_parts, implied}
 use Rattle.vkg_lists.proofs.Positions.{all_weaken}
 use Rattle.vkg_lists.proofs.Walks.{list_all-flat_map}
-use Rattle.vkg_terms.proofs.Octets.{use_below, encode_all, scalar_below}
+use Rattle.vkg_terms.proofs.Octets.{encode_all, scalar_below}
 
 percents : (b : ℕ) → b < 256 → list_all is_iri_character (percent b) ≡ true
-percents = use_below 256 (λ b. list_all is_iri_character (percent b)) refl
+percents b h = agree_below_at (λ n. list_all is_iri_character (percent n)) (λ n. true) 256 b refl h
 
 high : (b : ℕ) → 128 ≤ b → b < 256 → is_iri_character b ≡ true
-high b h l = implied (nat_le 128 b) (is_iri_character b) (use_below 256 (λ b. not (nat_le 128 b) || is_iri_character b) refl b l) (grind arith)
+high b h l = implied (nat_le 128 b) (is_iri_character b) (agree_below_at (λ n. not (nat_le 128 n) || is_iri_character n) (λ n. true) 256 b refl l) (grind arith)
 
 low : (b : ℕ) → is_unreserved b ≡ true → b < 128 → is_iri_character b ≡ true
-low b u l = implied (is_unreserved b) (is_iri_character b) (use_below 128 (λ b. not (is_unreserved b) || is_iri_character b) refl b l) u
+low b u l = implied (is_unreserved b) (is_iri_character b) (agree_below_at (λ n. not (is_unreserved n) || is_iri_character n) (λ n. true) 128 b refl l) u
 
 safe_one : (c : ℕ) → c < 1114112 → list_all is_iri_character (safe_character c) ≡ true
 safe_one c s = elim (is_unreserved c) as (λ b. is_unreserved c ≡ b → list_all is_iri_character (cond b (encode_utf8 c) (flat_map percent (encode_utf8 c))) ≡ true) [

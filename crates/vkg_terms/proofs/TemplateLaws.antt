@@ -1,14 +1,16 @@
 -- A text is read as a template exactly where it is that template's text.
 use Rattle.std.proofs.Common.{◌≡◌, ◌≢◌, ◌==◌, ◌++◌, ◌∷◌, [], List, ℕ, sym, ap, ◌∙◌, subst, refl, Option, Some, None, Bool, true, false, if◌then◌else◌, arith, append_assoc, flat_map, map}
-use Rattle.std.specs.Prelude.{option_map}
+use Rattle.std.specs.Prelude.{option_and_then, option_map}
 use Rattle.std.proofs.lemmas.Bool.Decides.{nat_tests}
 use Rattle.std.proofs.lemmas.Iterator.Adapters.{option_map_id}
 use Rattle.std.proofs.lemmas.List.{append-nil}
-use Rattle.std.proofs.lemmas.Option.{same_Some, none-some}
-use Rattle.vkg_lists.proofs.Onto.{map_given}
+use Rattle.std.proofs.lemmas.Option.{cond_some, none-some, option_and_then_some, same_Some}
+use Rattle.vkg_lists.specs.Options.{with_first}
+use Rattle.vkg_lists.proofs.Onto.{first_given, map_given}
+use Rattle.vkg_lists.proofs.Results.{none_if}
 use Rattle.vkg_terms.specs.declared.template.Part.{Part}
 use Rattle.vkg_terms.specs.declared.template.Part.TheVariants.{Fixed, Hole}
-use Rattle.vkg_terms.specs.TemplateParts.{Mark, Plain, Open, Close, mark, marks, onto, escape, is_special, onto_fixed, hole, outside, inside, outside_if_any, template_of}
+use Rattle.vkg_terms.specs.TemplateParts.{Mark, Plain, Open, Close, mark, marks, escape, is_special, onto_fixed, hole, outside, inside, template_of}
 use Rattle.vkg_terms.proofs.TemplateLemmas.{marks-cons, ordinary_cons, glue, glue_end, glue_hole}
 use Rattle.vkg_terms.specs.Name.{is_all_named, if_named, template_read, IsTemplateOf, IsNoTemplate}
 use Rattle.vkg_terms.specs.TemplateText.{escaped, template_text, IsNormal, Reads}
@@ -21,14 +23,14 @@ written Close = 125 ∷ []
 
 -- the marks of a written text
 plain_marks : (b : ℕ) (bs : List ℕ) (ms : List Mark) (s : Bool) → is_special b ≡ s → marks bs ≡ Some ms → marks ((if s then 92 ∷ b ∷ [] else b ∷ []) ++ bs) ≡ Some (Plain b ∷ ms)
-plain_marks b bs ms true e h = ap (λ t. if t then onto (Plain b) (marks bs) else None) e ∙ ap (onto (Plain b)) h
-plain_marks b bs ms false e h = ordinary_cons b bs e ∙ ap (onto (Plain b)) h
+plain_marks b bs ms true e h = ap (λ t. if t then with_first (Some (Plain b)) (marks bs) else None) e ∙ ap (with_first (Some (Plain b))) h
+plain_marks b bs ms false e h = ordinary_cons b bs e ∙ ap (with_first (Some (Plain b))) h
 
 marks-written : (ms : List Mark) → marks (flat_map written ms) ≡ Some ms
 marks-written [] = refl
 marks-written (Plain b ∷ ms) = plain_marks b (flat_map written ms) ms (is_special b) refl (marks-written ms)
-marks-written (Open ∷ ms) = marks-cons 123 (flat_map written ms) refl ∙ ap (onto Open) (marks-written ms)
-marks-written (Close ∷ ms) = marks-cons 125 (flat_map written ms) refl ∙ ap (onto Close) (marks-written ms)
+marks-written (Open ∷ ms) = marks-cons 123 (flat_map written ms) refl ∙ ap (with_first (Some Open)) (marks-written ms)
+marks-written (Close ∷ ms) = marks-cons 125 (flat_map written ms) refl ∙ ap (with_first (Some Close)) (marks-written ms)
 
 mark_written : (b : ℕ) (x y : Bool) → (b == 123) ≡ x → (b == 125) ≡ y → (b == 92) ≡ false → written (if x then Open else if y then Close else Plain b) ≡ b ∷ []
 mark_written b true y e f g = let h : 123 ≡ b = grind (arith, nat_tests) in ap (λ c. c ∷ []) h
@@ -38,26 +40,26 @@ mark_written b false false e f g = let h : is_special b ≡ false = grind (arith
 -- what the marks were written as
 one_mark : (b : ℕ) (bs : List ℕ) (ms : List Mark) → (b == 92) ≡ false → ((rest : List Mark) → marks bs ≡ Some rest → bs ≡ flat_map written rest) → marks (b ∷ bs) ≡ Some ms → b ∷ bs ≡ flat_map written ms
 one_mark b bs ms g more e =
-    let (rest, h, k) = map_given (λ ns. mark b ∷ ns) (marks bs) ms (sym (marks-cons b bs g) ∙ e) in
+    let (m, i, (rest, h, k)) = first_given (Some (mark b)) (marks bs) ms (sym (marks-cons b bs g) ∙ e) in
     ap (λ (t : List ℕ). b ∷ t) (more rest h)
     ∙ ap (λ (t : List ℕ). t ++ flat_map written rest) (sym (mark_written b (b == 123) (b == 125) refl refl g))
-    ∙ ap (flat_map written) k
+    ∙ ap (flat_map written) (ap (λ n. n ∷ rest) (same_Some (mark b) m i) ∙ k)
 
 escaped_mark : (b c : ℕ) (bs : List ℕ) (ms : List Mark) (s : Bool) → is_special c ≡ s → (b == 92) ≡ true → ((rest : List Mark) → marks bs ≡ Some rest → bs ≡ flat_map written rest)
-    → (if s then onto (Plain c) (marks bs) else None) ≡ Some ms → b ∷ c ∷ bs ≡ flat_map written ms
+    → (if s then with_first (Some (Plain c)) (marks bs) else None) ≡ Some ms → b ∷ c ∷ bs ≡ flat_map written ms
 escaped_mark b c bs ms false s g more e = absurd (none-some ms e)
 escaped_mark b c bs ms true s g more e =
-    let (rest, h, k) = map_given (λ ns. Plain c ∷ ns) (marks bs) ms e in
+    let (m, i, (rest, h, k)) = first_given (Some (Plain c)) (marks bs) ms e in
     let back : b ≡ 92 = grind (arith, nat_tests) in
     ap (λ n. n ∷ c ∷ bs) back
     ∙ ap (λ (t : List ℕ). 92 ∷ c ∷ t) (more rest h)
     ∙ ap (λ t. (if t then 92 ∷ c ∷ [] else c ∷ []) ++ flat_map written rest) (sym s)
-    ∙ ap (flat_map written) k
+    ∙ ap (flat_map written) (ap (λ n. n ∷ rest) (same_Some (Plain c) m i) ∙ k)
 
 two_marks : (b c : ℕ) (bs : List ℕ) (ms : List Mark) (x : Bool) → (b == 92) ≡ x → ((rest : List Mark) → marks bs ≡ Some rest → bs ≡ flat_map written rest) → ((rest : List Mark) → marks (c ∷ bs) ≡ Some rest → c ∷ bs ≡ flat_map written rest)
     → marks (b ∷ c ∷ bs) ≡ Some ms → b ∷ c ∷ bs ≡ flat_map written ms
 two_marks b c bs ms true g more one e =
-    escaped_mark b c bs ms (is_special c) refl g more (sym (ap (λ t. if t then escape c (marks bs) else onto (mark b) (marks (c ∷ bs))) g) ∙ e)
+    escaped_mark b c bs ms (is_special c) refl g more (sym (ap (λ t. if t then escape c (marks bs) else with_first (Some (mark b)) (marks (c ∷ bs))) g) ∙ e)
 two_marks b c bs ms false g more one e = one_mark b (c ∷ bs) ms g one e
 
 last_mark : (b : ℕ) (ms : List Mark) (x : Bool) → (b == 92) ≡ x → marks (b ∷ []) ≡ Some ms → b ∷ [] ≡ flat_map written ms
@@ -181,36 +183,24 @@ mutual
         normal = more.1;
       }
 
-any_some : (o : Option (List Mark)) (ps : List Part) → outside_if_any o ≡ Some ps → (ms : List Mark) × (o ≡ Some ms) × (outside ms ≡ Some ps)
-any_some None ps e = absurd (none-some ps e)
-any_some (Some ms) ps e = (ms, refl, e)
-
 -- what the function reads is written as the text, and normal
 pub template_reads : (text : List ℕ) (ps : List Part) → template_of text ≡ Some ps → Reads text ps
 template_reads text ps e =
-    let (ms, h, k) = any_some (marks text) ps e in
+    option_and_then_some outside (marks text) ps e (λ ms h k.
     let is = outside_is ms ps k in
-    record { written = written-marks text ms h ∙ ap (flat_map written) is.0 ∙ written_parts ps; normal = is.1 }
+    record { written = written-marks text ms h ∙ ap (flat_map written) is.0 ∙ written_parts ps; normal = is.1 })
 
 -- the text of a normal template is read as that template
 pub reads_template : (text : List ℕ) (ps : List Part) → Reads text ps → template_of text ≡ Some ps
 reads_template text ps r =
-    ap template_of (r.written ∙ sym (written_parts ps)) ∙ ap outside_if_any (marks-written (marks_of ps)) ∙ outside-marks ps r.normal
+    ap template_of (r.written ∙ sym (written_parts ps)) ∙ ap (option_and_then outside) (marks-written (marks_of ps)) ∙ outside-marks ps r.normal
 
 named_by : (o : Option (List Part)) (ps : List Part) → if_named o ≡ Some ps → (o ≡ Some ps) × (is_all_named ps ≡ true)
 named_by None ps e = absurd (none-some ps e)
-named_by (Some qs) ps e = by_test (is_all_named qs) refl e
-  where
-    by_test : (b : Bool) → is_all_named qs ≡ b → (if b then Some qs else None) ≡ Some ps → (Some qs ≡ Some ps) × (is_all_named ps ≡ true)
-    by_test true h k = (k, ap is_all_named (sym (same_Some qs ps k)) ∙ h)
-    by_test false h k = absurd (none-some ps k)
-
-unnamed_by : (b : Bool) (ps : List Part) → is_all_named ps ≡ b → (if b then Some ps else None) ≡ None → b ≡ false
-unnamed_by true ps h k = absurd (none-some ps (sym k))
-unnamed_by false ps h k = refl
+named_by (Some qs) ps e = let h = cond_some (is_all_named qs) qs ps e in (ap Some h.1, ap is_all_named (sym h.1) ∙ h.0)
 
 pub read_is : (text : List ℕ) (ps : List Part) → template_read text ≡ Some ps → IsTemplateOf text ps
 read_is text ps e = let h = named_by (template_of text) ps e in record { reads = template_reads text ps h.0; named = h.1 }
 
 pub read_bad : (text : List ℕ) → template_read text ≡ None → IsNoTemplate text
-read_bad text e ps r = unnamed_by (is_all_named ps) ps refl (ap if_named (sym (reads_template text ps r)) ∙ e)
+read_bad text e ps r = (none_if (is_all_named ps) ps None (ap if_named (sym (reads_template text ps r)) ∙ e)).0

@@ -1,18 +1,19 @@
 -- The reader of a template gives its parts.
 use Rattle.std.proofs.Common.{◌≡◌, ◌==◌, ◌++◌, ◌∷◌, [], List, ℕ, ◌<◌, ◌≤◌, sym, ap, ◌∙◌, refl, Option, Some, None, Bool, true, false, if◌then◌else◌, not, arith, append_assoc}
-use Rattle.std.specs.Prelude.{option_map, chars, IsUtf8}
+use Rattle.std.specs.Prelude.{fold, option_and_then, option_map, chars, IsUtf8}
 use Rattle.std.specs.List.{list_all}
 use Rattle.std.proofs.lemmas.Bool.Decides.{nat_tests}
 use Rattle.std.proofs.lemmas.Str.{encode_ascii, encodes-chars, scalars-chars}
 use Rattle.std.proofs.lemmas.Iterator.Adapters.{option_map_id}
 use Rattle.std.proofs.lemmas.List.{append-nil}
 use Rattle.std.proofs.Math.Utf8.{encode, encodes, scalar, scalars}
+use Rattle.vkg_lists.specs.Options.{with_first}
 use Rattle.vkg_terms.specs.declared.template.Part.{Part}
 use Rattle.vkg_terms.specs.declared.template.Part.TheVariants as part
 use Rattle.vkg_terms.specs.declared.template_reader.Place.{Place}
 use Rattle.vkg_terms.specs.declared.template_reader.Place.TheVariants.{Fixed, Hole, EscapedFixed, EscapedHole, Broken}
-use Rattle.vkg_terms.specs.TemplateParts.{Mark, Plain, Open, Close, mark, marks, onto, escape, is_special, onto_fixed, outside, inside, outside_if_any, template_of}
-use Rattle.vkg_terms.specs.TemplateReader.{State, start, fixed_part, step, at_place, with_char, with_fixed, with_hole, run, finished, finished_at}
+use Rattle.vkg_terms.specs.TemplateParts.{Mark, Plain, Open, Close, mark, marks, escape, is_special, onto_fixed, outside, inside, template_of}
+use Rattle.vkg_terms.specs.TemplateReader.{State, start, fixed_part, step, at_place, with_char, with_fixed, with_hole, finished, finished_at}
 use Rattle.vkg_lists.proofs.Bools.{and_parts, not_true}
 use Rattle.vkg_terms.proofs.Octets.{encode_all, not_nothing, scalar_below}
 
@@ -59,16 +60,16 @@ abbrev whole : State → List ℕ → Option (List Part)
 whole s bs = whole_at s.place s.parts s.text bs
 
 -- an octet that is no backslash
-pub marks-cons : (b : ℕ) (bs : List ℕ) → (b == 92) ≡ false → marks (b ∷ bs) ≡ onto (mark b) (marks bs)
+pub marks-cons : (b : ℕ) (bs : List ℕ) → (b == 92) ≡ false → marks (b ∷ bs) ≡ with_first (Some (mark b)) (marks bs)
 marks-cons b [] e = ap (λ t. if t then None else Some (mark b ∷ [])) e
-marks-cons b (c ∷ bs) e = ap (λ t. if t then escape c (marks bs) else onto (mark b) (marks (c ∷ bs))) e
+marks-cons b (c ∷ bs) e = ap (λ t. if t then escape c (marks bs) else with_first (Some (mark b)) (marks (c ∷ bs))) e
 
 marks_escape : (b : ℕ) (bs : List ℕ) (go : Option (List Mark) → Option (List Part)) → go None ≡ None → (b == 92) ≡ true → go (marks (b ∷ bs)) ≡ escaped_rest go bs
 marks_escape b [] go n e = ap (λ t. go (if t then None else Some (mark b ∷ []))) e ∙ n
-marks_escape b (c ∷ bs) go n e = ap (λ t. go (if t then escape c (marks bs) else onto (mark b) (marks (c ∷ bs)))) e
+marks_escape b (c ∷ bs) go n e = ap (λ t. go (if t then escape c (marks bs) else with_first (Some (mark b)) (marks (c ∷ bs)))) e
 
 -- a character that stands for itself goes to the text
-plain_fixed : (parts : List Part) (text : List ℕ) (b : ℕ) (ms : Option (List Mark)) → fixed_rest parts text (onto (Plain b) ms) ≡ fixed_rest parts (text ++ b ∷ []) ms
+plain_fixed : (parts : List Part) (text : List ℕ) (b : ℕ) (ms : Option (List Mark)) → fixed_rest parts text (with_first (Some (Plain b)) ms) ≡ fixed_rest parts (text ++ b ∷ []) ms
 plain_fixed parts text b None = refl
 plain_fixed parts text b (Some ms) = plain_by (outside ms)
   where
@@ -76,7 +77,7 @@ plain_fixed parts text b (Some ms) = plain_by (outside ms)
     plain_by None = refl
     plain_by (Some ps) = ap (λ qs. Some (parts ++ qs)) (sym (glue-append text b ps))
 
-plain_hole : (parts : List Part) (text : List ℕ) (b : ℕ) (ms : Option (List Mark)) → hole_rest parts text (onto (Plain b) ms) ≡ hole_rest parts (text ++ b ∷ []) ms
+plain_hole : (parts : List Part) (text : List ℕ) (b : ℕ) (ms : Option (List Mark)) → hole_rest parts text (with_first (Some (Plain b)) ms) ≡ hole_rest parts (text ++ b ∷ []) ms
 plain_hole parts text b None = refl
 plain_hole parts text b (Some ms) = refl
 
@@ -92,17 +93,17 @@ after_open f g (b ∷ bs) (Close ∷ ms) h = by_rest (outside ms)
     by_rest None = refl
     by_rest (Some ps) = ap Some (h (b ∷ bs) ps)
 
-open_fixed : (parts : List Part) (text : List ℕ) (ms : Option (List Mark)) → fixed_rest parts text (onto Open ms) ≡ hole_rest (parts ++ fixed_part text) [] ms
+open_fixed : (parts : List Part) (text : List ℕ) (ms : Option (List Mark)) → fixed_rest parts text (with_first (Some Open) ms) ≡ hole_rest (parts ++ fixed_part text) [] ms
 open_fixed parts text None = refl
 open_fixed parts text (Some ms) =
     after_open (λ ps. parts ++ glue text ps) (λ ps. (parts ++ fixed_part text) ++ ps) [] ms
     (λ n ps. ap (λ qs. parts ++ qs) (glue_hole text n ps) ∙ sym (append_assoc parts (fixed_part text) (part.Hole n ∷ ps)))
 
-close_fixed : (parts : List Part) (text : List ℕ) (ms : Option (List Mark)) → fixed_rest parts text (onto Close ms) ≡ None
+close_fixed : (parts : List Part) (text : List ℕ) (ms : Option (List Mark)) → fixed_rest parts text (with_first (Some Close) ms) ≡ None
 close_fixed parts text None = refl
 close_fixed parts text (Some ms) = refl
 
-open_hole : (parts : List Part) (text : List ℕ) (ms : Option (List Mark)) → hole_rest parts text (onto Open ms) ≡ None
+open_hole : (parts : List Part) (text : List ℕ) (ms : Option (List Mark)) → hole_rest parts text (with_first (Some Open) ms) ≡ None
 open_hole parts text None = refl
 open_hole parts text (Some ms) = refl
 
@@ -110,15 +111,15 @@ hole_parts : (parts : List Part) (b : ℕ) (t : List ℕ) (o : Option (List Part
 hole_parts parts b t None = refl
 hole_parts parts b t (Some ps) = ap Some (sym (append_assoc parts (part.Hole (b ∷ t) ∷ []) ps))
 
-empty_hole : (parts : List Part) (ms : Option (List Mark)) → hole_rest parts [] (onto Close ms) ≡ None
+empty_hole : (parts : List Part) (ms : Option (List Mark)) → hole_rest parts [] (with_first (Some Close) ms) ≡ None
 empty_hole parts None = refl
 empty_hole parts (Some ms) = refl
 
-some_hole : (parts : List Part) (b : ℕ) (t : List ℕ) (ms : Option (List Mark)) → hole_rest parts (b ∷ t) (onto Close ms) ≡ fixed_rest (parts ++ part.Hole (b ∷ t) ∷ []) [] ms
+some_hole : (parts : List Part) (b : ℕ) (t : List ℕ) (ms : Option (List Mark)) → hole_rest parts (b ∷ t) (with_first (Some Close) ms) ≡ fixed_rest (parts ++ part.Hole (b ∷ t) ∷ []) [] ms
 some_hole parts b t None = refl
 some_hole parts b t (Some ms) = hole_parts parts b t (outside ms)
 
-close_hole : (parts : List Part) (text : List ℕ) (bs : List ℕ) → hole_rest parts text (onto Close (marks bs)) ≡ whole (with_hole (record { parts = parts; text = text; place = Hole })) bs
+close_hole : (parts : List Part) (text : List ℕ) (bs : List ℕ) → hole_rest parts text (with_first (Some Close) (marks bs)) ≡ whole (with_hole (record { parts = parts; text = text; place = Hole })) bs
 close_hole parts [] bs = empty_hole parts (marks bs)
 close_hole parts (b ∷ t) bs = some_hole parts b t (marks bs)
 
@@ -131,11 +132,11 @@ ordinary_mark b e = by_tests (b == 123) (b == 125) refl refl
     by_tests false true f g = absurd (grind (arith, nat_tests))
     by_tests false false f g = refl
 
-pub ordinary_cons : (b : ℕ) (bs : List ℕ) → is_special b ≡ false → marks (b ∷ bs) ≡ onto (Plain b) (marks bs)
-ordinary_cons b bs e = marks-cons b bs (grind (arith, nat_tests)) ∙ ap (λ m. onto m (marks bs)) (ordinary_mark b e)
+pub ordinary_cons : (b : ℕ) (bs : List ℕ) → is_special b ≡ false → marks (b ∷ bs) ≡ with_first (Some (Plain b)) (marks bs)
+ordinary_cons b bs e = marks-cons b bs (grind (arith, nat_tests)) ∙ ap (λ m. with_first (Some m) (marks bs)) (ordinary_mark b e)
 
 -- a run of octets that stand for themselves goes to the text
-module _ (go : List ℕ → Option (List Mark) → Option (List Part)) (plain : (text : List ℕ) (b : ℕ) (ms : Option (List Mark)) → go text (onto (Plain b) ms) ≡ go (text ++ b ∷ []) ms) where
+module _ (go : List ℕ → Option (List Mark) → Option (List Part)) (plain : (text : List ℕ) (b : ℕ) (ms : Option (List Mark)) → go text (with_first (Some (Plain b)) ms) ≡ go (text ++ b ∷ []) ms) where
   plain_run : (xs text bs : List ℕ) → list_all (λ b. not (is_special b)) xs ≡ true → go text (marks (xs ++ bs)) ≡ go (text ++ xs) (marks bs)
   plain_run [] text bs e = ap (λ t. go t (marks bs)) (sym (append-nil text))
   plain_run (x ∷ xs) text bs e =
@@ -163,9 +164,9 @@ fixed_step : (parts : List Part) (text : List ℕ) (c : ℕ) (bs : List ℕ) (x 
 fixed_step parts text c bs true y z u e f g =
     sym (ap (λ (t : List ℕ). fixed_rest parts text (marks t)) (sole c bs (grind (arith, nat_tests))) ∙ marks_escape c bs (fixed_rest parts text) refl e)
 fixed_step parts text c bs false true z u e f g =
-    sym (ap (λ (t : List ℕ). fixed_rest parts text (marks t)) (sole c bs (grind (arith, nat_tests))) ∙ ap (fixed_rest parts text) (marks-cons c bs e ∙ ap (λ m. onto m (marks bs)) (ap (λ b. if b then Open else if c == 125 then Close else Plain c) f)) ∙ open_fixed parts text (marks bs))
+    sym (ap (λ (t : List ℕ). fixed_rest parts text (marks t)) (sole c bs (grind (arith, nat_tests))) ∙ ap (fixed_rest parts text) (marks-cons c bs e ∙ ap (λ m. with_first (Some m) (marks bs)) (ap (λ b. if b then Open else if c == 125 then Close else Plain c) f)) ∙ open_fixed parts text (marks bs))
 fixed_step parts text c bs false false true u e f g =
-    sym (ap (λ (t : List ℕ). fixed_rest parts text (marks t)) (sole c bs (grind (arith, nat_tests))) ∙ ap (fixed_rest parts text) (marks-cons c bs e ∙ ap (λ m. onto m (marks bs)) (close_mark c f g)) ∙ close_fixed parts text (marks bs))
+    sym (ap (λ (t : List ℕ). fixed_rest parts text (marks t)) (sole c bs (grind (arith, nat_tests))) ∙ ap (fixed_rest parts text) (marks-cons c bs e ∙ ap (λ m. with_first (Some m) (marks bs)) (close_mark c f g)) ∙ close_fixed parts text (marks bs))
 fixed_step parts text c bs false false false u e f g =
     sym (plain_run (fixed_rest parts) (plain_fixed parts) (encode c) text bs (ordinary c u (grind (arith, nat_tests))))
 
@@ -174,29 +175,29 @@ hole_step : (parts : List Part) (text : List ℕ) (c : ℕ) (bs : List ℕ) (x y
 hole_step parts text c bs true y z u e f g =
     sym (ap (λ (t : List ℕ). hole_rest parts text (marks t)) (sole c bs (grind (arith, nat_tests))) ∙ marks_escape c bs (hole_rest parts text) refl e)
 hole_step parts text c bs false true z u e f g =
-    sym (ap (λ (t : List ℕ). hole_rest parts text (marks t)) (sole c bs (grind (arith, nat_tests))) ∙ ap (hole_rest parts text) (marks-cons c bs e ∙ ap (λ m. onto m (marks bs)) (ap (λ b. if b then Open else if c == 125 then Close else Plain c) f)) ∙ open_hole parts text (marks bs))
+    sym (ap (λ (t : List ℕ). hole_rest parts text (marks t)) (sole c bs (grind (arith, nat_tests))) ∙ ap (hole_rest parts text) (marks-cons c bs e ∙ ap (λ m. with_first (Some m) (marks bs)) (ap (λ b. if b then Open else if c == 125 then Close else Plain c) f)) ∙ open_hole parts text (marks bs))
 hole_step parts text c bs false false true u e f g =
-    sym (ap (λ (t : List ℕ). hole_rest parts text (marks t)) (sole c bs (grind (arith, nat_tests))) ∙ ap (hole_rest parts text) (marks-cons c bs e ∙ ap (λ m. onto m (marks bs)) (close_mark c f g)) ∙ close_hole parts text bs)
+    sym (ap (λ (t : List ℕ). hole_rest parts text (marks t)) (sole c bs (grind (arith, nat_tests))) ∙ ap (hole_rest parts text) (marks-cons c bs e ∙ ap (λ m. with_first (Some m) (marks bs)) (close_mark c f g)) ∙ close_hole parts text bs)
 hole_step parts text c bs false false false u e f g =
     sym (plain_run (hole_rest parts) (plain_hole parts) (encode c) text bs (ordinary c u (grind (arith, nat_tests))))
 
 -- a character after a backslash
-module _ (go : List ℕ → Option (List Mark) → Option (List Part)) (none : (text : List ℕ) → go text None ≡ None) (plain : (text : List ℕ) (b : ℕ) (ms : Option (List Mark)) → go text (onto (Plain b) ms) ≡ go (text ++ b ∷ []) ms) where
+module _ (go : List ℕ → Option (List Mark) → Option (List Part)) (none : (text : List ℕ) → go text None ≡ None) (plain : (text : List ℕ) (b : ℕ) (ms : Option (List Mark)) → go text (with_first (Some (Plain b)) ms) ≡ go (text ++ b ∷ []) ms) where
   escaped_good : (text : List ℕ) (c : ℕ) (bs : List ℕ) → is_special c ≡ true → go (text ++ encode c) (marks bs) ≡ escaped_rest (go text) (encode c ++ bs)
   escaped_good text c bs e =
       let l : c < 128 = grind (arith, nat_tests) in
-      sym (ap (escaped_rest (go text)) (sole c bs l) ∙ ap (λ b. go text (if b then onto (Plain c) (marks bs) else None)) e ∙ plain text c (marks bs) ∙ ap (λ (t : List ℕ). go (text ++ t) (marks bs)) (sym (encode_ascii c l)))
+      sym (ap (escaped_rest (go text)) (sole c bs l) ∙ ap (λ b. go text (if b then with_first (Some (Plain c)) (marks bs) else None)) e ∙ plain text c (marks bs) ∙ ap (λ (t : List ℕ). go (text ++ t) (marks bs)) (sym (encode_ascii c l)))
 
   first_bad : (text : List ℕ) (xs bs : List ℕ) → list_all (λ b. not (is_special b)) xs ≡ true → (xs ≡ [] → ⊥) → escaped_rest (go text) (xs ++ bs) ≡ None
   first_bad text [] bs e n = absurd (n refl)
   first_bad text (x ∷ xs) bs e n =
-      ap (λ b. go text (if b then onto (Plain x) (marks (xs ++ bs)) else None)) (not_true (is_special x) (and_parts (not (is_special x)) (list_all (λ b. not (is_special b)) xs) e).0) ∙ none text
+      ap (λ b. go text (if b then with_first (Some (Plain x)) (marks (xs ++ bs)) else None)) (not_true (is_special x) (and_parts (not (is_special x)) (list_all (λ b. not (is_special b)) xs) e).0) ∙ none text
 
   escaped_bad : (text : List ℕ) (c : ℕ) (bs : List ℕ) → scalar c ≡ true → is_special c ≡ false → None ≡ escaped_rest (go text) (encode c ++ bs)
   escaped_bad text c bs u e = sym (first_bad text (encode c) bs (ordinary c u e) (λ n. not_nothing c [] (sym (append-nil (encode c) ∙ n))))
 
 escaped_step : (place : Place) (parts : List Part) (text : List ℕ) (c : ℕ) (bs : List ℕ) (back : Place) (x : Bool) → scalar c ≡ true → is_special c ≡ x
-    → (go : List ℕ → Option (List Mark) → Option (List Part)) → ((text : List ℕ) → go text None ≡ None) → ((text : List ℕ) (b : ℕ) (ms : Option (List Mark)) → go text (onto (Plain b) ms) ≡ go (text ++ b ∷ []) ms)
+    → (go : List ℕ → Option (List Mark) → Option (List Part)) → ((text : List ℕ) → go text None ≡ None) → ((text : List ℕ) (b : ℕ) (ms : Option (List Mark)) → go text (with_first (Some (Plain b)) ms) ≡ go (text ++ b ∷ []) ms)
     → ((text : List ℕ) → whole_at back parts text bs ≡ go text (marks bs))
     → whole (let s : State = record { parts = parts; text = text; place = place } in if x then at_place (with_char s c) back else at_place s Broken) bs ≡ escaped_rest (go text) (encode c ++ bs)
 escaped_step place parts text c bs back true u e go none plain h = h (text ++ encode c) ∙ escaped_good go none plain text c bs e
@@ -211,7 +212,7 @@ step_whole EscapedFixed parts text c bs u = escaped_step EscapedFixed parts text
 step_whole EscapedHole parts text c bs u = escaped_step EscapedHole parts text c bs Hole (is_special c) u refl (hole_rest parts) (λ _. refl) (plain_hole parts) (λ _. refl)
 step_whole Broken parts text c bs u = refl
 
-run_whole : (s : State) (cs : List ℕ) → scalars cs ≡ true → whole (run s cs) [] ≡ whole s (encodes cs)
+run_whole : (s : State) (cs : List ℕ) → scalars cs ≡ true → whole (fold step s cs) [] ≡ whole s (encodes cs)
 run_whole s [] u = refl
 run_whole s (c ∷ cs) u =
     let parts = and_parts (scalar c) (scalars cs) u in
@@ -224,19 +225,15 @@ end_whole EscapedFixed parts text = refl
 end_whole EscapedHole parts text = refl
 end_whole Broken parts text = refl
 
-start_whole : (ms : Option (List Mark)) → fixed_rest [] [] ms ≡ outside_if_any ms
+start_whole : (ms : Option (List Mark)) → fixed_rest [] [] ms ≡ option_and_then outside ms
 start_whole None = refl
 start_whole (Some ms) = option_map_id (outside ms)
 
 -- the reader, run over a text, gives the parts of the template
-pub finished-run : (text : List ℕ) → IsUtf8 text → finished (run start (chars text)) ≡ template_of text
+pub finished-run : (text : List ℕ) → IsUtf8 text → finished (fold step start (chars text)) ≡ template_of text
 finished-run text u =
-    let s = run start (chars text) in
+    let s = fold step start (chars text) in
     end_whole s.place s.parts s.text
     ∙ run_whole start (chars text) (scalars-chars text u)
     ∙ ap (λ t. whole start t) (encodes-chars text u)
     ∙ start_whole (marks text)
-
-pub run-push : (s : State) (cs : List ℕ) (c : ℕ) → run s (cs ++ c ∷ []) ≡ step (run s cs) c
-run-push s [] c = refl
-run-push s (d ∷ cs) c = run-push (step s d) cs c

@@ -64,10 +64,6 @@ step_at Broken s c = s
 abbrev pub step : State → ℕ → State
 step s c = step_at s.place s c
 
-abbrev pub run : State → List ℕ → State
-run s [] = s
-run s (c ∷ cs) = run (step s c) cs
-
 abbrev pub finished_at : Place → State → Option (List Part)
 finished_at Fixed s = Some (s.parts ++ fixed_part s.text)
 finished_at Hole s = None

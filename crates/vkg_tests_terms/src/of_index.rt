@@ -12,19 +12,15 @@ fn pair(alloc: Global, first: Cell, second: Cell) -> Result<Items<Cell>, Memory>
     Ok(row)
 }
 
-fn text(alloc: Global, s: &str) -> Result<Text, Memory> {
-    Text::new(alloc, s)
-}
-
 // Rows of which the first two agree on the first column, and the third has NULL there.
 fn rows(alloc: Global) -> Result<Items<Items<Cell>>, Memory> {
     let mut rows = Items::new(alloc);
-    let one = Cell::Int(text(alloc, "1")?);
-    rows.push(pair(alloc, one, Cell::Text(text(alloc, "a")?))?)?;
-    let decimal = Cell::Dec(text(alloc, "1")?);
+    let one = Cell::Int(Text::new(alloc, "1")?);
+    rows.push(pair(alloc, one, Cell::Text(Text::new(alloc, "a")?))?)?;
+    let decimal = Cell::Dec(Text::new(alloc, "1")?);
     rows.push(pair(alloc, decimal, Cell::Null)?)?;
     rows.push(pair(alloc, Cell::Null, Cell::Bool(true))?)?;
-    let iri = Term::Iri(text(alloc, "http://e/")?);
+    let iri = Term::Iri(Text::new(alloc, "http://e/")?);
     rows.push(pair(alloc, Cell::Term(iri), Cell::Bool(true))?)?;
     Ok(rows)
 }

@@ -77,9 +77,7 @@ fn repeated(
     end: &str,
 ) -> Result<String, Fail> {
     let mut out = String::from_str(rt.alloc(), begin)?;
-    for _ in 0..times {
-        out.push_str(text)?;
-    }
+    out.push_str(text.repeat(rt.alloc(), times)?.as_str())?;
     out.push_str(end)?;
     Ok(out)
 }

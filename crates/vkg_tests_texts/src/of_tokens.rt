@@ -95,20 +95,13 @@ fn names_of_turtle(rt: HostRuntime) -> Result<(), Fail> {
 }
 
 fn run_of_words(rt: &HostRuntime, times: usize) -> Result<String, Fail> {
-    let mut text = String::new(rt.alloc());
-    for _ in 0..times {
-        text.push_str("a.b1.")?;
-    }
-    Ok(text)
+    Ok("a.b1.".repeat(rt.alloc(), times)?)
 }
 
 #[test]
 fn words_joined_by_dots(rt: HostRuntime) -> Result<(), Fail> {
     let mut text = run_of_words(&rt, 200)?;
-    let mut want = String::new(rt.alloc());
-    for _ in 0..200 {
-        want.push_str(" 9:1 4:1 24:1 21:1 4:1")?;
-    }
+    let want = " 9:1 4:1 24:1 21:1 4:1".repeat(rt.alloc(), 200)?;
     let found = shown(&rt, Lang::Turtle, text.as_str())?;
     assert_eq!(rt; found.as_str(), want.as_str());
     text.push_str("c:d")?;

@@ -147,13 +147,9 @@ fn each_fault_has_its_place(rt: HostRuntime) {
 // A statement whose object is so many brackets, one in another.
 fn nested(alloc: Global, depth: usize) -> Result<String, Fail> {
     let mut text = String::from_str(alloc, "<s> <p> ")?;
-    for _ in 1..depth {
-        text.push_str("[ <p> ")?;
-    }
+    text.push_str("[ <p> ".repeat(alloc, depth.saturating_sub(1))?.as_str())?;
     text.push_str("[ ")?;
-    for _ in 0..depth {
-        text.push(']')?;
-    }
+    text.push_str("]".repeat(alloc, depth)?.as_str())?;
     text.push_str(" .")?;
     Ok(text)
 }

@@ -1,7 +1,9 @@
 -- RDF 1.1 Turtle, 7: the triples of a document, by the state of a parser that takes one token after another.
 use Rattle.std.specs.Prelude.{ℕ, Bool, true, false, List, [], ◌∷◌, ◌++◌, codes, decimal, fold, length, map, slice_get, ◌-◌, Option, Some, None, unwrap_or, option_map, option_to_list, if◌then◌else◌}
-use Rattle.std.specs.List.{list_any}
+use Rattle.std.specs.Map.{lookup}
 use Rattle.std.specs.Str.{bytes_eq}
+use Rattle.indexmap.specs.IndexMap.{insert_entry}
+use Rattle.indexmap.specs.IndexSet.{insert_key}
 use Rattle.vkg_lists.specs.Lists.{without_last}
 use Rattle.vkg_lists.specs.Places.{earlier}
 use Rattle.vkg_grammar.specs.declared.note.Note.{Note}
@@ -29,13 +31,11 @@ last_of xs = slice_get xs (length xs - 1)
 
 -- 7.1, namespaces: a prefix that is declared again stands for the later IRI
 abbrev pub declared : List ℕ → List ℕ → List (List ℕ × List ℕ) → List (List ℕ × List ℕ)
-declared name iri [] = (name, iri) ∷ []
-declared name iri (p ∷ ps) = if bytes_eq name p.0 then (p.0, iri) ∷ ps else p ∷ declared name iri ps
+declared name iri prefixes = insert_entry bytes_eq prefixes name iri
 
 -- what a prefix stands for
 abbrev pub namespace : List ℕ → List (List ℕ × List ℕ) → Option (List ℕ)
-namespace name [] = None
-namespace name (p ∷ ps) = if bytes_eq name p.0 then Some p.1 else namespace name ps
+namespace name prefixes = lookup (bytes_eq name) prefixes
 
 -- 6.3, 7.2, IRIREF, PNAME_NS and PNAME_LN: a reference is resolved against the base, a name is what its prefix stands for and
 -- then its local part
@@ -183,7 +183,7 @@ begun base = record {
 
 -- a triple that stands before adds nothing
 abbrev pub with_triple : List Triple → Triple → List Triple
-with_triple kept t = if list_any (triple_eq t) kept then kept else kept ++ t ∷ []
+with_triple kept t = insert_key triple_eq kept t
 
 -- the triples in the order in which their objects begin, each where it first stands
 abbrev pub triples_of : Document → List Triple

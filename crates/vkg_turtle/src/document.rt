@@ -11,6 +11,7 @@ use crate::triple::Triple;
 use itoa::Buffer;
 use std::alloc::Global;
 use vkg_base::{Items, Memory, Text, earlier};
+use vkg_terms::vocabulary::{RDF_TYPE, XSD_BOOLEAN, XSD_DECIMAL, XSD_DOUBLE, XSD_INTEGER};
 use vkg_terms::{Annotation, Term, is_absolute};
 
 /// A subject and a predicate, kept while the node of a bracket is the subject.
@@ -37,23 +38,14 @@ pub struct Document {
     pub relative: Option<usize>,
 }
 
-const XSD_INTEGER: &str = "http://www.w3.org/2001/XMLSchema#integer";
-
-const XSD_DECIMAL: &str = "http://www.w3.org/2001/XMLSchema#decimal";
-
-const XSD_DOUBLE: &str = "http://www.w3.org/2001/XMLSchema#double";
-
-const XSD_BOOLEAN: &str = "http://www.w3.org/2001/XMLSchema#boolean";
-
-const RDF_TYPE: &str = "http://www.w3.org/1999/02/22-rdf-syntax-ns#type";
-
 fn no_iri(alloc: Global) -> Result<Term, Memory>
     ensures { IfOk result (λ t. t ≡ Iri []) }
 {
     Ok(Term::Iri(Text::new(alloc, "")?))
 }
 
-fn or_empty(alloc: Global, iri: Option<Text>) -> Result<Text, Memory>
+/// An IRI, or no bytes.
+pub fn or_empty(alloc: Global, iri: Option<Text>) -> Result<Text, Memory>
     ensures { IfOk result (λ t. t ≡ unwrap_or iri []) }
 {
     match iri {

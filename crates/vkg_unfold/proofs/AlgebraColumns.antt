@@ -1,16 +1,18 @@
 -- The plan of every algebra has a column of terms for each variable, and in mode each one for the graph.
-use Rattle.std.proofs.Common.{◌≡◌, ◌∙◌, ℕ, suc, ◌<◌, ◌≤◌, ◌+◌, Bool, true, false, ◌||◌, ⊎_elim, List, [], ◌∷◌, ◌++◌, map, length, nat_eq, refl, sym, ap, subst, arith, append-nil, length-append}
-use Rattle.std.specs.Prelude.{Option, Some, None, replicate, flat_map, if◌then◌else◌, cond, not}
-use Rattle.std.specs.List.{AllByRecursion, filter, list_any, Contains, position_or_len}
+use Rattle.std.proofs.Common.{◌≡◌, ◌∙◌, ℕ, suc, ◌<◌, ◌≤◌, ◌+◌, Bool, true, false, ⊎_elim, List, [], ◌∷◌, ◌++◌, map, length, nat_eq, refl, sym, ap, subst, arith, append-nil, length-append}
+use Rattle.std.specs.Prelude.{Option, Some, None, replicate, flat_map, if◌then◌else◌}
+use Rattle.std.specs.List.{AllByRecursion, filter, Contains, position_or_len}
+use Rattle.std.specs.Bool.{then_some}
 use Rattle.std.proofs.lemmas.Bool.{true≢false}
 use Rattle.std.proofs.lemmas.List.{length-map, replicate-append-replicate}
 use Rattle.std.proofs.lemmas.List.Elements.{Contains-append_left, Contains-append_right, Contains-append_cases}
+use Rattle.std.proofs.lemmas.Map.Made.{is_member-Decides}
 use Rattle.vkg_lists.proofs.Each.{recursion_map_weaken, map_each}
 use Rattle.vkg_lists.specs.Options.{with_first, joined}
 use Rattle.vkg_lists.specs.Sets.{IsEqualityTest, distinct}
-use Rattle.vkg_lists.proofs.Counts.{Decides-list_any}
 use Rattle.vkg_lists.proofs.Distinct.{Contains-distinct, Contains-from_distinct}
 use Rattle.vkg_lists.proofs.Members.{Contains-none, Contains-here, Contains-there, Contains-cons_cases, Contains-flat_map, Contains-from_flat_map, Contains-from_filter, recursion_from_each, recursion_append}
+use Rattle.vkg_lists.proofs.Positions.{first_found}
 use Rattle.vkg_lists.proofs.Tests.{nat_test, option_test}
 use Rattle.vkg_cells.specs.declared.cell.SqlType.{SqlType}
 use Rattle.vkg_cells.specs.declared.cell.SqlType.TheVariants as kind
@@ -22,12 +24,11 @@ use Rattle.vkg_sparql.specs.Query.{Condition, Variable, Constant, Bound, Test, T
 use Rattle.vkg_algebra.specs.Algebra.{Algebra, Bgp, LeftJoin, Filter, Graph}
 use Rattle.vkg_algebra.specs.Algebra as algebra
 use Rattle.vkg_algebra.specs.Visible.{each_once, has, node_variables, pattern_variables, visible}
-use Rattle.vkg_algebra.proofs.PatternLemmas.{is_among}
 use Rattle.vkg_algebra.proofs.VisibleLemmas.{visible_once}
 use Rattle.vkg_expr.specs.Expr.{Expr, Col, Same, IsNull, exprs}
 use Rattle.vkg_expr.specs.Expr as expr
 use Rattle.vkg_expr.specs.Logic.{and_of, or_of, truth_const}
-use Rattle.vkg_expr.specs.Typing.{are_all, giving, is_one, kind_of, lexical_kind}
+use Rattle.vkg_expr.specs.Typing.{are_all, is_one, kind_of, lexical_kind}
 use Rattle.vkg_plan.specs.Kinds.{Kinds, Tables, beside_all, checked, side_by_side, kinds_of_each, plan_kinds}
 use Rattle.vkg_plan.specs.Plan.{Plan, Select, Project, Join, Left, plans, Distinct}
 use Rattle.vkg_row_rules.specs.declared.row_rule.RowRule.{RowRule}
@@ -48,24 +49,24 @@ truth_or_term true = kind.Bool
 truth_or_term false = kind.Term
 
 to_term_kind : (ks : Kinds) (b : Bool) (e : Expr) → kind_of e ks ≡ Some (truth_or_term b) → IsTerm ks (to_term b e)
-to_term_kind ks true e h = λ i. giving kind.Term (is_one kind.Text (lexical_kind (h i)))
+to_term_kind ks true e h = λ i. then_some (is_one kind.Text (lexical_kind (h i))) kind.Term
 to_term_kind ks false e h = h
 
 to_truth_kind : (ks : Kinds) (b : Bool) (e : Expr) → kind_of e ks ≡ Some (truth_or_term b) → IsTruth ks (to_truth b e)
 to_truth_kind ks true e h = h
-to_truth_kind ks false e h = λ i. giving kind.Bool (is_one kind.Term (h i))
+to_truth_kind ks false e h = λ i. then_some (is_one kind.Term (h i)) kind.Bool
 
 expr_kind : (ks : Kinds) (at : ℕ → Expr) → ((v : ℕ) → IsTerm ks (at v)) → (c : Condition) → kind_of (expr_of at c) ks ≡ Some (truth_or_term (gives_truth c))
 expr_kind ks at h (Variable v) = h v
 expr_kind ks at h (Constant t) = refl
 expr_kind ks at h (Bound v) = not_truth ks (IsNull (at v)) (null_truth ks (at v) (h v))
-expr_kind ks at h (Test f a) = λ i. giving kind.Bool (are_all kind.Term (with_first (to_term_kind ks (gives_truth a) (expr_of at a) (expr_kind ks at h a) i) (Some [])))
-expr_kind ks at h (Take f a) = λ i. giving kind.Term (are_all kind.Term (with_first (to_term_kind ks (gives_truth a) (expr_of at a) (expr_kind ks at h a) i) (Some [])))
-expr_kind ks at h (Compare f a b) = λ i. giving kind.Bool (are_all kind.Term (with_first (to_term_kind ks (gives_truth a) (expr_of at a) (expr_kind ks at h a) i) (with_first (to_term_kind ks (gives_truth b) (expr_of at b) (expr_kind ks at h b) i) (Some []))))
+expr_kind ks at h (Test f a) = λ i. then_some (are_all kind.Term (with_first (to_term_kind ks (gives_truth a) (expr_of at a) (expr_kind ks at h a) i) (Some []))) kind.Bool
+expr_kind ks at h (Take f a) = λ i. then_some (are_all kind.Term (with_first (to_term_kind ks (gives_truth a) (expr_of at a) (expr_kind ks at h a) i) (Some []))) kind.Term
+expr_kind ks at h (Compare f a b) = λ i. then_some (are_all kind.Term (with_first (to_term_kind ks (gives_truth a) (expr_of at a) (expr_kind ks at h a) i) (with_first (to_term_kind ks (gives_truth b) (expr_of at b) (expr_kind ks at h b) i) (Some [])))) kind.Bool
 expr_kind ks at h (SameTerm a b) = same_truth ks (to_term (gives_truth a) (expr_of at a)) (to_term (gives_truth b) (expr_of at b)) (to_term_kind ks (gives_truth a) (expr_of at a) (expr_kind ks at h a)) (to_term_kind ks (gives_truth b) (expr_of at b) (expr_kind ks at h b))
 expr_kind ks at h (Not a) = not_truth ks (to_truth (gives_truth a) (expr_of at a)) (to_truth_kind ks (gives_truth a) (expr_of at a) (expr_kind ks at h a))
-expr_kind ks at h (And a b) = λ i. giving kind.Bool (are_all kind.Bool (with_first (to_truth_kind ks (gives_truth a) (expr_of at a) (expr_kind ks at h a) i) (with_first (to_truth_kind ks (gives_truth b) (expr_of at b) (expr_kind ks at h b) i) (Some []))))
-expr_kind ks at h (Or a b) = λ i. giving kind.Bool (are_all kind.Bool (with_first (to_truth_kind ks (gives_truth a) (expr_of at a) (expr_kind ks at h a) i) (with_first (to_truth_kind ks (gives_truth b) (expr_of at b) (expr_kind ks at h b) i) (Some []))))
+expr_kind ks at h (And a b) = λ i. then_some (are_all kind.Bool (with_first (to_truth_kind ks (gives_truth a) (expr_of at a) (expr_kind ks at h a) i) (with_first (to_truth_kind ks (gives_truth b) (expr_of at b) (expr_kind ks at h b) i) (Some [])))) kind.Bool
+expr_kind ks at h (Or a b) = λ i. then_some (are_all kind.Bool (with_first (to_truth_kind ks (gives_truth a) (expr_of at a) (expr_kind ks at h a) i) (with_first (to_truth_kind ks (gives_truth b) (expr_of at b) (expr_kind ks at h b) i) (Some [])))) kind.Bool
 
 filter_truth : (ks : Kinds) (at : ℕ → Expr) → ((v : ℕ) → IsTerm ks (at v)) → (c : Condition) → IsTruth ks (truth_expr at c)
 filter_truth ks at h c = to_truth_kind ks (gives_truth c) (expr_of at c) (expr_kind ks at h c)
@@ -79,19 +80,11 @@ condition_truth ks at h (Some c) = (filter_truth ks at h c, tt)
 pub name_test : IsEqualityTest name_eq
 name_test = option_test nat_test
 
-place_step : (b c : Bool) (k n : ℕ) → (b || c) ≡ true → (c ≡ true → k < n) → cond (not b) (1 + k) 0 < suc n
-place_step true c k n h f = omega arith
-place_step false c k n h f = let j = f h in omega (arith, j)
-
-any_place : {X : Type 0} (p : X → Bool) (xs : List X) → list_any p xs ≡ true → position_or_len p xs < length xs
-any_place p [] h = absurd (true≢false (sym h))
-any_place p (x ∷ xs) h = place_step (p x) (list_any p xs) (position_or_len p xs) (length xs) h (any_place p xs)
-
 pub has_place : (vs : List ℕ) (v : ℕ) → has vs v ≡ true → position_or_len (nat_eq v) vs < length vs
-has_place vs v h = any_place (nat_eq v) vs h
+has_place vs v h = (first_found (nat_eq v) vs h).1.inside
 
 name_place : (names : List Name) (x : Name) → Contains names x → position_or_len (name_eq x) names < length names
-name_place names x c = any_place (name_eq x) names ((Decides-list_any name_test names x).1 c)
+name_place names x c = (first_found (name_eq x) names ((is_member-Decides name_test.decides names x).1 c)).1.inside
 
 -- ---- basic graph patterns
 
@@ -145,10 +138,10 @@ wanted_places mode p ps =
     names : List Name
     names = flat_map (pattern_names mode) (p ∷ ps)
 
-wanted_length : (mode : Mode) (vs : List ℕ) → length (map Some vs ++ if_each {X = Name} mode None) ≡ columns_in mode vs
-wanted_length Default vs = ap length (append-nil (map Some vs)) ∙ length-map vs Some
-wanted_length (InGraph i) vs = ap length (append-nil (map Some vs)) ∙ length-map vs Some
-wanted_length Each vs = length-append (map Some vs) (None ∷ []) ∙ omega (arith, length-map vs Some)
+with_graph_length : {X : Type 0} (mode : Mode) (f : ℕ → X) (us : List ℕ) (e : X) → length (map f us ++ if_each mode e) ≡ columns_in mode us
+with_graph_length Default f us e = ap length (append-nil (map f us)) ∙ length-map us f
+with_graph_length (InGraph i) f us e = ap length (append-nil (map f us)) ∙ length-map us f
+with_graph_length Each f us e = length-append (map f us) (e ∷ []) ∙ omega (arith, length-map us f)
 
 module _ (schema : Tables) (rules : List RowRule) (fit : AreFitting schema rules) where
   each_kinds : (mode : Mode) (ps : List TriplePattern) → kinds_of_each schema (plans (map (pattern_plan schema rules mode) ps)) ≡ Some (map (λ p. replicate (length (pattern_names mode p)) kind.Term) ps)
@@ -166,7 +159,7 @@ module _ (schema : Tables) (rules : List RowRule) (fit : AreFitting schema rules
   patterns_kinds mode p ps =
       project_kinds schema (map to_column wanted) (Join (plans (map (pattern_plan schema rules mode) (p ∷ ps))) c) ks rows
       (recursion_map_weaken (HasPlace names) (IsTerm ks) to_column (λ x k. term_at (length names) (position_or_len (name_eq x) names) k) wanted (wanted_places mode p ps))
-      ∙ ap (λ n. Some (replicate n kind.Term)) (length-map wanted to_column ∙ wanted_length mode (visible (Bgp (p ∷ ps))))
+      ∙ ap (λ n. Some (replicate n kind.Term)) (length-map wanted to_column ∙ with_graph_length mode Some (visible (Bgp (p ∷ ps))) None)
     where
       names : List Name
       names = flat_map (pattern_names mode) (p ∷ ps)
@@ -203,11 +196,6 @@ columns_most : (mode : Mode) (vs : List ℕ) → length vs ≤ columns_in mode v
 columns_most Default vs = omega arith
 columns_most (InGraph i) vs = omega arith
 columns_most Each vs = omega arith
-
-with_graph_length : (mode : Mode) (f : ℕ → Expr) (us : List ℕ) (e : Expr) → length (map f us ++ if_each mode e) ≡ columns_in mode us
-with_graph_length Default f us e = ap length (append-nil (map f us)) ∙ length-map us f
-with_graph_length (InGraph i) f us e = ap length (append-nil (map f us)) ∙ length-map us f
-with_graph_length Each f us e = length-append (map f us) (e ∷ []) ∙ omega (arith, length-map us f)
 
 module _ (mode : Mode) (vs ws : List ℕ) where
   abbrev both : ℕ
@@ -255,7 +243,7 @@ agreement_truth mode vs ws =
     recursion_append (IsTruth ks) (map shared (filter (has ws) vs)) (if_each mode (Same (Col (length vs)) (Col (columns_in mode vs + length ws))))
     (map_each (IsTruth ks) shared (filter (has ws) vs) (λ v c.
     let w = Contains-from_filter (has ws) vs v c in
-    let l = left_term mode vs ws v (is_among vs v w.0) in
+    let l = left_term mode vs ws v ((is_member-Decides nat_test.decides vs v).1 w.0) in
     let r = right_term mode vs ws v w.1 in
     or_truth ks (IsNull (left_column vs v) ∷ IsNull (right_column mode vs ws v) ∷ Same (left_column vs v) (right_column mode vs ws v) ∷ [])
     (null_truth ks (left_column vs v) l, (null_truth ks (right_column mode vs ws v) r, (same_truth ks (left_column vs v) (right_column mode vs ws v) l r, tt)))))
@@ -333,21 +321,18 @@ module _ (schema : Tables) where
 
   -- ---- GRAPH
 
-  behind_kinds : (first : Plan) (vs : List ℕ) (n : ℕ) (p : Plan) → HasTermKinds schema n first → HasTermKinds schema (length vs) p → plan_kinds schema (Join (plans (first ∷ p ∷ [])) (truth_const true)) ≡ Some (replicate (n + length vs) kind.Term)
-  behind_kinds first vs n p h k = pair_kinds n (length vs) first p (truth_const true) h k refl
-
   column_term : (n : ℕ) (vs : List ℕ) (v : ℕ) → Contains vs v → IsTerm (replicate (n + length vs) kind.Term) (column vs n v)
-  column_term n vs v c = let k = has_place vs v (is_among vs v c) in term_at (n + length vs) (n + position_or_len (nat_eq v) vs) (omega (arith, k))
+  column_term n vs v c = let k = has_place vs v ((is_member-Decides nat_test.decides vs v).1 c) in term_at (n + length vs) (n + position_or_len (nat_eq v) vs) (omega (arith, k))
 
   after_test_kinds : (first : Plan) (vs : List ℕ) (p : Plan) → HasTermKinds schema 0 first → HasTermKinds schema (length vs) p → HasTermKinds schema (length vs) (after first vs 0 p)
   after_test_kinds first vs p h k =
-      project_kinds schema (map (column vs 0) vs ++ []) (Join (plans (first ∷ p ∷ [])) (truth_const true)) (replicate (0 + length vs) kind.Term) (behind_kinds first vs 0 p h k)
+      project_kinds schema (map (column vs 0) vs ++ []) (Join (plans (first ∷ p ∷ [])) (truth_const true)) (replicate (0 + length vs) kind.Term) (pair_kinds 0 (length vs) first p (truth_const true) h k refl)
       (recursion_append (IsTerm (replicate (0 + length vs) kind.Term)) (map (column vs 0) vs) [] (map_each (IsTerm (replicate (0 + length vs) kind.Term)) (column vs 0) vs (column_term 0 vs)) tt)
       ∙ ap (λ n. Some (replicate n kind.Term)) (ap length (append-nil (map (column vs 0) vs)) ∙ length-map vs (column vs 0))
 
   after_names_kinds : (first : Plan) (vs : List ℕ) (p : Plan) → HasTermKinds schema 1 first → HasTermKinds schema (length vs) p → HasTermKinds schema (suc (length vs)) (after first vs 1 p)
   after_names_kinds first vs p h k =
-      project_kinds schema (map (column vs 1) vs ++ Col 0 ∷ []) (Join (plans (first ∷ p ∷ [])) (truth_const true)) (replicate (1 + length vs) kind.Term) (behind_kinds first vs 1 p h k)
+      project_kinds schema (map (column vs 1) vs ++ Col 0 ∷ []) (Join (plans (first ∷ p ∷ [])) (truth_const true)) (replicate (1 + length vs) kind.Term) (pair_kinds 1 (length vs) first p (truth_const true) h k refl)
       (recursion_append (IsTerm (replicate (1 + length vs) kind.Term)) (map (column vs 1) vs) (Col 0 ∷ []) (map_each (IsTerm (replicate (1 + length vs) kind.Term)) (column vs 1) vs (column_term 1 vs)) (term_at (1 + length vs) 0 (omega arith), tt))
       ∙ ap (λ n. Some (replicate n kind.Term)) (with_graph_length Each (column vs 1) vs (Col 0))
 
@@ -377,7 +362,7 @@ module _ (schema : Tables) where
       by true e = term_at (suc (length vs)) (length vs) (omega arith)
       by false e =
           let there : Contains vs w = ⊎_elim (λ k. absurd (true≢false (sym ((nat_test.decides v w).1 k) ∙ e))) (λ k. k) (Contains-cons_cases v vs w (Contains-from_distinct nat_eq (v ∷ vs) w c)) in
-          let k = has_place vs w (is_among vs w there) in
+          let k = has_place vs w ((is_member-Decides nat_test.decides vs w).1 there) in
           term_at (suc (length vs)) (position_or_len (nat_eq w) vs) (omega (arith, k))
 
   each_graph_kinds : (vs : List ℕ) (v : ℕ) (p : Plan) → HasTermKinds schema (suc (length vs)) p → HasTermKinds schema (length (each_once (v ∷ vs))) (each_graph vs v p)

@@ -5,4 +5,3 @@ mod Examples
 pub mod PlanColumns
 pub mod Steps
 pub mod TermKinds
-pub mod WantedColumns

@@ -9,8 +9,8 @@ use Rattle.vkg_lists.proofs.Each.{recursion_map_weaken, recursion_flat_map, recu
 use Rattle.vkg_lists.proofs.Members.{recursion_append}
 use Rattle.vkg_lists.specs.Options.{with_first}
 use Rattle.vkg_lists.specs.Sets.{distinct}
-use Rattle.vkg_lists.proofs.Distinct.{distinct-map}
 use Rattle.vkg_lists.proofs.Heads.{list_all-replicate, slice_get-behind}
+use Rattle.vkg_lists.proofs.Distinct.{distinct_map_on}
 use Rattle.vkg_cells.specs.declared.cell.SqlType.{SqlType}
 use Rattle.vkg_cells.specs.declared.cell.SqlType.TheVariants as kind
 use Rattle.vkg_maps.specs.declared.quad_rule.Join.{Join as ParentJoin}
@@ -242,7 +242,7 @@ columns_number mode p rule test h =
     nodes = flat_map node_names (p.subject ∷ p.predicate ∷ p.object ∷ [])
 
     same : length (distinct same_name all) ≡ length (distinct name_eq nodes)
-    same = sym (length-map (distinct same_name all) (λ (n : Named). n.0)) ∙ ap length (sym (distinct-map same_name name_eq (λ (n : Named). n.0) (λ x y. refl) all)) ∙ ap (λ l. length (distinct name_eq l)) (names_of_places (places p rule))
+    same = sym (length-map (distinct same_name all) (λ (n : Named). n.0)) ∙ ap length (distinct_map_on same_name name_eq (λ (n : Named). n.0) all (λ x y c d. refl)) ∙ ap (λ l. length (distinct name_eq l)) (names_of_places (places p rule))
 
 pattern_member_kinds : (schema : Tables) (mode : Mode) (p : TriplePattern) (rule : RowRule) → IsFitting schema rule → IfSome (pattern_member schema mode p rule) (HasTermKinds schema (length (pattern_names mode p)))
 pattern_member_kinds schema mode p rule h = by (graph_test mode rule.graph) refl (test_truth ks mode rule.graph terms.graph)

@@ -1,9 +1,8 @@
 -- Steps of loops, and lists by their lengths.
 use Rattle.std.proofs.Common.{◌≡◌, ◌≢◌, ◌∙◌, ℕ, ◌<◌, ◌+◌, Bool, true, false, cond, List, [], ◌∷◌, ◌++◌, map, take, drop, length, get_or, refl, sym, ap, arith}
-use Rattle.std.specs.Prelude.{Option, Some, None, slice_get, find, fold, filter_map, flat_map, if◌then◌else◌}
+use Rattle.std.specs.Prelude.{Some, None, slice_get, find, fold, flat_map, if◌then◌else◌}
 use Rattle.std.specs.List.{list_any}
 use Rattle.std.proofs.lemmas.List.{drop_more, map-append, map_more, take_more}
-use Rattle.std.proofs.lemmas.List.Elements.{filter_map-append}
 use Rattle.std.proofs.lemmas.Option.{same_Some}
 use Rattle.vkg_lists.proofs.Distinct.{distinct_push, distinct-take_more}
 use Rattle.vkg_lists.proofs.Walks.{list_any-map}
@@ -17,7 +16,6 @@ use Rattle.vkg_expr.specs.Expr.{Expr, exprs}
 use Rattle.vkg_expr.specs.Expr as expr
 use Rattle.vkg_expr.specs.Logic.{and_of, or_of, truth_const}
 use Rattle.vkg_expr.specs.Seen.{expr_seen}
-use Rattle.vkg_plan.specs.Plan.{Plan}
 use Rattle.vkg_row_rules.specs.declared.row_rule.RowRule.{RowRule}
 use Rattle.vkg_unfold.specs.declared.mode.Mode.{Mode}
 use Rattle.vkg_unfold.specs.declared.mode.Mode.TheVariants.{Default, InGraph, Each}
@@ -29,26 +27,23 @@ use Rattle.vkg_unfold.proofs.Chains.{truth-and, truth-or}
 
 -- ---- each once
 
-abbrev second : Named → Expr
-second n = n.1
-
 first_push : (xs : List NamedValue) (x : NamedValue) →
-    map second (distinct same_name (map named_seen (xs ++ x ∷ [])))
-    ≡ map second (distinct same_name (map named_seen xs)) ++ (if list_any (λ (n : NamedValue). name_eq n.name x.name) xs then [] else expr_seen x.expr ∷ [])
+    map (λ (n : Named). n.1) (distinct same_name (map named_seen (xs ++ x ∷ [])))
+    ≡ map (λ (n : Named). n.1) (distinct same_name (map named_seen xs)) ++ (if list_any (λ (n : NamedValue). name_eq n.name x.name) xs then [] else expr_seen x.expr ∷ [])
 first_push xs x =
-    ap (λ l. map second (distinct same_name l)) (map-append named_seen xs (x ∷ []))
-    ∙ ap (map second) (distinct_push same_name (map named_seen xs) (named_seen x))
-    ∙ map-append second (distinct same_name (map named_seen xs)) (if list_any (λ y. same_name y (named_seen x)) (map named_seen xs) then [] else named_seen x ∷ [])
-    ∙ ap (λ l. map second (distinct same_name (map named_seen xs)) ++ l) (one (list_any (λ y. same_name y (named_seen x)) (map named_seen xs)) ∙ ap (λ b. if b then [] else expr_seen x.expr ∷ []) (list_any-map (λ y. same_name y (named_seen x)) named_seen xs))
+    ap (λ l. map (λ (n : Named). n.1) (distinct same_name l)) (map-append named_seen xs (x ∷ []))
+    ∙ ap (map (λ (n : Named). n.1)) (distinct_push same_name (map named_seen xs) (named_seen x))
+    ∙ map-append (λ (n : Named). n.1) (distinct same_name (map named_seen xs)) (if list_any (λ y. same_name y (named_seen x)) (map named_seen xs) then [] else named_seen x ∷ [])
+    ∙ ap (λ l. map (λ (n : Named). n.1) (distinct same_name (map named_seen xs)) ++ l) (one (list_any (λ y. same_name y (named_seen x)) (map named_seen xs)) ∙ ap (λ b. if b then [] else expr_seen x.expr ∷ []) (list_any-map (λ y. same_name y (named_seen x)) named_seen xs))
   where
-    one : (b : Bool) → map second (if b then [] else named_seen x ∷ []) ≡ (if b then [] else expr_seen x.expr ∷ [])
+    one : (b : Bool) → map (λ (n : Named). n.1) (if b then [] else named_seen x ∷ []) ≡ (if b then [] else expr_seen x.expr ∷ [])
     one true = refl
     one false = refl
 
 pub first_more : (list : List NamedValue) (i : ℕ) (d : NamedValue) → i < length list →
     map (λ (n : Named). n.1) (distinct same_name (map named_seen (take (i + 1) list)))
     ≡ map (λ (n : Named). n.1) (distinct same_name (map named_seen (take i list))) ++ (if list_any (λ (n : NamedValue). name_eq n.name (get_or list i d).name) (take i list) then [] else expr_seen (get_or list i d).expr ∷ [])
-first_more list i d h = ap (λ l. map second (distinct same_name (map named_seen l))) (take_more list i d h) ∙ first_push (take i list) (get_or list i d)
+first_more list i d h = ap (λ l. map (λ (n : Named). n.1) (distinct same_name (map named_seen l))) (take_more list i d h) ∙ first_push (take i list) (get_or list i d)
 
 -- ---- repeats of names
 
@@ -111,7 +106,7 @@ of_one_algebra vs c = refl
 
 -- ---- columns of a pattern
 
-hidden_terms : (mode : Mode) (gs : List Expr) → map second (flat_map (λ g. if_each mode (None, g)) gs) ≡ flat_map (if_each mode) gs
+hidden_terms : (mode : Mode) (gs : List Expr) → map (λ (n : Named). n.1) (flat_map (λ g. if_each mode (None, g)) gs) ≡ flat_map (if_each mode) gs
 hidden_terms Default [] = refl
 hidden_terms Default (g ∷ gs) = hidden_terms Default gs
 hidden_terms (InGraph i) [] = refl
@@ -123,8 +118,8 @@ pub columns_are : (mode : Mode) (p : TriplePattern) (rule : RowRule) →
     map (λ (n : Named). n.1) (pattern_places mode p rule)
     ≡ map (λ (n : Named). n.1) (distinct same_name (flat_map named (places p rule))) ++ flat_map (if_each mode) (graph_terms rule.graph)
 columns_are mode p rule =
-    map-append second (distinct same_name (flat_map named (places p rule))) (flat_map (λ g. if_each mode (None, g)) (graph_terms rule.graph))
-    ∙ ap (λ l. map second (distinct same_name (flat_map named (places p rule))) ++ l) (hidden_terms mode (graph_terms rule.graph))
+    map-append (λ (n : Named). n.1) (distinct same_name (flat_map named (places p rule))) (flat_map (λ g. if_each mode (None, g)) (graph_terms rule.graph))
+    ∙ ap (λ l. map (λ (n : Named). n.1) (distinct same_name (flat_map named (places p rule))) ++ l) (hidden_terms mode (graph_terms rule.graph))
 
 -- ---- the first column of a name
 
@@ -133,11 +128,6 @@ pub find_more : (x : Named) (list : List NamedValue) (i : ℕ) (d : NamedValue) 
 find_more x list i d h = ap (λ l. find (same_name x) (map named_seen l)) (drop_more list i d h)
 
 -- ---- steps of loops, from what the call of the body ensures
-
-pub members_more : (f : RowRule → Option Plan) (rules : List RowRule) (i : ℕ) (x : RowRule) (found new : List Plan) →
-    new ≡ found ++ filter_map f (x ∷ []) → i < length rules → x ≡ get_or rules i x → found ≡ filter_map f (take i rules) → new ≡ filter_map f (take (i + 1) rules)
-members_more f rules i x found new e h is inv =
-    e ∙ (λ j. inv j ++ filter_map f (is j ∷ [])) ∙ sym (filter_map-append f (take i rules) (get_or rules i x ∷ [])) ∙ ap (filter_map f) (sym (take_more rules i x h))
 
 pub name_once : (names found new before : List Name) (i : ℕ) (x d : Name) →
     new ≡ found ++ (if list_any (λ n. name_eq n x) before then [] else x ∷ []) → before ≡ take i names → x ≡ get_or names i d → i < length names → found ≡ distinct name_eq (take i names) → new ≡ distinct name_eq (take (i + 1) names)

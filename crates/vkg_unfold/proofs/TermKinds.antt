@@ -1,6 +1,7 @@
 -- Kinds of expressions: terms, truths and texts, and lists of them.
 use Rattle.std.proofs.Common.{◌≡◌, ◌∙◌, ℕ, zero, suc, ◌<◌, ◌+◌, true, false, not, ◌&&◌, List, [], ◌∷◌, ◌++◌, map, length, refl, ap, arith}
 use Rattle.std.specs.Prelude.{Some, replicate, slice_get, option_map}
+use Rattle.std.specs.Bool.{then_some}
 use Rattle.std.specs.List.{AllByRecursion}
 use Rattle.vkg_lists.proofs.Each.{recursion_map_weaken, recursion_weaken}
 use Rattle.vkg_lists.specs.Options.{with_first}
@@ -16,7 +17,7 @@ use Rattle.vkg_expr.specs.declared.term_expr.TermExpr.TheVariants.{Fixed, Made, 
 use Rattle.vkg_expr.specs.Expr.{Expr, Col, Lex, IsNull, Not, Same, Coalesce, exprs}
 use Rattle.vkg_expr.specs.Logic.{and_of, or_of}
 use Rattle.vkg_expr.specs.TermExprs.{made, piece_expr, pieces_expr, term_expr}
-use Rattle.vkg_expr.specs.Typing.{are_all, equality_kind, giving, is_column, is_one, kind_of, kinds_of, lexical_kind, no_column, same_kind, common}
+use Rattle.vkg_expr.specs.Typing.{are_all, equality_kind, is_column, is_one, kind_of, kinds_of, lexical_kind, no_column, same_kind, common}
 use Rattle.vkg_expr.proofs.KindLists.{itself}
 use Rattle.vkg_plan.specs.Kinds.{Kinds}
 use Rattle.vkg_unfold.specs.FittingRules.{FitsPiece, FitsTerm}
@@ -42,12 +43,12 @@ are_each k ks es h = ap (are_all k) (kinds_each k ks es h) ∙ list_all-replicat
 pub and_truth : (ks : Kinds) (es : List Expr) → AllByRecursion (IsTruth ks) es → IsTruth ks (and_of es)
 and_truth ks [] h = refl
 and_truth ks (e ∷ []) h = h.0
-and_truth ks (e ∷ f ∷ es) h = ap (giving kind.Bool) (are_each kind.Bool ks (e ∷ f ∷ es) h)
+and_truth ks (e ∷ f ∷ es) h = ap (λ b. then_some b kind.Bool) (are_each kind.Bool ks (e ∷ f ∷ es) h)
 
 pub or_truth : (ks : Kinds) (es : List Expr) → AllByRecursion (IsTruth ks) es → IsTruth ks (or_of es)
 or_truth ks [] h = refl
 or_truth ks (e ∷ []) h = h.0
-or_truth ks (e ∷ f ∷ es) h = ap (giving kind.Bool) (are_each kind.Bool ks (e ∷ f ∷ es) h)
+or_truth ks (e ∷ f ∷ es) h = ap (λ b. then_some b kind.Bool) (are_each kind.Bool ks (e ∷ f ∷ es) h)
 
 -- ---- the single forms
 
@@ -58,7 +59,7 @@ pub null_truth : (ks : Kinds) (a : Expr) → IsTerm ks a → IsTruth ks (IsNull 
 null_truth ks a p = λ i. option_map (λ (k : SqlType). kind.Bool) (p i)
 
 pub not_truth : (ks : Kinds) (a : Expr) → IsTruth ks a → IsTruth ks (Not a)
-not_truth ks a p = λ i. giving kind.Bool (is_one kind.Bool (p i))
+not_truth ks a p = λ i. then_some (is_one kind.Bool (p i)) kind.Bool
 
 pub known_truth : (ks : Kinds) (a : Expr) → IsTerm ks a → IsTruth ks (Not (IsNull a))
 known_truth ks a p = not_truth ks (IsNull a) (null_truth ks a p)
@@ -69,13 +70,13 @@ first_term ks a b p q = λ i. common (with_first (p i) (with_first (q i) (Some [
 -- ---- terms of rules
 
 form_text : (ks : Kinds) (at : ℕ) (k : SqlType) → FitsPiece ks (Hole at k) → IsText ks (Lex (Col at))
-form_text ks at k h = ap lexical_kind h.0 ∙ ap (λ b. giving kind.Text (not b)) h.1
+form_text ks at k h = ap lexical_kind h.0 ∙ ap (λ b. then_some (not b) kind.Text) h.1
 
 piece_text : (ks : Kinds) (sort : Sort) (p : Piece) → FitsPiece ks p → IsText ks (piece_expr sort p)
 piece_text ks OfIri (Chars s) h = refl
 piece_text ks OfBlank (Chars s) h = refl
 piece_text ks (OfLit a) (Chars s) h = refl
-piece_text ks OfIri (Hole at k) h = λ i. giving kind.Text (is_one kind.Text (form_text ks at k h i))
+piece_text ks OfIri (Hole at k) h = λ i. then_some (is_one kind.Text (form_text ks at k h i)) kind.Text
 piece_text ks OfBlank (Hole at k) h = form_text ks at k h
 piece_text ks (OfLit a) (Hole at k) h = form_text ks at k h
 
@@ -95,17 +96,17 @@ pieces_text : (ks : Kinds) (sort : Sort) (ps : List Piece) → AllByRecursion (F
 pieces_text ks sort [] h = refl
 pieces_text ks sort (p ∷ []) h = piece_text ks sort p h.0
 pieces_text ks sort (p ∷ q ∷ ps) h =
-    λ i. giving kind.Text (no_column_pieces sort (p ∷ q ∷ ps) i && are_each kind.Text ks (map (piece_expr sort) (p ∷ q ∷ ps)) (recursion_map_weaken (FitsPiece ks) (IsText ks) (piece_expr sort) (piece_text ks sort) (p ∷ q ∷ ps) h) i)
+    λ i. then_some (no_column_pieces sort (p ∷ q ∷ ps) i && are_each kind.Text ks (map (piece_expr sort) (p ∷ q ∷ ps)) (recursion_map_weaken (FitsPiece ks) (IsText ks) (piece_expr sort) (piece_text ks sort) (p ∷ q ∷ ps) h) i) kind.Text
 
 made_term : (ks : Kinds) (sort : Sort) (e : Expr) → IsText ks e → IsTerm ks (made sort e)
-made_term ks OfIri e p = λ i. giving kind.Term (is_one kind.Text (p i))
-made_term ks OfBlank e p = λ i. giving kind.Term (is_one kind.Text (p i))
-made_term ks (OfLit a) e p = λ i. giving kind.Term (is_one kind.Text (p i))
+made_term ks OfIri e p = λ i. then_some (is_one kind.Text (p i)) kind.Term
+made_term ks OfBlank e p = λ i. then_some (is_one kind.Text (p i)) kind.Term
+made_term ks (OfLit a) e p = λ i. then_some (is_one kind.Text (p i)) kind.Term
 
 pub rule_term : (ks : Kinds) (t : TermExpr) → FitsTerm ks t → IsTerm ks (term_expr t)
 rule_term ks (Fixed t) h = refl
 rule_term ks (Made sort ps) h = made_term ks sort (pieces_expr sort ps) (pieces_text ks sort ps h)
-rule_term ks (Resolved base at k) h = λ i. giving kind.Term (is_one kind.Text (giving kind.Text (is_one kind.Text (form_text ks at k h i))))
+rule_term ks (Resolved base at k) h = λ i. then_some (is_one kind.Text (then_some (is_one kind.Text (form_text ks at k h i)) kind.Text)) kind.Term
 
 -- ---- more columns behind
 

@@ -129,10 +129,5 @@ fn first_column(names: &[Option<usize>], name: Option<usize>) -> Expr
 fn place(names: &[Option<usize>], name: Option<usize>) -> usize
     ensures { result ≡ position_or_len (name_eq name) names.now }
 {
-    for i in 0..names.len() {
-        if same_name(name, names[i]) {
-            return i;
-        }
-    }
-    names.len()
+    names.iter().take_while(|n| !same_name(name, **n)).count()
 }

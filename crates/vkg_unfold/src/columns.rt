@@ -26,12 +26,7 @@ pub(crate) fn place(variables: &[Var], variable: Var) -> usize
     ensures value { result ≡ position_or_len (nat_eq variable) variables.now }
     ensures within { result ≤ length variables.now }
 {
-    for i in 0..variables.len() {
-        if variable == variables[i] {
-            return i;
-        }
-    }
-    variables.len()
+    variables.iter().take_while(|v| variable != **v).count()
 }
 
 /// The number of columns in a mode.

@@ -13,6 +13,7 @@ use vkg_cells::{Cell, SqlType};
 use vkg_expr::{Expr, Sort, TermExpr};
 use vkg_match::pieces_expr;
 use vkg_terms::Term;
+use vkg_terms::vocabulary::DEFAULT_GRAPH;
 
 /// The expression over a row that makes a term.
 pub(crate) fn term_expr(alloc: Global, term: &TermExpr) -> Result<Expr, Memory>
@@ -33,8 +34,6 @@ pub(crate) fn term_const(term: &Term) -> Result<Expr, Memory>
 {
     Ok(Expr::Const(Cell::Term(term.copy()?), SqlType::Term))
 }
-
-const DEFAULT_GRAPH: &str = "http://www.w3.org/ns/r2rml#defaultGraph";
 
 /// The name of the default graph (R2RML, 9).
 pub(crate) fn default_graph(alloc: Global) -> Result<Term, Memory>

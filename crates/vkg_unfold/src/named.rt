@@ -29,11 +29,7 @@ pub(crate) struct Named {
 pub(crate) fn same_name(a: Option<usize>, b: Option<usize>) -> bool
     ensures { result ≡ name_eq a b }
 {
-    match (a, b) {
-        (Some(a), Some(b)) => a == b,
-        (None, None) => true,
-        _ => false,
-    }
+    a == b
 }
 
 /// The columns of the variables and labels of a pattern, with the terms of a rule.

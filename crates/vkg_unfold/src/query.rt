@@ -1,7 +1,6 @@
 // The plan of an algebra, and that of a query.
 ghost use Rattle.std.specs.Prelude.{IfOk, if◌then◌else◌, IsOkAnd, ◌≡◌};
 ghost use Rattle.vkg_sparql.specs.Seen.{condition_seen, query_seen};
-ghost use Rattle.vkg_algebra.specs.Answer.{columns, selected_variables};
 ghost use Rattle.vkg_algebra.specs.Seen.{algebra_seen};
 ghost use Rattle.vkg_algebra.specs.Translation.{algebra_of};
 ghost use Rattle.vkg_algebra.specs.Visible.{visible};
@@ -16,12 +15,12 @@ use crate::graph::{graph_of_each, graph_of_name};
 use crate::mode::Mode;
 use crate::two::{join_plan, left_plan, union_plan, visible_columns};
 use std::alloc::Global;
-use vkg_algebra::{Algebra, Var, each_once, visible};
-use vkg_base::{Box, Items, Memory, Text};
+use vkg_algebra::{Algebra, selected_variables, visible};
+use vkg_base::{Box, Memory, Text};
 use vkg_plan::Plan;
 use vkg_row_rules::RowRule;
 use vkg_schema::Table;
-use vkg_sparql::{Condition, GraphName, Query, Selected, TriplePattern};
+use vkg_sparql::{Condition, GraphName, Query, TriplePattern};
 
 /// The plan of an algebra in a mode. Its rows have a column for each visible variable, in the order in which they first appear, and in
 /// mode each the graph's name behind them.
@@ -132,21 +131,11 @@ pub fn start_plan(
     ensures { IfOk result (λ p. plan_seen p ≡ start_plan schema.now rules.now (query_seen query.now)) }
 {
     let variables = visible(alloc, algebra)?;
-    let wanted = selected(alloc, &query.selected, variables.as_slice())?;
+    let wanted = selected_variables(alloc, query, algebra)?;
     let columns = visible_columns(alloc, variables.as_slice(), wanted.as_slice())?;
     let rows = plan_of(alloc, schema, rules, algebra, &Mode::Default)?;
     let answer = Plan::Project(columns, rows);
     distinct_if(alloc, query.distinct, answer)
-}
-
-/// The selected variables; `*` are all.
-fn selected(alloc: Global, selected: &Selected, variables: &[Var]) -> Result<Items<Var>, Memory>
-    ensures { IfOk result (λ vs. vs ≡ columns selected.now variables.now) }
-{
-    match selected {
-        Selected::All => Items::from_slice(alloc, variables),
-        Selected::Listed(listed) => each_once(alloc, listed.as_slice()),
-    }
 }
 
 fn distinct_if(alloc: Global, distinct: bool, plan: Plan) -> Result<Plan, Memory>

@@ -8,17 +8,8 @@ ghost use Rattle.vkg_values.specs.Known.{known, literal_value, moment_of, truth_
 use std::alloc::Global;
 use vkg_base::{Memory, Text};
 use vkg_cells::{Cell, FieldFault, SqlType, read_cell};
+use vkg_terms::vocabulary::{XSD_BOOLEAN, XSD_DATE, XSD_DATE_TIME, XSD_DECIMAL, XSD_INTEGER};
 use vkg_terms::{Annotation, Term};
-
-const XSD_INTEGER: &str = "http://www.w3.org/2001/XMLSchema#integer";
-
-const XSD_DECIMAL: &str = "http://www.w3.org/2001/XMLSchema#decimal";
-
-const XSD_BOOLEAN: &str = "http://www.w3.org/2001/XMLSchema#boolean";
-
-const XSD_DATE: &str = "http://www.w3.org/2001/XMLSchema#date";
-
-const XSD_DATE_TIME: &str = "http://www.w3.org/2001/XMLSchema#dateTime";
 
 /// The known value of a term, if it has one: a cell that equals another exactly where the values are equal.
 pub fn known_value(alloc: Global, term: &Term) -> Result<Option<Cell>, Memory>

@@ -8,16 +8,17 @@ use Rattle.vkg_sparql.proofs.SeenForms.{seen-And, seen-Compare, seen-Or}
 use Rattle.vkg_algebra.specs.Values.{expression_value}
 use Rattle.vkg_plain.specs.Asks.{asks}
 use Rattle.vkg_plain.proofs.Asked.{OnlyWhere, chain_asks, compare_asks}
-use Rattle.vkg_plain.proofs.Chains.{all_result, any_result}
+use Rattle.vkg_plain.specs.Chains.{both_value, either_value}
+use Rattle.vkg_plain.proofs.Chains.{chain_result}
 use Rattle.vkg_plain.proofs.conditions.+value.Goals as goal
 
 pub value-returns-in-And-clause-value : goal.value-returns-in-And-clause-value
 value-returns-in-And-clause-value t c =
     let s = c.args.solution.now in
-    all_result s c.in-And.first c.in-And.more c.args.condition.now c.all_of.result c.value-in-And.result c.values.result c.all_of.ensures.value
+    chain_result And both_value s (λ a b. refl) c.in-And.first c.in-And.more c.args.condition.now c.all_of.result c.value-in-And.result c.values.result c.all_of.ensures.value
     (subst (λ a. IfOk c.value-in-And.result (λ w. w ≡ expression_value (condition_seen a) s)) c.deref-in-And.ensures c.value-in-And.ensures.value)
     (subst (λ ds. IfOk c.values.result (λ vs. vs ≡ map (λ d. expression_value (condition_seen d) s) ds)) c.as_slice.ensures c.values.ensures.value)
-    c.in-And.is
+    (ap condition_seen c.in-And.is ∙ seen-And c.in-And.first c.in-And.more)
 
 pub value-returns-in-And-clause-wide : goal.value-returns-in-And-clause-wide
 value-returns-in-And-clause-wide t c =
@@ -32,10 +33,10 @@ value-returns-in-And-clause-wide t c =
 pub value-returns-in-Or-clause-value : goal.value-returns-in-Or-clause-value
 value-returns-in-Or-clause-value t c =
     let s = c.args.solution.now in
-    any_result s c.in-Or.first c.in-Or.more c.args.condition.now c.any_of.result c.value-in-Or.result c.values-in-Or.result c.any_of.ensures.value
+    chain_result Or either_value s (λ a b. refl) c.in-Or.first c.in-Or.more c.args.condition.now c.any_of.result c.value-in-Or.result c.values-in-Or.result c.any_of.ensures.value
     (subst (λ a. IfOk c.value-in-Or.result (λ w. w ≡ expression_value (condition_seen a) s)) c.deref-in-Or.ensures c.value-in-Or.ensures.value)
     (subst (λ ds. IfOk c.values-in-Or.result (λ vs. vs ≡ map (λ d. expression_value (condition_seen d) s) ds)) c.as_slice-in-Or.ensures c.values-in-Or.ensures.value)
-    c.in-Or.is
+    (ap condition_seen c.in-Or.is ∙ seen-Or c.in-Or.first c.in-Or.more)
 
 pub value-returns-in-Or-clause-wide : goal.value-returns-in-Or-clause-wide
 value-returns-in-Or-clause-wide t c =

@@ -1,15 +1,15 @@
 use Rattle.std.proofs.Common.{◌≢◌, arith}
-use Rattle.vkg_plain.proofs.EscapeLemmas.{meant_is, means_feed, means_return, means_tab, means_itself}
+use Rattle.vkg_plain.proofs.EscapeLemmas.{meant_is, means_itself, means_letter}
 use Rattle.vkg_plain.proofs.literal_reader.meant.Goals as goal
 
 pub returns-in-n : goal.returns-in-n
-returns-in-n c = λ d e. means_feed c.args.letter d c.in-n.is (meant_is d c.args.letter e)
+returns-in-n c = λ d e. means_letter 110 c.args.letter d c.in-n.is (meant_is d c.args.letter e)
 
 pub returns-in-r : goal.returns-in-r
-returns-in-r c = λ d e. means_return c.args.letter d c.in-r.is (meant_is d c.args.letter e)
+returns-in-r c = λ d e. means_letter 114 c.args.letter d c.in-r.is (meant_is d c.args.letter e)
 
 pub returns-in-t : goal.returns-in-t
-returns-in-t c = λ d e. means_tab c.args.letter d c.in-t.is (meant_is d c.args.letter e)
+returns-in-t c = λ d e. means_letter 116 c.args.letter d c.in-t.is (meant_is d c.args.letter e)
 
 pub returns-in_default : goal.returns-in_default
 returns-in_default c = λ d e.

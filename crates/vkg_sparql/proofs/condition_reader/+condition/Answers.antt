@@ -1,19 +1,20 @@
-use Rattle.std.proofs.Common.{◌∙◌, arith}
-use Rattle.vkg_sparql.proofs.Steps.{or_step, and_step}
+use Rattle.std.proofs.Common.{◌∙◌, refl, arith}
+use Rattle.vkg_sparql.specs.Conditions.{and_value, or_more, rel_value, and_more}
+use Rattle.vkg_sparql.proofs.Steps.{chain_step}
 use Rattle.vkg_sparql.proofs.condition_reader.+condition.Goals as goal
 
 pub read_or_more-loop-step-preserved : goal.read_or_more-loop-step-preserved
 read_or_more-loop-step-preserved t c = record {
   below = omega (arith, c.in-Pair.ensures.below);
   inside = omega arith;
-  same = or_step c.args.meanings.now c.loop-step.all c.in-Pair.ensures.made c.in-Pair-node.ensures.made c.in_ok-read_and.ensures c.in_ok-push.ensures.ok ∙ c.loop-step.invariant.same;
+  same = chain_step (and_value c.args.meanings.now) (or_more c.args.meanings.now) (λ x a m. refl) c.loop-step.all c.in-Pair.ensures.made c.in-Pair-node.ensures.made c.in_ok-read_and.ensures c.in_ok-push.ensures.ok ∙ c.loop-step.invariant.same;
 }
 
 pub read_and_more-loop-step-preserved : goal.read_and_more-loop-step-preserved
 read_and_more-loop-step-preserved t c = record {
   below = omega (arith, c.in-Pair.ensures.below);
   inside = omega arith;
-  same = and_step c.args.meanings.now c.loop-step.all c.in-Pair.ensures.made c.in-Pair-node.ensures.made c.in_ok-read_rel.ensures c.in_ok-push.ensures.ok ∙ c.loop-step.invariant.same;
+  same = chain_step (rel_value c.args.meanings.now) (and_more c.args.meanings.now) (λ x a m. refl) c.loop-step.all c.in-Pair.ensures.made c.in-Pair-node.ensures.made c.in_ok-read_rel.ensures c.in_ok-push.ensures.ok ∙ c.loop-step.invariant.same;
 }
 
 pub read_bracketed-returns : goal.read_bracketed-returns

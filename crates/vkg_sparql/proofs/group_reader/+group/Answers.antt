@@ -1,5 +1,6 @@
-use Rattle.std.proofs.Common.{◌∙◌, arith}
-use Rattle.vkg_sparql.proofs.Steps.{parts_step, groups_step}
+use Rattle.std.proofs.Common.{◌∙◌, refl, arith}
+use Rattle.vkg_sparql.specs.Groups.{group_value, groups_value}
+use Rattle.vkg_sparql.proofs.Steps.{chain_step, parts_step}
 use Rattle.vkg_sparql.proofs.group_reader.+group.Goals as goal
 
 pub push_parts-loop-step-preserved : goal.push_parts-loop-step-preserved
@@ -13,7 +14,7 @@ pub read_more_groups-loop-step-preserved : goal.read_more_groups-loop-step-prese
 read_more_groups-loop-step-preserved t c = record {
   below = omega (arith, c.in-Pair.ensures.below);
   inside = omega arith;
-  same = groups_step c.args.meanings.now c.loop-step.all c.in-Pair.ensures.made c.in-Pair-node.ensures.made c.in_ok-read_group.ensures c.in_ok-push.ensures.ok ∙ c.loop-step.invariant.same;
+  same = chain_step (group_value c.args.meanings.now) (groups_value c.args.meanings.now) (λ x a m. refl) c.loop-step.all c.in-Pair.ensures.made c.in-Pair-node.ensures.made c.in_ok-read_group.ensures c.in_ok-push.ensures.ok ∙ c.loop-step.invariant.same;
 }
 
 pub read_group-returns : goal.read_group-returns

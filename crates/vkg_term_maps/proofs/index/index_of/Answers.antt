@@ -9,4 +9,4 @@ pub loop-k-preserved : goal.loop-k-preserved
 loop-k-preserved c = λ q.
     let inside : c.loop-k.k < length c.args.triples.now = omega arith in
     numbers_more c.args.triples.now c.loop-k.k c.index-triples-k.result q (group c.loop-k.index q) _ _ inside c.index-triples-k.is
-    (c.in_ok-add.ensures q ∙ ap (λ name. group c.loop-k.index q ++ (if bytes_eq q name then c.loop-k.k ∷ [] else [])) c.text_of.ensures) (c.loop-k.invariant q)
+    (c.in_ok-add.ensures q ∙ ap (λ name. group c.loop-k.index q ++ (if bytes_eq q name then c.loop-k.k ∷ [] else [])) c.name.ensures.value) (c.loop-k.invariant q)

@@ -1,14 +1,15 @@
 use Rattle.std.proofs.Common.{◌≡◌, ◌∙◌, ◌<◌, ap, sym, subst, length, get_or}
 use Rattle.std.specs.Prelude.{Ok, slice_set}
+use Rattle.std.proofs.lemmas.Slice.Zip.{AllZip-long}
 use Rattle.vkg_tables.specs.TableFile.{table_of_bytes}
 use Rattle.vkg_tables.specs.Seen.{HoldsRows, columns_of, with_read}
-use Rattle.vkg_tables.proofs.FitLemmas.{columns-there, file-fits, same-length, set-holds}
+use Rattle.vkg_tables.proofs.FitLemmas.{columns-there, file-fits, set-holds}
 use Rattle.vkg_tables.proofs.database.Database.load_table.Goals as goal
 
 pub set-requires : goal.set-requires
 set-requires c =
     let lt : c.args.table < length c.self.inside.schema = subst (λ s. c.args.table < length s) (sym (ap (λ s. s.schema) c.self.view_is)) c.requires in
-    subst (λ n. c.args.table < n) (sym (same-length c.self.inside.schema c.self.inside.tables c.self.invariant)) lt
+    subst (λ n. c.args.table < n) (sym (AllZip-long HoldsRows c.self.inside.schema c.self.inside.tables c.self.invariant)) lt
 
 pub invariant_of-self : goal.invariant_of-self
 invariant_of-self c =
