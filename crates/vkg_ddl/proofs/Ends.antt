@@ -10,6 +10,7 @@ use Rattle.std.proofs.lemmas.List.Sums.{fold_more}
 use Rattle.std.proofs.lemmas.Option.{none-some, same_Some}
 use Rattle.std.proofs.Math.Nat.{lt_of_not-le}
 use Rattle.std.specs.Bool.{then_some}
+use Rattle.std.specs.Option.{option_and_then}
 use Rattle.vkg_lists.proofs.Results.{front_given}
 use Rattle.vkg_tokens.specs.declared.cutting.Piece.{Piece}
 use Rattle.vkg_tokens.specs.declared.cutting.Piece.TheVariants.{Gap, Word as Found, Nothing}
@@ -69,12 +70,10 @@ ends_low Semicolon b h = inl refl
 
 -- what was read with one more byte, where anything was
 abbrev ddl_stepped : Option Ddl → ℕ → Option Ddl
-ddl_stepped None b = None
-ddl_stepped (Some s) b = ddl_step s b
+ddl_stepped o b = option_and_then (λ s. ddl_step s b) o
 
 abbrev ddl_classed : Option Ddl → Option ℕ
-ddl_classed None = None
-ddl_classed (Some s) = ddl_class s
+ddl_classed o = option_and_then ddl_class o
 
 one_lifted : (o : Option Ddl) (b : ℕ) → stepped (option_map OfDdl o) b ≡ option_map OfDdl (ddl_stepped o b)
 one_lifted None b = refl

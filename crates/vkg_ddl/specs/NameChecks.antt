@@ -1,5 +1,5 @@
 -- Names that are given twice or name nothing, and the limits: for each check the least place at which it fails.
-use Rattle.std.specs.Prelude.{ℕ, Bool, false, not, nat_eq, position, ◌&&◌, List, length, take, slice_get, Option, Some, None, if◌then◌else◌, option_map}
+use Rattle.std.specs.Prelude.{ℕ, Bool, not, nat_eq, position, ◌&&◌, List, length, take, slice_get, Option, Some, None, if◌then◌else◌, option_map}
 use Rattle.std.specs.List.{list_any, range_with_len}
 use Rattle.std.specs.Str.{bytes_eq, str_eq_ignore_ascii_case}
 use Rattle.vkg_ddl.specs.declared.name.Name.{Name}
@@ -7,6 +7,7 @@ use Rattle.vkg_ddl.specs.declared.written.WrittenColumn.{WrittenColumn}
 use Rattle.vkg_ddl.specs.declared.written.WrittenKey.{WrittenKey}
 use Rattle.vkg_ddl.specs.declared.written.WrittenReference.{WrittenReference}
 use Rattle.vkg_ddl.specs.declared.written.WrittenTable.{WrittenTable}
+use Rattle.vkg_lists.specs.Options.{both_pass}
 use Rattle.vkg_lists.specs.Places.{lesser, least_of, place_if}
 
 -- two names that one schema may not have both
@@ -64,13 +65,9 @@ key_column_unknown tables = least_of unknown_in_table tables
 abbrev pub column_place : List WrittenColumn → Name → Option ℕ
 column_place columns n = position (λ c. matches n c.name) columns
 
-abbrev pub one_place : Option ℕ → Option ℕ → Bool
-one_place (Some i) (Some j) = nat_eq i j
-one_place a b = false
-
 -- two names of one column
 abbrev pub one_column : List WrittenColumn → Name → Name → Bool
-one_column columns a b = one_place (column_place columns a) (column_place columns b)
+one_column columns a b = both_pass nat_eq (column_place columns a) (column_place columns b)
 
 abbrev pub name_again : List WrittenColumn → List Name → Option Name → ℕ → Option ℕ
 name_again columns names None i = None

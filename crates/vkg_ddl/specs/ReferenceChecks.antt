@@ -1,11 +1,12 @@
 -- Foreign keys that refer to no key: for each check the least place at which it fails.
 use Rattle.std.specs.Prelude.{ℕ, Bool, not, ◌&&◌, List, length, find, slice_get, Option, Some, None, option_map, if◌then◌else◌, ◌==◌, is_none}
-use Rattle.std.specs.List.{list_any, list_all, range_with_len}
+use Rattle.std.specs.List.{list_any, range_with_len}
 use Rattle.vkg_ddl.specs.declared.name.Name.{Name}
 use Rattle.vkg_ddl.specs.declared.written.WrittenColumn.{WrittenColumn}
 use Rattle.vkg_ddl.specs.declared.written.WrittenReference.{WrittenReference}
 use Rattle.vkg_ddl.specs.declared.written.WrittenTable.{WrittenTable}
 use Rattle.vkg_lists.specs.Places.{least_of, place_if}
+use Rattle.vkg_lists.specs.Sets.{same_set}
 use Rattle.vkg_ddl.specs.NameChecks.{matches, unknown_columns, one_column, name_twice}
 use Rattle.vkg_ddl.specs.TypeChecks.{column_kind}
 use Rattle.vkg_cells.specs.Order.{family}
@@ -23,7 +24,7 @@ columns_fault t r (Some right) = place_if (not (are_columns t r.columns right)) 
 
 -- the same columns as a set
 abbrev pub same_columns : List WrittenColumn → List Name → List Name → Bool
-same_columns columns xs ys = list_all (λ x. list_any (one_column columns x) ys) xs && list_all (λ y. list_any (one_column columns y) xs) ys
+same_columns columns xs ys = same_set (one_column columns) xs ys
 
 abbrev pub are_key : WrittenTable → List Name → Bool
 are_key t names = list_any (λ k. same_columns t.columns names k.columns) t.keys
@@ -37,16 +38,17 @@ abbrev pub at_target : (WrittenTable → WrittenReference → Option (List Name)
 at_target fault None r = None
 at_target fault (Some t) r = fault t r (targets_in t r)
 
-abbrev pub target_fault : (WrittenTable → WrittenReference → Option (List Name) → Option ℕ) → List WrittenTable → Option ℕ
-target_fault fault tables = least_of (λ t. least_of (λ r. at_target fault (find (λ u. matches r.table u.name) tables) r) t.references) tables
+-- the same of all tables; the check may look at the table that has the foreign key, too
+abbrev pub target_fault : (WrittenTable → WrittenTable → WrittenReference → Option (List Name) → Option ℕ) → List WrittenTable → Option ℕ
+target_fault fault tables = least_of (λ t. least_of (λ r. at_target (fault t) (find (λ u. matches r.table u.name) tables) r) t.references) tables
 
 -- a foreign key to another number of columns, to an unknown one or to one twice: its REFERENCES
 abbrev pub columns_wrong : List WrittenTable → Option ℕ
-columns_wrong tables = target_fault columns_fault tables
+columns_wrong tables = target_fault (λ t. columns_fault) tables
 
 -- a foreign key to what is no key: its REFERENCES
 abbrev pub no_key : List WrittenTable → Option ℕ
-no_key tables = target_fault key_fault tables
+no_key tables = target_fault (λ t. key_fault) tables
 
 -- the family of the kind of a column, and 0 of none
 abbrev pub family_of : Option WrittenColumn → ℕ
@@ -64,10 +66,6 @@ abbrev pub family_fault : WrittenTable → WrittenTable → WrittenReference →
 family_fault child t r None = None
 family_fault child t r (Some right) = place_if (over_families child.columns t.columns r.columns right) r.first.at
 
-abbrev pub family_at_target : WrittenTable → Option WrittenTable → WrittenReference → Option ℕ
-family_at_target child None r = None
-family_at_target child (Some t) r = family_fault child t r (targets_in t r)
-
 -- a pair of columns of two families: its REFERENCES
 abbrev pub families_differ : List WrittenTable → Option ℕ
-families_differ tables = least_of (λ t. least_of (λ r. family_at_target t (find (λ u. matches r.table u.name) tables) r) t.references) tables
+families_differ tables = target_fault family_fault tables

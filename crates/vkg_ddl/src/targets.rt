@@ -1,10 +1,10 @@
 ghost use Rattle.std.specs.Prelude.{◌≡◌, Some, find, slice_get};
-ghost use Rattle.vkg_ddl.specs.ReferenceChecks.{are_columns, columns_fault, targets_in, at_target, columns_wrong, same_columns, are_key, key_fault, no_key, family_named, over_families, family_fault, family_at_target, families_differ};
+ghost use Rattle.vkg_ddl.specs.ReferenceChecks.{are_columns, columns_fault, targets_in, at_target, columns_wrong, same_columns, are_key, key_fault, no_key, family_named, over_families, family_fault, families_differ};
 ghost use Rattle.vkg_ddl.specs.NameChecks.{matches, one_column};
 ghost use Rattle.vkg_lists.specs.Places.{least_of};
 ghost use Rattle.std.specs.List.{list_any, list_all};
 
-use crate::matching::{column_named, one_column, primary_of, table_named, unknown_columns};
+use crate::matching::{any_one_column, column_named, primary_of, table_named, unknown_columns};
 use crate::name::Name;
 use crate::twice::name_twice;
 use crate::types::column_kind;
@@ -67,16 +67,10 @@ pub fn columns_wrong(tables: &[WrittenTable]) -> Option<usize>
     )
 }
 
-fn any_one(columns: &[WrittenColumn], n: &Name, names: &[Name]) -> bool
-    ensures { result ≡ list_any (one_column columns.now n.now) names.now }
-{
-    names.iter().any(|m| one_column(columns, n, m))
-}
-
 fn all_among(columns: &[WrittenColumn], xs: &[Name], ys: &[Name]) -> bool
     ensures { result ≡ list_all (λ x. list_any (one_column columns.now x) ys.now) xs.now }
 {
-    xs.iter().all(|x| any_one(columns, x, ys))
+    xs.iter().all(|x| any_one_column(columns, x, ys))
 }
 
 fn same_columns(columns: &[WrittenColumn], xs: &[Name], ys: &[Name]) -> bool
@@ -207,7 +201,7 @@ fn family_at_target(
     child: &WrittenTable,
     r: &WrittenReference,
 ) -> Option<usize>
-    ensures { result ≡ family_at_target child.now (find (λ u. matches r.now.table u.name) tables.now) r.now }
+    ensures { result ≡ at_target (family_fault child.now) (find (λ u. matches r.now.table u.name) tables.now) r.now }
 {
     match table_named(tables, &r.table) {
         None => None,
@@ -216,7 +210,7 @@ fn family_at_target(
 }
 
 fn families_in(tables: &[WrittenTable], child: &WrittenTable) -> Option<usize>
-    ensures { result ≡ least_of (λ r. family_at_target child.now (find (λ u. matches r.table u.name) tables.now) r) child.now.references }
+    ensures { result ≡ least_of (λ r. at_target (family_fault child.now) (find (λ u. matches r.table u.name) tables.now) r) child.now.references }
 {
     child.references.as_slice().iter().fold(
         None,

@@ -40,21 +40,14 @@ cut_off {g = g} {s = s} {taken = taken} ts n ll h p a = parsed_cut ll (subst (λ
 pub the_text : {g : List Rule} {s s' : List ℕ} {taken after : List Note} (ts : List ℕ) (n : ℕ) → length ts ≤ n → Parsed g (take n ts) s taken → Advances g s s' taken after None true → IsTheText g ts after
 the_text {g = g} {s = s} {taken = taken} ts n h p (ended more e r) = subst (λ y. IsTheText g ts y) (sym e) (parsed_text (subst (λ y. Parsed g y s taken) (take_all n ts h) p) r)
 
--- the kind of a token, among the kinds
-pub kind_at : (tokens : List Token) (n : ℕ) (e : Token) → n < length tokens → get_or (kinds_of tokens) n 0 ≡ (get_or tokens n e).kind
-kind_at tokens n e h = get_or-map (λ t. t.kind) tokens n e 0 h
-
-pub count_of : (tokens : List Token) → length (kinds_of tokens) ≡ length tokens
-count_of tokens = length-map tokens (λ t. t.kind)
-
 -- the same of a list of tokens
 pub first_dead_token : {g : List Rule} {s s' : List ℕ} {taken after : List Note} (tokens : List Token) (n : ℕ) (e : Token) → IsLL1 g → n < length tokens → Parsed g (take n (kinds_of tokens)) s taken → Advances g s s' taken after (Some (get_or tokens n e).kind) false → IsFirstDead g (kinds_of tokens) n
 first_dead_token {g = g} {s = s} {s' = s'} {taken = taken} {after = after} tokens n e ll h p a =
-    first_dead (kinds_of tokens) n ll (omega (arith, h, count_of tokens)) p (subst (λ k. Advances g s s' taken after (Some k) false) (sym (kind_at tokens n e h)) a)
+    first_dead (kinds_of tokens) n ll (omega (arith, h, length-map tokens (λ t. t.kind))) p (subst (λ k. Advances g s s' taken after (Some k) false) (sym (get_or-map (λ t. t.kind) tokens n e 0 h)) a)
 
 pub parsed_token : {g : List Rule} {s s' : List ℕ} {taken after : List Note} (tokens : List Token) (n : ℕ) (e : Token) → n < length tokens → Parsed g (take n (kinds_of tokens)) s taken → Advances g s s' taken after (Some (get_or tokens n e).kind) true → Parsed g (take (n + 1) (kinds_of tokens)) s' after
 parsed_token {g = g} {s = s} {s' = s'} {taken = taken} {after = after} tokens n e h p a =
-    parsed_more (kinds_of tokens) n (omega (arith, h, count_of tokens)) p (subst (λ k. Advances g s s' taken after (Some k) true) (sym (kind_at tokens n e h)) a)
+    parsed_more (kinds_of tokens) n (omega (arith, h, length-map tokens (λ t. t.kind))) p (subst (λ k. Advances g s s' taken after (Some k) true) (sym (get_or-map (λ t. t.kind) tokens n e 0 h)) a)
 
 pub past_all : (tokens : List Token) (n : ℕ) → (n < length tokens → ⊥) → length (kinds_of tokens) ≤ n
-past_all tokens n h = elim (cases_lt n (length tokens)) [ inl l ↦ absurd (h l) | inr g ↦ omega (arith, g, count_of tokens) ]
+past_all tokens n h = elim (cases_lt n (length tokens)) [ inl l ↦ absurd (h l) | inr g ↦ omega (arith, g, length-map tokens (λ t. t.kind)) ]

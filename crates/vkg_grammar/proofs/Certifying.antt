@@ -1,18 +1,19 @@
 -- A grammar whose claims pass the test keeps ways apart.
 use Rattle.std.proofs.Common.{◌≡◌, ℕ, zero, suc, ◌+◌, ◌<◌, Bool, true, false, not, ◌⊎◌, inl, inr, List, [], ◌∷◌, ◌++◌, length, get_or, Option, Some, None, refl, sym, subst, arith, nat_eq, nat_lt, true≢false}
 use Rattle.std.proofs.lemmas.Bool.{eqb-true, eq-eqb, ltb-true, both_ways, not-true}
-use Rattle.vkg_lists.proofs.Members.{recursion_append, recursion_right}
+use Rattle.vkg_lists.proofs.Members.{each_from_recursion, recursion_append, recursion_at, recursion_right}
+use Rattle.vkg_lists.proofs.Each.{recursion_weaken}
 use Rattle.vkg_lists.specs.Lists.{AllBelow}
 use Rattle.vkg_grammar.specs.declared.note.Note.{Note}
 use Rattle.vkg_grammar.specs.declared.note.Act.TheVariants.{Leaf}
 use Rattle.vkg_grammar.specs.Tables.{HasText}
-use Rattle.vkg_grammar.proofs.Core.{join, moved}
-use Rattle.std.proofs.lemmas.List.{append-nil}
+use Rattle.vkg_grammar.proofs.Core.{text_each, text_of_way}
+use Rattle.std.specs.List.{AllByRecursion}
 use Rattle.vkg_grammar.specs.declared.rule.Rule.{Rule}
 use Rattle.vkg_grammar.specs.declared.rule.Rule.TheVariants.{Token, Empty, Then, Either, Optional, Repeated}
-use Rattle.vkg_grammar.specs.Grammar.{noted, at_parts, at_first, at_second, Shape, One, Parts, Choice, shape, shape_of, Derives, done, read, parts, first, second, MayBeEmpty, MayFollow, within, at_end, IsWay, the_parts, the_first, the_second, Starts, IsGrammar, IsProductive, IsLL1}
+use Rattle.vkg_grammar.specs.Grammar.{noted, Shape, One, Parts, Choice, shape, shape_of, Derives, done, read, parts, first, second, MayBeEmpty, MayFollow, within, at_end, IsWay, the_parts, the_first, the_second, Starts, IsGrammar, IsProductive, IsLL1}
 use Rattle.vkg_grammar.specs.Machine.{Sees, at_token, at_end_of}
-use Rattle.vkg_grammar.specs.Certified.{Claim, none_claimed, holds, within_all, apart_all, both, if_so, claim_at, empty_way, begin_more, begin_way, follow_way, way_claimed, starts_way, shape_claimed, lower_way, either, shape_lower, all_below, shape_below, all_pass, rule_fits, all_fit}
+use Rattle.vkg_grammar.specs.Certified.{Claim, none_claimed, holds, within_all, apart_all, both, if_so, claim_at, each, empty_way, begin_more, begin_way, follow_way, way_claimed, starts_way, shape_claimed, lower_way, either, shape_lower, all_below, shape_below, all_pass, rule_fits, all_fit}
 use Rattle.vkg_grammar.specs.Form.{HasKinds}
 use Rattle.vkg_grammar.specs.Laws.{CertificatesHold}
 use Rattle.vkg_grammar.proofs.Following.{way_inside}
@@ -28,6 +29,10 @@ both_second false b e = absurd (cc)
 both_true : (a b : Bool) → a ≡ true → b ≡ true → both a b ≡ true
 both_true true b e q = q
 both_true false b e q = absurd (cc)
+
+each_passes : {A : Type 0} (test : A → Bool) (xs : List A) → each test xs ≡ true → AllByRecursion (λ x. test x ≡ true) xs
+each_passes test [] e = tt
+each_passes test (x ∷ xs) e = (both_first (test x) (each test xs) e, each_passes test xs (both_second (test x) (each test xs) e))
 
 so_then : (a b : Bool) → if_so a b ≡ true → a ≡ true → b ≡ true
 so_then true b e q = e
@@ -184,18 +189,14 @@ either_true false b e = inr e
 
 module _ (g : List Rule) (wf : IsGrammar g) (cs : List Claim) (lower : (n : ℕ) → n < length g → shape_lower cs (claim_at cs n).level (shape_of g n) ≡ true) where
   way_text : (b : ℕ) (xs : List ℕ) → AllBelow (length g) xs → ((x : ℕ) → x < length g → (claim_at cs x).level < b → HasText g x) → lower_way cs b xs ≡ true → (ts : List ℕ) × (ws : List Note) × Derives g xs ts ws
-  way_text b [] bl so e = ([], [], done)
-  way_text b (x ∷ xs) bl so e =
-      let one : HasText g x = so x bl.0 (ltb-true (claim_at cs x).level b (both_first (nat_lt (claim_at cs x).level b) (lower_way cs b xs) e)) in
-      let more : (ts : List ℕ) × (ws : List Note) × Derives g xs ts ws = way_text b xs bl.1 so (both_second (nat_lt (claim_at cs x).level b) (lower_way cs b xs) e) in
-      (one.0 ++ more.0, one.1 ++ more.1, join one.2 more.2)
+  way_text b xs bl so e = text_each xs (λ x c. so x (each_from_recursion (λ k. k < length g) xs bl x c) (ltb-true (claim_at cs x).level b (each_from_recursion (λ y. nat_lt (claim_at cs y).level b ≡ true) xs (each_passes (λ y. nat_lt (claim_at cs y).level b) xs e) x c)))
 
   shape_text : (n : ℕ) (sh : Shape) → n < length g → shape_of g n ≡ sh → ((x : ℕ) → x < length g → (claim_at cs x).level < (claim_at cs n).level → HasText g x) → shape_lower cs (claim_at cs n).level sh ≡ true → HasText g n
   shape_text n (One k) h e so l = (k ∷ [], noted n Leaf ∷ [], read e done)
-  shape_text n (Parts xs) h e so l = let d : (ts : List ℕ) × (ws : List Note) × Derives g xs ts ws = way_text (claim_at cs n).level xs (wf.closed n xs h (the_parts e)) so l in (d.0, noted n (at_parts xs) ∷ d.1, parts e (moved (sym (append-nil xs)) d.2))
+  shape_text n (Parts xs) h e so l = text_of_way (the_parts e) (way_text (claim_at cs n).level xs (wf.closed n xs h (the_parts e)) so l)
   shape_text n (Choice xs ys) h e so l = elim (either_true (lower_way cs (claim_at cs n).level xs) (lower_way cs (claim_at cs n).level ys) l) [
-    | inl p ↦ (let d : (ts : List ℕ) × (ws : List Note) × Derives g xs ts ws = way_text (claim_at cs n).level xs (wf.closed n xs h (the_first e)) so p in (d.0, noted n (at_first xs) ∷ d.1, first e (moved (sym (append-nil xs)) d.2)))
-    | inr p ↦ (let d : (ts : List ℕ) × (ws : List Note) × Derives g ys ts ws = way_text (claim_at cs n).level ys (wf.closed n ys h (the_second e)) so p in (d.0, noted n (at_second ys) ∷ d.1, second e (moved (sym (append-nil ys)) d.2)))
+    | inl p ↦ text_of_way (the_first e) (way_text (claim_at cs n).level xs (wf.closed n xs h (the_first e)) so p)
+    | inr p ↦ text_of_way (the_second e) (way_text (claim_at cs n).level ys (wf.closed n ys h (the_second e)) so p)
   ]
 
   text_by : (b n : ℕ) → n < length g → (claim_at cs n).level < b → HasText g n
@@ -206,8 +207,7 @@ module _ (g : List Rule) (wf : IsGrammar g) (cs : List Claim) (lower : (n : ℕ)
   certified_productive n h = text_by (suc (claim_at cs n).level) n h (omega arith)
 
 below_of : (m : ℕ) (xs : List ℕ) → all_below m xs ≡ true → AllBelow m xs
-below_of m [] e = tt
-below_of m (x ∷ xs) e = (ltb-true x m (both_first (nat_lt x m) (all_below m xs) e), below_of m xs (both_second (nat_lt x m) (all_below m xs) e))
+below_of m xs e = recursion_weaken (λ x. nat_lt x m ≡ true) (λ x. x < m) xs (λ x. ltb-true x m) (each_passes (λ x. nat_lt x m) xs e)
 
 pub is_grammar : (g : List Rule) (cs : List Claim) → 0 < length g → all_pass (λ c. shape_below (length g)) 0 g cs ≡ true → IsGrammar g
 is_grammar g cs pos e = record { start = pos; closed = λ n xs h w. by_way n xs h w }
@@ -232,13 +232,8 @@ kind_fits kinds n k (Either a b) e f = absurd (cc)
 kind_fits kinds n k (Optional a) e f = absurd (cc)
 kind_fits kinds n k (Repeated a) e f = absurd (cc)
 
-fits_at : (kinds n k i : ℕ) (g : List Rule) → i < length g → shape n (get_or g i (Token 0)) ≡ One k → all_fit kinds g ≡ true → k < kinds
-fits_at kinds n k i [] h e f = absurd (omega arith)
-fits_at kinds n k zero (r ∷ g) h e f = kind_fits kinds n k r e (both_first (rule_fits kinds r) (all_fit kinds g) f)
-fits_at kinds n k (suc i) (r ∷ g) h e f = fits_at kinds n k i g (omega arith) e (both_second (rule_fits kinds r) (all_fit kinds g) f)
-
 pub has_kinds : (kinds : ℕ) (g : List Rule) → all_fit kinds g ≡ true → HasKinds g kinds
-has_kinds kinds g f = λ n k h e. fits_at kinds n k n g h e f
+has_kinds kinds g f = λ n k h e. kind_fits kinds n k (get_or g n (Token 0)) e (recursion_at (λ r. rule_fits kinds r ≡ true) g n (Token 0) (each_passes (rule_fits kinds) g f) h)
 
 pub certificates_hold : CertificatesHold
 certificates_hold g kinds cs c = (is_grammar g cs c.some c.closed, has_kinds kinds g c.fits, passes_ll1 g cs c.some c.closed c.claimed c.lower)

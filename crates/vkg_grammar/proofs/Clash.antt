@@ -6,6 +6,7 @@ use Rattle.vkg_grammar.specs.declared.note.Note.{Note}
 use Rattle.vkg_grammar.specs.declared.rule.Rule.{Rule}
 use Rattle.vkg_grammar.specs.Grammar.{Derives, done, parts, first, second, MayBeEmpty, MayBegin, IsWay, the_parts, the_first, the_second, MayFollow, within, at_end, IsLL1, IsGrammar}
 use Rattle.vkg_grammar.proofs.Core.{starts_seen, empty_parts}
+use Rattle.vkg_grammar.proofs.Outer.{none_begins}
 use Rattle.vkg_grammar.proofs.Stepping.{of_parts, OfChoice, by_first, by_second, of_choice, OfParts, by_parts}
 
 -- What begins what stands behind a symbol may follow it, and k may follow it where nothing else need stand there.
@@ -45,7 +46,4 @@ clash {g = g} {k = k} {ts = ts} w ll f b (second {n = n} {xs = xs} {ys = ys} {s 
     by_way again (by_first d') = let both : MayBeEmpty g ys × MayBeEmpty g s = empty_parts ys s d in ll.one_begins n xs ys k b.0 q (starts_seen xs f.0 d') (inr (both.0, f.1 both.1))
 
 pub one_or_follows : {g : List Rule} {k n : ℕ} → IsGrammar g → IsLL1 g → n < length g → MayBeEmpty g (n ∷ []) → MayFollow g n k → MayBegin g (n ∷ []) k → ⊥
-one_or_follows {g = g} {k = k} {n = n} w ll h e f b = clash w ll ((λ j m. absurd (nothing m.2)), λ m. f, tt) (h, tt) e.1 b.2
-  where
-    nothing : {j : ℕ} {ts : List ℕ} {ws : List Note} → Derives g [] (j ∷ ts) ws → ⊥
-    nothing d = elim d [ ]
+one_or_follows {g = g} {k = k} {n = n} w ll h e f b = clash w ll ((λ j m. none_begins m), λ m. f, tt) (h, tt) e.1 b.2

@@ -1,11 +1,14 @@
 -- Lemmas on derivations that know nothing of the code.
-use Rattle.std.proofs.Common.{◌≡◌, ℕ, ◌<◌, inl, inr, List, [], ◌∷◌, ◌++◌, length, Option, Some, None, refl, ap, sym, ◌∙◌, subst, append_assoc}
+use Rattle.std.proofs.Common.{◌≡◌, ℕ, ◌<◌, inl, inr, List, [], ◌∷◌, ◌++◌, length, Option, Some, None, refl, ap, sym, ◌∙◌, subst, append_assoc, append-nil}
+use Rattle.std.specs.List.{Contains}
 use Rattle.vkg_lists.proofs.Heads.{head_same, tail_same}
+use Rattle.vkg_lists.proofs.Members.{Contains-here, Contains-there}
 use Rattle.vkg_grammar.specs.declared.note.Act.TheVariants.{Leaf}
 use Rattle.vkg_grammar.specs.declared.note.Note.{Note}
 use Rattle.vkg_grammar.specs.declared.rule.Rule.{Rule}
 use Rattle.vkg_grammar.specs.Machine.{Sees, at_end_of, at_token, Ahead}
-use Rattle.vkg_grammar.specs.Grammar.{noted, at_parts, at_first, at_second, Choice, shape_of, Derives, done, read, parts, first, second, MayBeEmpty, MayBegin, MayFollow, Starts, IsLL1}
+use Rattle.vkg_grammar.specs.Grammar.{noted, at_parts, at_first, at_second, Choice, shape_of, Derives, done, read, parts, first, second, MayBeEmpty, MayBegin, IsWay, the_parts, the_first, the_second, MayFollow, Starts, IsLL1}
+use Rattle.vkg_grammar.specs.Tables.{HasText}
 
 pub record Split (g : List Rule) (xs s ts : List ℕ) (ws : List Note) : Type 0 where
   pub front : List ℕ
@@ -93,3 +96,17 @@ forced {ys = ys} a f h (at_token {k = k}) d = a.begins k (inl (ahead_begin h)) (
 -- Where xs may be empty and no way begins with the next token, the other way does not lead to a text that begins with it.
 pub forced_empty : {g : List Rule} {n : ℕ} {xs ys s : List ℕ} {k : ℕ} {ts : List ℕ} {ws : List Note} → Apart g n xs ys → ((k : ℕ) → MayBegin g s k → MayFollow g n k) → MayBeEmpty g xs → (MayBegin g ys k → ⊥) → Derives g (ys ++ s) (k ∷ ts) ws → ⊥
 forced_empty {ys = ys} a f e never d = elim (starts_seen ys f d) [ inl b ↦ never b | inr p ↦ a.empty e p.0 ]
+
+-- symbols that derive some list each derive one together
+pub text_each : {g : List Rule} (xs : List ℕ) → ((x : ℕ) → Contains xs x → HasText g x) → (ts : List ℕ) × (ws : List Note) × Derives g xs ts ws
+text_each [] h = ([], [], done)
+text_each {g = g} (x ∷ xs) h =
+    let one : HasText g x = h x (Contains-here x xs) in
+    let more : (ts : List ℕ) × (ws : List Note) × Derives g xs ts ws = text_each xs (λ y c. h y (Contains-there x xs y c)) in
+    (one.0 ++ more.0, one.1 ++ more.1, join one.2 more.2)
+
+-- a symbol derives what a way of it derives
+pub text_of_way : {g : List Rule} {n : ℕ} {xs : List ℕ} → IsWay g n xs → (ts : List ℕ) × (ws : List Note) × Derives g xs ts ws → HasText g n
+text_of_way {n = n} {xs = xs} (the_parts e) d = (d.0, noted n (at_parts xs) ∷ d.1, parts e (moved (sym (append-nil xs)) d.2))
+text_of_way {n = n} {xs = xs} (the_first e) d = (d.0, noted n (at_first xs) ∷ d.1, first e (moved (sym (append-nil xs)) d.2))
+text_of_way {n = n} {xs = xs} (the_second e) d = (d.0, noted n (at_second xs) ∷ d.1, second e (moved (sym (append-nil xs)) d.2))

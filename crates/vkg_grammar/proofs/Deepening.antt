@@ -2,12 +2,11 @@
 use Rattle.std.proofs.Common.{◌≡◌, ℕ, ◌+◌, ◌-◌, ◌<◌, ◌≤◌, Bool, true, false, inl, inr, List, [], ◌∷◌, take, length, get_or, ap, sym, ◌∙◌, subst, arith, if◌then◌else◌, nat_eq}
 use Rattle.std.specs.List.{list_any}
 use Rattle.std.proofs.lemmas.Bool.{cases_lt}
-use Rattle.std.proofs.lemmas.List.{take_more}
+use Rattle.std.proofs.lemmas.List.{get_or-map, length-map, take_more}
 use Rattle.std.proofs.lemmas.List.Sums.{fold-append}
 use Rattle.vkg_tokens.specs.declared.cutting.Token.{Token}
 use Rattle.vkg_grammar.specs.Form.{Form, deepened, depth, allows, IsTooDeep}
 use Rattle.vkg_grammar.specs.Kinds.{kinds_of}
-use Rattle.vkg_grammar.proofs.Answering.{count_of, kind_at}
 
 -- What is known of the first n tokens, behind which d brackets are open.
 pub record AllowedUpTo (g : Form) (ks : List ℕ) (n d : ℕ) : Type 0 where
@@ -27,8 +26,8 @@ one_deeper g d k = by_test (list_any (λ o. nat_eq o k) g.openers) (list_any (λ
 depth_more : (g : Form) (ts : List Token) (n : ℕ) (e : Token) → n < length ts → depth g (take (n + 1) (kinds_of ts)) ≡ deepened g (depth g (take n (kinds_of ts))) (get_or ts n e).kind
 depth_more g ts n e h =
     let ks : List ℕ = kinds_of ts in
-    let inside : n < length ks = omega (arith, h, count_of ts) in
-    ap (depth g) (take_more ks n 0 inside) ∙ fold-append (deepened g) 0 (take n ks) (get_or ks n 0 ∷ []) ∙ ap (deepened g (depth g (take n ks))) (kind_at ts n e h)
+    let inside : n < length ks = omega (arith, h, length-map ts (λ t. t.kind)) in
+    ap (depth g) (take_more ks n 0 inside) ∙ fold-append (deepened g) 0 (take n ks) (get_or ks n 0 ∷ []) ∙ ap (deepened g (depth g (take n ks))) (get_or-map (λ t. t.kind) ts n e 0 h)
 
 -- how deep the brackets are behind one more token
 deeper : {g : Form} (ts : List Token) {n d d' : ℕ} (e : Token) → AllowedUpTo g (kinds_of ts) n d → n < length ts → d' ≡ deepened g d (get_or ts n e).kind → d' ≡ depth g (take (n + 1) (kinds_of ts))
@@ -43,7 +42,7 @@ one_more {g = g} ts {n = n} {d = d} {d' = d'} e a h q allowed = record {
 
 pub too_deep : {g : Form} (ts : List Token) {n d d' : ℕ} (e : Token) → AllowedUpTo g (kinds_of ts) n d → n < length ts → d' ≡ deepened g d (get_or ts n e).kind → allows g.limit d' ≡ false → IsTooDeep g (kinds_of ts) n
 too_deep {g = g} ts {n = n} e a h q refused = record {
-  inside = omega (arith, h, count_of ts);
+  inside = omega (arith, h, length-map ts (λ t. t.kind));
   deep = subst (λ x. allows g.limit x ≡ false) (deeper ts e a h q) refused;
   before = a.before;
 }

@@ -1,7 +1,7 @@
 -- What the table says, and why the parser ends.
-use Rattle.std.proofs.Common.{◌≡◌, ℕ, zero, suc, ◌+◌, ◌*◌, ◌<◌, ◌≤◌, ◌⊎◌, inl, inr, List, [], ◌∷◌, ◌++◌, length, get_or, Option, Some, None, refl, ap, sym, subst, append-nil, arith}
+use Rattle.std.proofs.Common.{◌≡◌, ℕ, zero, suc, ◌+◌, ◌*◌, ◌^◌, ◌<◌, ◌≤◌, ◌⊎◌, inl, inr, List, [], ◌∷◌, ◌++◌, length, get_or, Option, Some, None, refl, ap, sym, subst, append-nil, arith}
 use Rattle.std.proofs.Math.Logic.{⊎_swap}
-use Rattle.std.proofs.Math.Nat.{eq-zero-or-pos}
+use Rattle.std.proofs.Math.Nat.{eq-zero-or-pos, one-le-pow, pow-le-pow_right, pow-succ'}
 use Rattle.std.specs.Prelude.{IfSome}
 use Rattle.std.specs.List.{AllByRecursion}
 use Rattle.vkg_lists.proofs.Members.{recursion_append, recursion_from_each}
@@ -12,21 +12,18 @@ use Rattle.vkg_grammar.specs.declared.rule.Rule.{Rule}
 use Rattle.vkg_grammar.specs.declared.rule.Rule.TheVariants.{Token, Empty, Then, Either, Optional, Repeated}
 use Rattle.vkg_grammar.specs.Machine.{Sees, at_end_of, at_token, Ahead, Picked, begins, empties}
 use Rattle.vkg_grammar.specs.Grammar.{noted, Shape, One, Parts, Choice, shape, shape_of, Derives, done, read, parts, first, second, MayBeEmpty, MayBegin, IsWay, the_parts, the_first, the_second, within, IsLL1, IsProductive, IsGrammar}
-use Rattle.vkg_grammar.specs.Rank.{Begins, ShapeBegins, Falls, falls_end, falls_here, falls_later, ShapeFalls, IsTable, tri, at_rank, height}
+use Rattle.vkg_grammar.specs.Rank.{Begins, ShapeBegins, Falls, falls_end, falls_here, falls_later, ShapeFalls, IsTable, at_rank, height}
 use Rattle.vkg_grammar.proofs.Core.{spelled, join, ahead_empty, ahead_begin, Apart, apart, apart_other}
 use Rattle.vkg_grammar.proofs.Outer.{completed}
 use Rattle.vkg_grammar.proofs.Clash.{one_or_follows}
 
-tri_pos : (n : ℕ) → 0 < tri n
-tri_pos zero = omega arith
-tri_pos (suc n) = omega (arith, tri_pos n)
+tri_pos : (n : ℕ) → 0 < 3 ^ n
+tri_pos n = one-le-pow n 3 (omega arith)
 
-tri_less : (a b : ℕ) → a < b → 3 * tri a ≤ tri b
-tri_less a zero h = absurd (omega arith)
-tri_less zero (suc b) h = omega (arith, tri_pos b)
-tri_less (suc a) (suc b) h = omega (arith, tri_less a b (omega arith))
+tri_less : (a b : ℕ) → a < b → 3 * 3 ^ a ≤ 3 ^ b
+tri_less a b h = subst (λ m. m ≤ 3 ^ b) (pow-succ' 3 a) (pow-le-pow_right {n = 3} (omega arith) {i = suc a} {j = b} h)
 
-at_pos : (r other : ℕ) → 0 < r → at_rank r other ≡ tri r
+at_pos : (r other : ℕ) → 0 < r → at_rank r other ≡ 3 ^ r
 at_pos zero other h = absurd (omega arith)
 at_pos (suc r) other h = refl
 
@@ -139,9 +136,9 @@ module _ (g : List Rule) (rank : ℕ → Option ℕ → ℕ) where
   abbrev Quiet : Option ℕ → List ℕ → Type 0
   Quiet c xs = AllByRecursion (QuietAt c) xs
 
-  skip : (c : Option ℕ) (x : ℕ) (s : List ℕ) → QuietAt c x → height rank c (x ∷ s) ≡ tri (rank x None) + height rank c s
+  skip : (c : Option ℕ) (x : ℕ) (s : List ℕ) → QuietAt c x → height rank c (x ∷ s) ≡ 3 ^ rank x None + height rank c s
   skip None x s q = refl
-  skip (Some k) x s q = ap (λ r. at_rank r (tri (rank x None) + height rank (Some k) s)) q
+  skip (Some k) x s q = ap (λ r. at_rank r (3 ^ rank x None + height rank (Some k) s)) q
 
   later_of : {r x : ℕ} {xs : List ℕ} → Falls rank r None (x ∷ xs) → (0 < rank x None) × (rank x None < r) × Falls rank r None xs
   later_of (falls_later p q f) = (p, q, f)
@@ -153,7 +150,7 @@ module _ (g : List Rule) (rank : ℕ → Option ℕ → ℕ) where
   none_here : {r k : ℕ} → Falls rank r (Some k) [] → ⊥
   none_here f = elim f [ ]
 
-  none_drop : (r : ℕ) (c : Option ℕ) (s xs : List ℕ) → Short xs → Falls rank r None xs → Quiet c xs → height rank c (xs ++ s) < tri r + height rank c s
+  none_drop : (r : ℕ) (c : Option ℕ) (s xs : List ℕ) → Short xs → Falls rank r None xs → Quiet c xs → height rank c (xs ++ s) < 3 ^ r + height rank c s
   none_drop r c s [] sh f q = omega (arith, tri_pos r)
   none_drop r c s (x ∷ []) sh f q =
       let p : (0 < rank x None) × (rank x None < r) × Falls rank r None [] = later_of f in
@@ -164,16 +161,16 @@ module _ (g : List Rule) (rank : ℕ → Option ℕ → ℕ) where
       rw (skip c x (y ∷ s) q.0, skip c y s q.1.0) (omega (arith, tri_less (rank x None) r p.1, tri_less (rank y None) r p'.1, tri_pos r, tri_pos (rank x None)))
   none_drop r c s (x ∷ y ∷ z ∷ xs) sh f q = elim sh [ ]
 
-  some_drop : (r k : ℕ) (s xs : List ℕ) → Short xs → Falls rank r (Some k) xs → ((x y : ℕ) → xs ≡ x ∷ y ∷ [] → 0 < rank x None → 0 < rank y (Some k) → rank x (Some k) ≡ 0) → height rank (Some k) (xs ++ s) < tri r
+  some_drop : (r k : ℕ) (s xs : List ℕ) → Short xs → Falls rank r (Some k) xs → ((x y : ℕ) → xs ≡ x ∷ y ∷ [] → 0 < rank x None → 0 < rank y (Some k) → rank x (Some k) ≡ 0) → height rank (Some k) (xs ++ s) < 3 ^ r
   some_drop r k s [] sh f never = absurd (none_here f)
   some_drop r k s (x ∷ []) sh f never = elim (here_or_later f) [
-    | inl p ↦ rw (at_pos (rank x (Some k)) (tri (rank x None) + height rank (Some k) s) p.0) (omega (arith, tri_less (rank x (Some k)) r p.1, tri_pos (rank x (Some k))))
+    | inl p ↦ rw (at_pos (rank x (Some k)) (3 ^ rank x None + height rank (Some k) s) p.0) (omega (arith, tri_less (rank x (Some k)) r p.1, tri_pos (rank x (Some k))))
     | inr p ↦ absurd (none_here p.2)
   ]
   some_drop r k s (x ∷ y ∷ []) sh f never = elim (here_or_later f) [
-    | inl p ↦ rw (at_pos (rank x (Some k)) (tri (rank x None) + height rank (Some k) (y ∷ s)) p.0) (omega (arith, tri_less (rank x (Some k)) r p.1, tri_pos (rank x (Some k))))
+    | inl p ↦ rw (at_pos (rank x (Some k)) (3 ^ rank x None + height rank (Some k) (y ∷ s)) p.0) (omega (arith, tri_less (rank x (Some k)) r p.1, tri_pos (rank x (Some k))))
     | inr p ↦ elim (here_or_later p.2) [
-      | inl p' ↦ rw (skip (Some k) x (y ∷ s) (never x y refl p.0 p'.0), at_pos (rank y (Some k)) (tri (rank y None) + height rank (Some k) s) p'.0) (omega (arith, tri_less (rank x None) r p.1, tri_less (rank y (Some k)) r p'.1, tri_pos (rank x None)))
+      | inl p' ↦ rw (skip (Some k) x (y ∷ s) (never x y refl p.0 p'.0), at_pos (rank y (Some k)) (3 ^ rank y None + height rank (Some k) s) p'.0) (omega (arith, tri_less (rank x None) r p.1, tri_less (rank y (Some k)) r p'.1, tri_pos (rank x None)))
       | inr p' ↦ absurd (none_here p'.2)
     ]
   ]
@@ -208,7 +205,7 @@ module _ (g : List Rule) (rank : ℕ → Option ℕ → ℕ) where
     where
       by_column : (c : Option ℕ) → Falls rank (rank n c) c xs → 0 < rank n c → height rank c (xs ++ s) < height rank c (n ∷ s)
       by_column None f pos = none_drop (rank n None) None s xs (short_way way) f (recursion_from_each (QuietAt None) xs (λ x m. tt))
-      by_column (Some k) f pos = rw (at_pos (rank n (Some k)) (tri (rank n None) + height rank (Some k) s) pos) (some_drop (rank n (Some k)) k s xs (short_way way) f (no_clash xs w ll t h way))
+      by_column (Some k) f pos = rw (at_pos (rank n (Some k)) (3 ^ rank n None + height rank (Some k) s) pos) (some_drop (rank n (Some k)) k s xs (short_way way) f (no_clash xs w ll t h way))
   nearer_drop {n = n} {xs = xs} s w ll t h way (by_nothing {k = k} z f never) =
       rw (skip (Some k) n s z) (none_drop (rank n None) (Some k) s xs (short_way way) f (quiet_of k xs f never))
 

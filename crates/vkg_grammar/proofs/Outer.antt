@@ -1,14 +1,15 @@
 -- From token to token.
-use Rattle.std.proofs.Common.{◌≡◌, ℕ, List, [], ◌∷◌, ◌++◌, length, Some, None, refl, ap, sym, ◌∙◌, subst, append_assoc, append-nil}
+use Rattle.std.proofs.Common.{◌≡◌, ℕ, ◌<◌, List, [], ◌∷◌, ◌++◌, length, Some, None, refl, ap, sym, ◌∙◌, subst, append_assoc, append-nil}
 use Rattle.vkg_lists.specs.Lists.{AllBelow}
+use Rattle.vkg_lists.proofs.Members.{each_from_recursion}
 use Rattle.vkg_grammar.specs.declared.note.Note.{Note}
 use Rattle.vkg_grammar.specs.declared.rule.Rule.{Rule}
 use Rattle.vkg_grammar.specs.Machine.{at_end_of, at_token, Reach, Takes, IsDead, Parsed}
 use Rattle.vkg_grammar.specs.Grammar.{Derives, done, MayBegin, MayFollow, IsLL1, IsProductive, IsAlive, IsGrammar}
 use Rattle.vkg_grammar.specs.Parsing.{IsCutOff, IsTheText}
-use Rattle.vkg_grammar.proofs.Core.{spelled, join}
+use Rattle.vkg_grammar.proofs.Core.{spelled, text_each}
 
-none_begins : {g : List Rule} {n k : ℕ} → MayBegin g [] k → MayFollow g n k
+pub none_begins : {g : List Rule} {n k : ℕ} → MayBegin g [] k → MayFollow g n k
 none_begins {g = g} b = absurd (of_none b.2) where
   of_none : {k : ℕ} {ts : List ℕ} {ws : List Note} → Derives g [] (k ∷ ts) ws → ⊥
   of_none d = elim d [ ]
@@ -28,11 +29,7 @@ parsed_take {g = g} {red = red} {old = old} {s = s} {taken = taken} {more = more
 }
 
 pub completed : {g : List Rule} → IsProductive g → (s : List ℕ) → AllBelow (length g) s → (ts : List ℕ) × (ws : List Note) × Derives g s ts ws
-completed ll [] b = ([], [], done)
-completed {g = g} ll (n ∷ s) b =
-    let one : (ts : List ℕ) × (ws : List Note) × Derives g (n ∷ []) ts ws = ll n b.0 in
-    let more : (ts : List ℕ) × (ws : List Note) × Derives g s ts ws = completed ll s b.1 in
-    (one.0 ++ more.0, one.1 ++ more.1, join one.2 more.2)
+completed {g = g} ll s b = text_each s (λ n c. ll n (each_from_recursion (λ k. k < length g) s b n c))
 
 pub parsed_alive : {g : List Rule} {red s : List ℕ} {taken : List Note} → IsLL1 g → Parsed g red s taken → IsAlive g red
 parsed_alive {g = g} {s = s} {taken = taken} ll p =

@@ -1,6 +1,6 @@
 -- The goals of `parse_tree`, over plain variables.
 use Rattle.std.proofs.Common.{◌≡◌, ℕ, ◌<◌, List, [], ◌∷◌, length, reverse, map, get_or, ap, sym, ◌∙◌, subst, arith}
-use Rattle.std.proofs.lemmas.List.{length-reverse}
+use Rattle.std.proofs.lemmas.List.{length-map, length-reverse}
 use Rattle.vkg_tokens.specs.declared.cutting.Token.{Token}
 use Rattle.vkg_grammar.specs.declared.forest.Node.{Node}
 use Rattle.vkg_grammar.specs.declared.note.Note.{Note}
@@ -10,7 +10,6 @@ use Rattle.vkg_grammar.specs.Kinds.{kinds_of}
 use Rattle.vkg_grammar.specs.OneTree.{IsTheTree}
 use Rattle.vkg_grammar.specs.Parsing.{IsTheText}
 use Rattle.vkg_grammar.specs.Trees.{Tree, tree_at}
-use Rattle.vkg_grammar.proofs.Answering.{count_of}
 use Rattle.vkg_grammar.proofs.Same.{the_tree}
 
 -- one tree on the stack is its first
@@ -23,6 +22,6 @@ root_of ns (x ∷ y ∷ s) t e b = absurd (let two : length (reverse (map (tree_
 pub root_of_text : {g : List Rule} (tokens : List Token) {ws ws' : List Note} (ns : List Node) (s : List ℕ) → IsTheText g (kinds_of tokens) ws → ws' ≡ ws → tops_of ns s ≡ (decoded (length tokens) (acts_of ws')).trees → AreNodesOf (length ns) s → (0 < length s) × ((d : ℕ) → d ≡ get_or s 0 d → IsTheTree g (kinds_of tokens) (tree_at ns d) × (d < length ns))
 root_of_text {g = g} tokens {ws = ws} {ws' = ws'} ns s w same tops below =
     let t = the_tree w in
-    let count = ap (λ m. (decoded m (acts_of ws)).trees) (sym (count_of tokens)) in
+    let count = ap (λ m. (decoded m (acts_of ws)).trees) (sym (length-map tokens (λ t. t.kind))) in
     let r = root_of ns s t.0 (tops ∙ ap (λ a. (decoded (length tokens) (acts_of a)).trees) same ∙ count ∙ t.2) below in
     (r.0, λ d h. (subst (λ u. IsTheTree g (kinds_of tokens) u) (sym (r.1 d h).0) t.1, (r.1 d h).1))

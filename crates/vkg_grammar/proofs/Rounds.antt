@@ -1,10 +1,12 @@
 -- What the rounds keep.
-use Rattle.std.proofs.Common.{◌↔◌, IsTrue, ◌≡◌, ℕ, zero, suc, ◌+◌, ◌*◌, ◌/◌, ◌%◌, ◌<◌, ◌≤◌, Bool, true, false, ◌⊎◌, inl, inr, List, [], ◌∷◌, ◌++◌, length, get_or, take, Option, Some, None, refl, ap, sym, ◌∙◌, subst, arith, add-one, below_more, lt-ltb, le-ltb, replicate}
-use Rattle.std.proofs.lemmas.Bool.{cases_lt, both_ways}
+use Rattle.std.proofs.Common.{◌↔◌, IsTrue, ◌≡◌, ℕ, zero, suc, ◌+◌, ◌*◌, ◌/◌, ◌%◌, ◌<◌, ◌≤◌, Bool, true, false, cond, ◌⊎◌, inl, inr, List, [], ◌∷◌, ◌++◌, length, get_or, take, Option, Some, None, refl, ap, sym, ◌∙◌, subst, arith, add-one, below_more, lt-ltb, le-ltb, replicate, nat_eq}
+use Rattle.std.proofs.lemmas.Bool.{cases_lt, both_ways, ne_eqb}
 use Rattle.std.proofs.lemmas.List.{length-replicate, get_or_push}
 use Rattle.std.proofs.lemmas.List.{get_or_append_left, length_push, take_more, take_all}
+use Rattle.std.proofs.lemmas.List.Sums.{count_by-le-length}
 use Rattle.std.proofs.lemmas.Nat.{mul-add-lt, div-mul-add, mod-mul-add}
 use Rattle.vkg_lists.specs.Lists.{AllBelow}
+use Rattle.vkg_lists.proofs.Counts.{count_by-append, count_by-cons}
 use Rattle.vkg_lists.proofs.Heads.{replicate_same}
 use Rattle.vkg_grammar.specs.declared.rule.Rule.{Rule}
 use Rattle.vkg_grammar.specs.Grammar.{Shape, One, Parts, Choice, shape_of, IsGrammar, the_parts, the_first, the_second}
@@ -21,18 +23,11 @@ pub column_inside : (w i : ℕ) → i < w → column (seen_at i) < w
 column_inside w zero h = h
 column_inside w (suc i) h = rw add-one h
 
-zeros_append : (xs ys : List ℕ) → zeros (xs ++ ys) ≡ zeros xs + zeros ys
-zeros_append [] ys = omega arith
-zeros_append (zero ∷ xs) ys = omega (arith, zeros_append xs ys)
-zeros_append (suc x ∷ xs) ys = zeros_append xs ys
-
 zeros_one : (v : ℕ) → zeros (v ∷ []) ≤ 1
-zeros_one zero = omega arith
-zeros_one (suc v) = omega arith
+zeros_one v = count_by-le-length (λ x. nat_eq x 0) (v ∷ [])
 
 zeros_some : (v : ℕ) → (v ≡ 0 → ⊥) → zeros (v ∷ []) ≡ 0
-zeros_some zero h = absurd (h refl)
-zeros_some (suc v) h = refl
+zeros_some v h = ap (λ b. 0 + cond b 1 0) (ne_eqb v 0 h)
 
 cell_zeros : {reason : Type 0} {stamp old v : ℕ} → IsNextCell reason stamp old v → zeros (v ∷ []) ≤ zeros (old ∷ [])
 cell_zeros (stays h) = omega arith
@@ -47,8 +42,8 @@ cell_fewer (waits b) d = absurd (d refl)
 pub round_step : (reason : ℕ → Type 0) (stamp : ℕ) (old new : List ℕ) (i value : ℕ) (changed changed' : Bool) → i < length old → IsRound reason stamp old new i changed → IsNextCell (reason i) stamp (get_or old i 0) value → ((value ≡ get_or old i 0 → ⊥) × (changed' ≡ true)) ⊎ ((value ≡ get_or old i 0) × (changed' ≡ changed)) → IsRound reason stamp old (new ++ value ∷ []) (i + 1) changed'
 round_step reason stamp old new i value changed changed' h r cell d =
     let next : take (i + 1) old ≡ take i old ++ get_or old i 0 ∷ [] = take_more old i 0 h in
-    let new_zeros : zeros (new ++ value ∷ []) ≡ zeros new + zeros (value ∷ []) = zeros_append new (value ∷ []) in
-    let old_zeros : zeros (take (i + 1) old) ≡ zeros (take i old) + zeros (get_or old i 0 ∷ []) = ap zeros next ∙ zeros_append (take i old) (get_or old i 0 ∷ []) in
+    let new_zeros : zeros (new ++ value ∷ []) ≡ zeros new + zeros (value ∷ []) = count_by-append (λ x. nat_eq x 0) new (value ∷ []) in
+    let old_zeros : zeros (take (i + 1) old) ≡ zeros (take i old) + zeros (get_or old i 0 ∷ []) = ap zeros next ∙ count_by-append (λ x. nat_eq x 0) (take i old) (get_or old i 0 ∷ []) in
     let no_more : zeros (value ∷ []) ≤ zeros (get_or old i 0 ∷ []) = cell_zeros cell in
     record {
       size = omega (arith, length_push new value, r.size);
@@ -88,9 +83,6 @@ cell_at R m w stamp old new n c size h col r =
     let reason : R ((n * w + column c) / w) (seen_at ((n * w + column c) % w)) ≡ R n c = ap (λ y. R y (seen_at ((n * w + column c) % w))) (div-mul-add n w (column c) col) ∙ ap (R n) (ap seen_at (mod-mul-add n w (column c) col) ∙ seen_column c) in
     let cell : IsNextCell (R ((n * w + column c) / w) (seen_at ((n * w + column c) % w))) stamp (get_or old (n * w + column c) 0) (get_or new (n * w + column c) 0) = r.cells (n * w + column c) inside in
     rw (in_range old w n c col, in_range new w n c col) (subst (λ y. IsNextCell y stamp (get_or old (n * w + column c) 0) (get_or new (n * w + column c) 0)) reason cell)
-
-pub round_cell : (g : List Rule) {changed : Bool} (w stamp : ℕ) (old new : List ℕ) (n : ℕ) (c : Option ℕ) → length old ≡ w * length g → n < length g → column c < w → IsRound (BeginReason g w old) stamp old new (length old) changed → IsNextCell (ShapeBegins (rank_in old w) c (shape_of g n)) stamp (rank_in old w n c) (rank_in new w n c)
-round_cell g w stamp old new n c size h col r = cell_at (λ n c. ShapeBegins (rank_in old w) c (shape_of g n)) (length g) w stamp old new n c size h col r
 
 pub cell_kept : {reason : Type 0} {stamp old v : ℕ} → IsNextCell reason stamp old v → 0 < old → v ≡ old
 cell_kept (stays h) p = refl
@@ -144,17 +136,17 @@ founded_next {g = g} w stamp old new wf size pos f r = record { falls = λ n c h
   where
     kept : (n : ℕ) (c : Option ℕ) → n < length g → 0 < rank_in old w n c → rank_in new w n c ≡ rank_in old w n c
     kept n c h p = elim (column_or_not w c) [
-      | inl col ↦ cell_kept (round_cell g w stamp old new n c size h col r) p
+      | inl col ↦ cell_kept (cell_at (λ n c. ShapeBegins (rank_in old w) c (shape_of g n)) (length g) w stamp old new n c size h col r) p
       | inr out ↦ out_of_range new w n c out ∙ sym (out_of_range old w n c out)
     ]
 
     below : (n : ℕ) (c : Option ℕ) → n < length g → (column c < w) ⊎ (w ≤ column c) → rank_in new w n c < stamp + 1
-    below n c h (inl col) = cell_at_most (round_cell g w stamp old new n c size h col r) (f.below n c h)
+    below n c h (inl col) = cell_at_most (cell_at (λ n c. ShapeBegins (rank_in old w) c (shape_of g n)) (length g) w stamp old new n c size h col r) (f.below n c h)
     below n c h (inr out) = rw (out_of_range new w n c out) (omega arith)
 
     falls : (n : ℕ) (c : Option ℕ) → n < length g → 0 < rank_in new w n c → (column c < w) ⊎ (w ≤ column c) → ShapeFalls (rank_in new w) (rank_in new w n c) c (shape_of g n)
     falls n c h p (inr out) = absurd (let z : rank_in new w n c ≡ 0 = out_of_range new w n c out in omega arith)
-    falls n c h p (inl col) = elim (cell_why (round_cell g w stamp old new n c size h col r) p) [
+    falls n c h p (inl col) = elim (cell_why (cell_at (λ n c. ShapeBegins (rank_in old w) c (shape_of g n)) (length g) w stamp old new n c size h col r) p) [
       | inl q ↦ subst (λ y. ShapeFalls (rank_in new w) y c (shape_of g n)) (sym (kept n c h q)) (shape_kept (rank_in old w n c) c (rank_in old w) (rank_in new w) wf h kept (shape_of g n) refl (f.falls n c h q))
       | inr q ↦ subst (λ y. ShapeFalls (rank_in new w) y c (shape_of g n)) (sym q.0) (shape_found c (rank_in old w) (rank_in new w) wf h kept f.below (shape_of g n) refl q.1)
     ]
@@ -177,7 +169,7 @@ finished {g = g} w stamp old new wf cols wide size pos f r e = record { falls = 
     past c n (Choice xs ys) h q out (inr s) = never_past w c old ys out wide s
 
     closed : (n : ℕ) (c : Option ℕ) → n < length g → ShapeBegins (rank_in old w) c (shape_of g n) → (column c < w) ⊎ (w ≤ column c) → 0 < rank_in old w n c
-    closed n c h s (inl col) = cell_done (round_cell g w stamp old new n c size h col r) (ap (λ y. rank_in y w n c) same) pos s
+    closed n c h s (inl col) = cell_done (cell_at (λ n c. ShapeBegins (rank_in old w) c (shape_of g n)) (length g) w stamp old new n c size h col r) (ap (λ y. rank_in y w n c) same) pos s
     closed n c h s (inr out) = absurd (past c n (shape_of g n) h refl out s)
 
 -- a round that changes a cell leaves fewer empty
@@ -186,7 +178,7 @@ round_fewer reason old new r e = let less : zeros new < zeros (take (length old)
 
 pub zeros_replicate : (n : ℕ) → zeros (replicate n 0) ≡ n
 zeros_replicate zero = refl
-zeros_replicate (suc n) = ap suc (zeros_replicate n)
+zeros_replicate (suc n) = count_by-cons (λ x. nat_eq x 0) 0 (replicate n 0) ∙ omega (arith, zeros_replicate n)
 
 pub zero_rank : (m w n : ℕ) (c : Option ℕ) → rank_in (replicate m 0) w n c ≡ 0
 zero_rank m w n c = elim (column_or_not w c) [ inl col ↦ in_range (replicate m 0) w n c col ∙ replicate_same {A = ℕ} m (n * w + column c) 0 | inr out ↦ out_of_range (replicate m 0) w n c out ]

@@ -1,30 +1,26 @@
 -- Which symbols derive some list of tokens.
 use Rattle.std.proofs.Common.{◌≡◌, ℕ, ◌<◌, Bool, false, ◌⊎◌, inl, inr, List, [], ◌∷◌, ◌++◌, length, get_or, refl, ap, sym, ◌∙◌, subst, arith, replicate}
-use Rattle.std.proofs.lemmas.List.{take_all, append-nil, length-replicate}
-use Rattle.vkg_lists.proofs.Members.{recursion_append, recursion_left, recursion_right}
+use Rattle.std.proofs.lemmas.List.{take_all, length-replicate}
+use Rattle.vkg_lists.proofs.Members.{each_from_recursion, recursion_append, recursion_left, recursion_right}
 use Rattle.vkg_lists.specs.Lists.{AllBelow}
 use Rattle.vkg_lists.proofs.Heads.{replicate_same}
 use Rattle.vkg_grammar.specs.declared.note.Note.{Note}
 use Rattle.vkg_grammar.specs.declared.note.Act.TheVariants.{Leaf}
 use Rattle.vkg_grammar.specs.declared.rule.Rule.{Rule}
-use Rattle.vkg_grammar.specs.Grammar.{noted, at_parts, at_first, at_second, Shape, One, Parts, Choice, shape_of, Derives, done, read, parts, first, second, IsGrammar, the_parts, the_first, the_second}
+use Rattle.vkg_grammar.specs.Grammar.{noted, Shape, One, Parts, Choice, shape_of, Derives, done, read, parts, first, second, IsGrammar, the_parts, the_first, the_second}
 use Rattle.vkg_grammar.specs.Tables.{IsRound, AllFound, ShapeFound, TextReason, HasText}
-use Rattle.vkg_grammar.proofs.Core.{join, moved}
+use Rattle.vkg_grammar.proofs.Core.{text_each, text_of_way}
 use Rattle.vkg_grammar.proofs.Rounds.{cell_why, cell_done}
 
 module _ (g : List Rule) (wf : IsGrammar g) where
   all_text : (t xs : List ℕ) → ((n : ℕ) → n < length g → 0 < get_or t n 0 → HasText g n) → AllBelow (length g) xs → AllFound t xs → (ts : List ℕ) × (ws : List Note) × Derives g xs ts ws
-  all_text t [] so b f = ([], [], done)
-  all_text t (x ∷ xs) so b f =
-      let one : HasText g x = so x b.0 f.0 in
-      let more : (ts : List ℕ) × (ws : List Note) × Derives g xs ts ws = all_text t xs so b.1 f.1 in
-      (one.0 ++ more.0, one.1 ++ more.1, join one.2 more.2)
+  all_text t xs so b f = text_each xs (λ n c. so n (each_from_recursion (λ k. k < length g) xs b n c) (each_from_recursion (λ x. 0 < get_or t x 0) xs f n c))
 
   shape_text : (t : List ℕ) (n : ℕ) (sh : Shape) → n < length g → shape_of g n ≡ sh → ((n : ℕ) → n < length g → 0 < get_or t n 0 → HasText g n) → ShapeFound t sh → HasText g n
   shape_text t n (One k) h e so f = (k ∷ [], noted n Leaf ∷ [], read e done)
-  shape_text t n (Parts xs) h e so f = let d : (ts : List ℕ) × (ws : List Note) × Derives g xs ts ws = all_text t xs so (wf.closed n xs h (the_parts e)) f in (d.0, noted n (at_parts xs) ∷ d.1, parts e (moved (sym (append-nil xs)) d.2))
-  shape_text t n (Choice xs ys) h e so (inl f) = let d : (ts : List ℕ) × (ws : List Note) × Derives g xs ts ws = all_text t xs so (wf.closed n xs h (the_first e)) f in (d.0, noted n (at_first xs) ∷ d.1, first e (moved (sym (append-nil xs)) d.2))
-  shape_text t n (Choice xs ys) h e so (inr f) = let d : (ts : List ℕ) × (ws : List Note) × Derives g ys ts ws = all_text t ys so (wf.closed n ys h (the_second e)) f in (d.0, noted n (at_second ys) ∷ d.1, second e (moved (sym (append-nil ys)) d.2))
+  shape_text t n (Parts xs) h e so f = text_of_way (the_parts e) (all_text t xs so (wf.closed n xs h (the_parts e)) f)
+  shape_text t n (Choice xs ys) h e so (inl f) = text_of_way (the_first e) (all_text t xs so (wf.closed n xs h (the_first e)) f)
+  shape_text t n (Choice xs ys) h e so (inr f) = text_of_way (the_second e) (all_text t ys so (wf.closed n ys h (the_second e)) f)
 
   found_all : {s ts : List ℕ} {ws : List Note} (t : List ℕ) → ((n : ℕ) → n < length g → TextReason g t n → 0 < get_or t n 0) → AllBelow (length g) s → Derives g s ts ws → AllFound t s
   found_all t closed b done = tt

@@ -43,10 +43,14 @@ abbrev pub if_so : Bool → Bool → Bool
 if_so true b = b
 if_so false b = true
 
+-- each of these passes the test
+abbrev pub each : {A : Type 0} → (A → Bool) → List A → Bool
+each test [] = true
+each test (x ∷ xs) = both (test x) (each test xs)
+
 -- by the claims, these symbols may all be empty
 abbrev pub empty_way : List Claim → List ℕ → Bool
-empty_way cs [] = true
-empty_way cs (x ∷ xs) = both (claim_at cs x).empty (empty_way cs xs)
+empty_way cs xs = each (λ x. (claim_at cs x).empty) xs
 
 -- these kinds, and the others where what they begin may be empty
 abbrev pub begin_more : Bool → List ℕ → List ℕ → List ℕ
@@ -79,8 +83,7 @@ shape_claimed cs c (Choice xs ys) = both (way_claimed cs c xs) (both (way_claime
 
 -- each symbol of this way has a lower level
 abbrev pub lower_way : List Claim → ℕ → List ℕ → Bool
-lower_way cs n [] = true
-lower_way cs n (x ∷ xs) = both (nat_lt (claim_at cs x).level n) (lower_way cs n xs)
+lower_way cs n xs = each (λ x. nat_lt (claim_at cs x).level n) xs
 
 abbrev pub either : Bool → Bool → Bool
 either true b = true
@@ -94,8 +97,7 @@ shape_lower cs n (Choice xs ys) = either (lower_way cs n xs) (lower_way cs n ys)
 
 -- each of these symbols has a rule
 abbrev pub all_below : ℕ → List ℕ → Bool
-all_below m [] = true
-all_below m (x ∷ xs) = both (nat_lt x m) (all_below m xs)
+all_below m xs = each (λ x. nat_lt x m) xs
 
 -- each symbol that a shape names has a rule
 abbrev pub shape_below : ℕ → Shape → Bool
@@ -115,8 +117,7 @@ rule_fits kinds (Token k) = nat_lt k kinds
 rule_fits kinds r = true
 
 abbrev pub all_fit : ℕ → List Rule → Bool
-all_fit kinds [] = true
-all_fit kinds (r ∷ rs) = both (rule_fits kinds r) (all_fit kinds rs)
+all_fit kinds rs = each (rule_fits kinds) rs
 
 -- The claims on the symbols of these rules pass every test. For rules and claims that are written out, each test is `refl`.
 pub record IsCertified (g : List Rule) (kinds : ℕ) (cs : List Claim) : Type 0 where

@@ -1,5 +1,5 @@
 -- The table of the parser: when it was found that a symbol begins with a kind, or may be empty; 0 for never.
-use Rattle.std.specs.Prelude.{◌≡◌, ℕ, ◌+◌, ◌*◌, ◌<◌, ◌⊎◌, List, [], ◌∷◌, length, get_or, Option, Some, None, nat_lt, if◌then◌else◌}
+use Rattle.std.specs.Prelude.{◌≡◌, ℕ, ◌+◌, ◌*◌, ◌^◌, ◌<◌, ◌⊎◌, List, [], ◌∷◌, length, get_or, Option, Some, None, nat_lt, if◌then◌else◌}
 use Rattle.std.proofs.Common.{zero, suc}
 use Rattle.vkg_grammar.specs.declared.rule.Rule.{Rule}
 use Rattle.vkg_grammar.specs.Grammar.{Shape, One, Parts, Choice, shape_of}
@@ -41,21 +41,16 @@ pub record IsTable (g : List Rule) (rank : ℕ → Option ℕ → ℕ) : Type 0 
   pub falls : (n : ℕ) (c : Option ℕ) → n < length g → 0 < rank n c → ShapeFalls rank (rank n c) c (shape_of g n)
   pub closed : (n : ℕ) (c : Option ℕ) → n < length g → ShapeBegins rank c (shape_of g n) → 0 < rank n c
 
--- three to the power of n
-abbrev pub tri : ℕ → ℕ
-tri zero = 1
-tri (suc n) = 3 * tri n
-
 -- the bound of a symbol that begins with the next token: by its rank, or the other where it does not begin so
 abbrev pub at_rank : ℕ → ℕ → ℕ
 at_rank zero other = other
-at_rank (suc r) other = tri (suc r)
+at_rank (suc r) other = 3 ^ suc r
 
 -- What bounds the steps until the next token c is taken from this stack.
 abbrev pub height : (ℕ → Option ℕ → ℕ) → Option ℕ → List ℕ → ℕ
 height rank c [] = 0
-height rank None (n ∷ s) = tri (rank n None) + height rank None s
-height rank (Some k) (n ∷ s) = at_rank (rank n (Some k)) (tri (rank n None) + height rank (Some k) s)
+height rank None (n ∷ s) = 3 ^ rank n None + height rank None s
+height rank (Some k) (n ∷ s) = at_rank (rank n (Some k)) (3 ^ rank n None + height rank (Some k) s)
 
 -- Each cell of these symbols' rows, for what is seen and for nothing, is in the table.
 abbrev pub HasRows : ℕ → ℕ → ℕ → Option ℕ → Type 0

@@ -1,7 +1,7 @@
 -- How the table is made: rounds over all cells, until nothing changes.
-use Rattle.std.specs.Prelude.{◌↔◌, ◌≡◌, ℕ, ◌+◌, ◌/◌, ◌%◌, ◌<◌, ◌≤◌, Bool, true, false, ◌⊎◌, List, [], ◌∷◌, length, get_or, take, Option, Some, None}
+use Rattle.std.specs.Prelude.{◌↔◌, ◌≡◌, ℕ, ◌+◌, ◌/◌, ◌%◌, ◌<◌, ◌≤◌, Bool, true, false, ◌⊎◌, List, [], ◌∷◌, length, get_or, take, Option, Some, None, nat_eq}
 use Rattle.std.proofs.Common.{zero, suc}
-use Rattle.std.specs.List.{AllByRecursion}
+use Rattle.std.specs.List.{AllByRecursion, count_by}
 use Rattle.vkg_grammar.specs.declared.note.Note.{Note}
 use Rattle.vkg_grammar.specs.declared.rule.Rule.{Rule}
 use Rattle.vkg_grammar.specs.Grammar.{Shape, One, Parts, Choice, shape_of, Derives, MayFollow}
@@ -24,9 +24,7 @@ pub data IsNextCell (reason : Type 0) (stamp : ℕ) : ℕ → ℕ → Type 0 whe
 
 -- how many cells are empty
 abbrev pub zeros : List ℕ → ℕ
-zeros [] = 0
-zeros (zero ∷ xs) = suc (zeros xs)
-zeros (suc x ∷ xs) = zeros xs
+zeros xs = count_by (λ x. nat_eq x 0) xs
 
 -- One round over the first cells, for these reasons.
 pub record IsRound (reason : ℕ → Type 0) (stamp : ℕ) (old new : List ℕ) (done : ℕ) (changed : Bool) : Type 0 where

@@ -12,7 +12,7 @@ use Rattle.percent_encoding.specs.Percent.{percent_decode}
 use lib.Utf8.{encode, scalar, scalars}
 use Rattle.vkg_lists.proofs.Bools.{and_parts, is_false, same_truth}
 use Rattle.vkg_lists.proofs.Counts.{eq_comm, eq_itself}
-use Rattle.vkg_lists.proofs.Tests.{test_along, bytes_test}
+use Rattle.vkg_lists.proofs.Tests.{test_along}
 use Rattle.vkg_lists.proofs.Texts.{bytes_test}
 use Rattle.vkg_terms.specs.Safe.{is_safe_character, is_unreserved, percent, safe, safe_character}
 use Rattle.vkg_terms.proofs.SafeLemmas.{decode-safe, safe_same, plain, plain_percent, octets}

@@ -1,9 +1,10 @@
 -- Cells and rows that are one are equal.
 use Rattle.std.proofs.Common.{◌≡◌, refl, sym, ◌∙◌, ap, true}
 use Rattle.std.specs.Cmp.{booleans_Decides}
+use Rattle.vkg_lists.proofs.Texts.{bytes_test}
 use Rattle.vkg_lists.specs.Sets.{IsEqualityTest}
 use Rattle.vkg_lists.proofs.Counts.{eq_itself, eq_same}
-use Rattle.vkg_lists.proofs.Tests.{list_test, bytes_test}
+use Rattle.vkg_lists.proofs.Tests.{list_test}
 use Rattle.vkg_terms.proofs.SameLemmas.{terms_apart}
 use Rattle.vkg_cells.specs.declared.cell.Cell.{Cell}
 use Rattle.vkg_cells.specs.declared.cell.Cell.TheVariants as cell

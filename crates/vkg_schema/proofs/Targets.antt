@@ -6,6 +6,7 @@ use Rattle.std.proofs.lemmas.Bool.{eqb-true}
 use Rattle.std.proofs.lemmas.List.{length-map, nil_from_length}
 use Rattle.std.proofs.lemmas.List.FromFn.{length-range_with_len}
 use Rattle.std.proofs.lemmas.Option.{slice_get-map}
+use Rattle.vkg_lists.specs.Options.{both_pass}
 use Rattle.vkg_lists.proofs.Nothing.{map_nothing}
 use Rattle.vkg_lists.proofs.Each.{recursion_map, each_below, below_range, recursion_fails}
 use Rattle.vkg_lists.proofs.Positions.{Found, found, any_mapped, all_mapped, get_below}
@@ -17,9 +18,9 @@ use Rattle.vkg_ddl.specs.declared.written.WrittenKey.{WrittenKey}
 use Rattle.vkg_ddl.specs.declared.written.WrittenReference.{WrittenReference}
 use Rattle.vkg_ddl.specs.declared.written.WrittenTable.{WrittenTable}
 use Rattle.vkg_ddl.specs.Formed.{HasColumns}
-use Rattle.vkg_ddl.specs.NameChecks.{matches, column_place, one_place, one_column, names_column, names_table, name_twice, unknown_columns}
+use Rattle.vkg_ddl.specs.NameChecks.{matches, column_place, one_column, names_column, names_table, name_twice, unknown_columns}
 use Rattle.vkg_ddl.specs.TypeChecks.{column_kind}
-use Rattle.vkg_ddl.specs.ReferenceChecks.{targets_in, are_columns, columns_fault, same_columns, are_key, key_fault, at_target, family_of, family_named, over_families, family_fault, family_at_target}
+use Rattle.vkg_ddl.specs.ReferenceChecks.{targets_in, are_columns, columns_fault, same_columns, are_key, key_fault, at_target, family_of, family_named, over_families, family_fault}
 use Rattle.vkg_lists.proofs.Members.{each_from_recursion}
 use Rattle.vkg_lists.proofs.Walks.{map-map}
 use Rattle.vkg_schema.specs.declared.table.Reference.{Reference}
@@ -40,7 +41,7 @@ by_place g h a (x ∷ xs) e =
 one_same : (columns : List WrittenColumn) (a b : Name) → one_column columns a b ≡ true → nat_eq (place_of columns a) (place_of columns b) ≡ true
 one_same columns a b e = go (column_place columns a) (column_place columns b) e
   where
-    go : (o p : Option ℕ) → one_place o p ≡ true → nat_eq (unwrap_or o 0) (unwrap_or p 0) ≡ true
+    go : (o p : Option ℕ) → both_pass nat_eq o p ≡ true → nat_eq (unwrap_or o 0) (unwrap_or p 0) ≡ true
     go (Some i) (Some j) q = q
     go (Some i) None q = absurd (cc)
     go None p q = absurd (cc)
@@ -177,7 +178,7 @@ pub reference_form : (tables : List WrittenTable) (t : WrittenTable) (r : Writte
     → names_table tables r.table ≡ true → AreKnown t.columns r.columns
     → at_target columns_fault (find (λ u. matches r.table u.name) tables) r ≡ None
     → at_target key_fault (find (λ u. matches r.table u.name) tables) r ≡ None
-    → family_at_target t (find (λ u. matches r.table u.name) tables) r ≡ None
+    → at_target (family_fault t) (find (λ u. matches r.table u.name) tables) r ≡ None
     → IsReference (schema_of tables) (table_at tables t) (reference_at tables t r)
 reference_form tables t r keys e left_known c k f =
     let w = found (λ v. matches r.table v.name) tables e in
@@ -190,4 +191,4 @@ reference_form tables t r keys e left_known c k f =
     let d = right_of u r (targets_in u r) refl (sym (ap (λ o. at_target columns_fault o r) at.found) ∙ c) (sym (ap (λ o. at_target key_fault o r) at.found) ∙ k) in
     let h : IsRight u r d.0 = d.1 in
     resolved_form tables t u r d.0 i left_known h (keys u (subst (Contains tables) this g.2))
-    (families_of t u r d.0 h.meant_so (sym (ap (λ o. family_at_target t o r) at.found) ∙ f)) at
+    (families_of t u r d.0 h.meant_so (sym (ap (λ o. at_target (family_fault t) o r) at.found) ∙ f)) at

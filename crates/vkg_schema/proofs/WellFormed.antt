@@ -11,7 +11,7 @@ use Rattle.vkg_ddl.specs.FirstFault.{first_fault}
 use Rattle.vkg_ddl.specs.Formed.{IsNamed, HasColumns, IsFormed}
 use Rattle.vkg_lists.specs.Places.{least_of}
 use Rattle.vkg_ddl.specs.NameChecks.{matches, names_table, unknown_columns, unknown_in_table, unknown_target}
-use Rattle.vkg_ddl.specs.ReferenceChecks.{at_target, columns_fault, key_fault, family_at_target}
+use Rattle.vkg_ddl.specs.ReferenceChecks.{at_target, columns_fault, key_fault, family_fault}
 use Rattle.vkg_lists.proofs.Members.{each_from_recursion, recursion_from_each}
 use Rattle.vkg_schema.specs.Meets.{IsTable, IsColumn, IsKey, IsReference, IsWellFormed}
 use Rattle.vkg_schema.specs.Resolve.{column_at, key_at, reference_at, table_at, schema_of}
@@ -42,7 +42,7 @@ module _ (tables : List WrittenTable) (fine : IsFaultless tables) (formed : AllB
             (known t.columns r.columns (each_from_recursion (λ s. unknown_columns t.columns s.columns ≡ None) t.references (least_of-each (λ s. unknown_columns t.columns s.columns) t.references both.1) r rm))
             (each_reference (λ v s. at_target columns_fault (find (λ u. matches s.table u.name) tables) s) t r m rm fine.columns_right)
             (each_reference (λ v s. at_target key_fault (find (λ u. matches s.table u.name) tables) s) t r m rm fine.to_keys)
-            (each_reference (λ v s. family_at_target v (find (λ u. matches s.table u.name) tables) s) t r m rm fine.comparable)));
+            (each_reference (λ v s. at_target (family_fault v) (find (λ u. matches s.table u.name) tables) s) t r m rm fine.comparable)));
       }
 
 pub well_formed : (tables : List WrittenTable) → first_fault tables ≡ None → AllByRecursion IsFormed tables → IsWellFormed (schema_of tables)

@@ -18,7 +18,7 @@ use Rattle.vkg_tokens.specs.declared.names.Name.TheVariants as name
 use Rattle.vkg_tokens.specs.Ddl.{is_word_part}
 use Rattle.vkg_tokens.specs.Lang.{start, stepped, state_after, token_class, or_shorter, longest_to, longest}
 use Rattle.vkg_tokens.specs.Prefixes.{a_prefix, is_prefix, EndsNoName, IsBarren, end_of}
-use Rattle.vkg_tokens.proofs.Longest.{class_is}
+use Rattle.vkg_tokens.proofs.Longest.{class_is, longest_of_quiet}
 
 -- the search goes on from where it was
 state_from : (lang : Lang) (text : List ℕ) (p n m : ℕ) (o : Option State) → p ≤ length text → m ≡ p + n → state_after lang (take p text) ≡ o → state_after lang (take m text) ≡ fold stepped o (take n (drop p text))
@@ -32,19 +32,9 @@ none_behind lang text p m a b q h =
     let size : length (drop p text) ≡ length text - p = length-drop p text in
     class_is lang text m _ (state_from lang text p (m - p) m (Some a_prefix) (omega arith) (omega arith) q) ∙ h (m - p) (omega arith)
 
--- the longest stays where nothing longer is a token
-quiet : (lang : Lang) (text : List ℕ) (i : ℕ) → ((m : ℕ) → i < m → m ≤ length text → token_class lang (take m text) ≡ None) → (k m : ℕ) → m ≡ i + k → m ≤ length text → longest_to lang text m ≡ longest_to lang text i
-quiet lang text i h zero m e b = let z : m ≡ i = omega arith in ap (longest_to lang text) z
-quiet lang text i h (suc k) m e b =
-    let z : m ≡ suc (i + k) = omega arith in
-    ap (longest_to lang text) z
-    ∙ ap (λ o. or_shorter o (suc (i + k)) (longest_to lang text (i + k))) (h (suc (i + k)) (omega arith) (omega arith))
-    ∙ quiet lang text i h k (i + k) refl (omega arith)
-
 -- behind a letter in a barren stretch nothing longer comes
 pub stop_here : (lang : Lang) (text : List ℕ) (i : ℕ) → i < length text → state_after lang (take (suc i) text) ≡ Some a_prefix → EndsNoName lang (drop (suc i) text) → longest_to lang text i ≡ longest lang text
-stop_here lang text i b q h =
-    sym (quiet lang text i (λ m a c. none_behind lang text (suc i) m (omega arith) c q h) (length text - i) (length text) (omega arith) (omega arith))
+stop_here lang text i b q h = longest_of_quiet lang text i b (λ m a c. none_behind lang text (suc i) m (omega arith) c q h)
 
 -- one place of the next lemma, by whether a token ends there
 last : (lang : Lang) (text : List ℕ) (n m : ℕ) (o : Option (ℕ × ℕ)) (c : Option ℕ) → token_class lang (take (suc n) text) ≡ c → longest_to lang text (suc n) ≡ o

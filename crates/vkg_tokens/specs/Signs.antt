@@ -1,5 +1,6 @@
 -- The signs of Turtle and SPARQL 1.1 that begin nothing longer, and their numbers among each language's kinds.
 use Rattle.std.specs.Prelude.{ℕ, Option, Some, None, if◌then◌else◌, ◌==◌}
+use Rattle.std.specs.Bool.{then_some}
 use Rattle.vkg_tokens.specs.declared.signs.Sign.{Sign}
 use Rattle.vkg_tokens.specs.declared.signs.Sign.TheVariants.{OpenBrace, CloseBrace, Open, Close, OpenBracket, CloseBracket, Semicolon, Comma, Equal, Greater, GreaterEqual, Not, NotEqual, Ampersand, And, Bar, Or, Caret, Carets, Star, Slash}
 
@@ -26,11 +27,11 @@ sign_begin c =
 
 -- the signs of two characters: >= != && || ^^
 abbrev pub sign_step : Sign → ℕ → Option Sign
-sign_step Greater c = if c == 0x3d then Some GreaterEqual else None
-sign_step Not c = if c == 0x3d then Some NotEqual else None
-sign_step Ampersand c = if c == 0x26 then Some And else None
-sign_step Bar c = if c == 0x7c then Some Or else None
-sign_step Caret c = if c == 0x5e then Some Carets else None
+sign_step Greater c = then_some (c == 0x3d) GreaterEqual
+sign_step Not c = then_some (c == 0x3d) NotEqual
+sign_step Ampersand c = then_some (c == 0x26) And
+sign_step Bar c = then_some (c == 0x7c) Or
+sign_step Caret c = then_some (c == 0x5e) Carets
 sign_step sign c = None
 
 abbrev pub turtle_sign : Sign → Option ℕ

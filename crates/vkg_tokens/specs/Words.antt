@@ -1,12 +1,6 @@
 -- The words of Turtle and of SPARQL 1.1 among the tokens that are letters and `_`.
 use Rattle.std.specs.Prelude.{ℕ, Bool, ◌||◌, List, codes, if◌then◌else◌}
-use Rattle.std.specs.Str.{bytes_eq, str_eq_ignore_ascii_case}
-
-abbrev pub is_exactly : List ℕ → List ℕ → Bool
-is_exactly text word = bytes_eq text word
-
-abbrev pub is_caseless : List ℕ → List ℕ → Bool
-is_caseless text word = str_eq_ignore_ascii_case text word
+pub use Rattle.std.specs.Str.{bytes_eq as is_exactly, str_eq_ignore_ascii_case as is_caseless}
 
 -- Turtle, 6.5: `a`, `true` and `false` in small letters, PREFIX and BASE (sparqlPrefix, sparqlBase) in any case
 unfoldable pub turtle_word : List ℕ → ℕ

@@ -1,4 +1,4 @@
-ghost use Rattle.std.specs.Prelude.{◌≡◌, ◌<◌, IfSome, if◌then◌else◌};
+ghost use Rattle.std.specs.Prelude.{◌≡◌, ◌<◌, IfSome};
 ghost use Rattle.vkg_tokens.specs.Signs.{sign_begin, sign_step, turtle_sign, sparql_sign};
 
 /// A sign that begins nothing longer than a sign.
@@ -52,21 +52,15 @@ pub fn begin(c: char) -> Option<Sign>
     }
 }
 
-fn if_is(is_so: bool, sign: Sign) -> Option<Sign>
-    ensures { result ≡ (if is_so then Some sign else None) }
-{
-    if is_so { Some(sign) } else { None }
-}
-
 pub fn step(state: Sign, c: char) -> Option<Sign>
     ensures { result ≡ sign_step state c }
 {
     match state {
-        Sign::Greater => if_is(c == '=', Sign::GreaterEqual),
-        Sign::Not => if_is(c == '=', Sign::NotEqual),
-        Sign::Ampersand => if_is(c == '&', Sign::And),
-        Sign::Bar => if_is(c == '|', Sign::Or),
-        Sign::Caret => if_is(c == '^', Sign::Carets),
+        Sign::Greater => (c == '=').then_some(Sign::GreaterEqual),
+        Sign::Not => (c == '=').then_some(Sign::NotEqual),
+        Sign::Ampersand => (c == '&').then_some(Sign::And),
+        Sign::Bar => (c == '|').then_some(Sign::Or),
+        Sign::Caret => (c == '^').then_some(Sign::Carets),
         _ => None,
     }
 }

@@ -1,5 +1,6 @@
 use Rattle.std.proofs.Common.{arith}
-use Rattle.vkg_grammar.proofs.Answering.{start_parsed, first_dead_token, parsed_token, cut_off, the_text, count_of}
+use Rattle.std.proofs.lemmas.List.{length-map}
+use Rattle.vkg_grammar.proofs.Answering.{start_parsed, first_dead_token, parsed_token, cut_off, the_text}
 use Rattle.vkg_grammar.proofs.parsing.parse_by.Goals as goal
 
 pub loop-index-init : goal.loop-index-init
@@ -12,7 +13,7 @@ pub loop-index-preserved : goal.loop-index-preserved
 loop-index-preserved c = parsed_token c.args.tokens.now c.loop-index.index _ c.loop-index-test.true c.loop-index.invariant (rw c.if-not-branch.false at c.in_ok-advance.ensures)
 
 pub returns-then-not-branch-2-clause-stops : goal.returns-then-not-branch-2-clause-stops
-returns-then-not-branch-2-clause-stops c = cut_off _ c.loop-index.index c.requires.ll1 (omega (arith, c.loop-index-test.false, count_of c.args.tokens.now)) c.loop-index.invariant (rw c.if-not-branch-2.true at c.in_ok-advance-2.ensures)
+returns-then-not-branch-2-clause-stops c = cut_off _ c.loop-index.index c.requires.ll1 (omega (arith, c.loop-index-test.false, length-map c.args.tokens.now (λ t. t.kind))) c.loop-index.invariant (rw c.if-not-branch-2.true at c.in_ok-advance-2.ensures)
 
 pub returns-clause-text : goal.returns-clause-text
-returns-clause-text c = the_text _ c.loop-index.index (omega (arith, c.loop-index-test.false, count_of c.args.tokens.now)) c.loop-index.invariant (rw c.if-not-branch-2.false at c.in_ok-advance-2.ensures)
+returns-clause-text c = the_text _ c.loop-index.index (omega (arith, c.loop-index-test.false, length-map c.args.tokens.now (λ t. t.kind))) c.loop-index.invariant (rw c.if-not-branch-2.false at c.in_ok-advance-2.ensures)
