@@ -1,5 +1,5 @@
 -- The dataset and the queries that the definitions are tried on.
-use Rattle.std.specs.Prelude.{ℕ, Bool, true, false, List, [], ◌∷◌, ◌++◌, map, Option, Some, None, codes}
+use Rattle.std.specs.Prelude.{ℕ, false, List, [], ◌∷◌, ◌++◌, Some, None, codes}
 use Rattle.vkg_terms.specs.declared.term.Annotation.TheVariants.{Plain, Typed}
 use Rattle.vkg_terms.specs.declared.term.Term.{Term}
 use Rattle.vkg_terms.specs.declared.term.Term.TheVariants.{Iri, Lit}

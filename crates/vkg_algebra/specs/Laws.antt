@@ -1,5 +1,5 @@
 -- What the definitions say, in the words of the standard.
-use Rattle.std.specs.Prelude.{◌≡◌, ◌↔◌, ◌⊎◌, ℕ, ◌<◌, ◌+◌, Bool, ◌&&◌, IsTrue, IsSome, List, [], ◌∷◌, ◌++◌, flat_map, length, Contains, Option, Some, None, if◌then◌else◌}
+use Rattle.std.specs.Prelude.{◌≡◌, ◌↔◌, ◌⊎◌, ℕ, ◌<◌, ◌+◌, Bool, ◌&&◌, IsTrue, IsSome, List, [], ◌∷◌, ◌++◌, flat_map, length, Contains, Option, Some, if◌then◌else◌}
 use Rattle.std.specs.List.{IsDistinct, count_by, sum_by}
 use Rattle.std.specs.Option.{option_or}
 use Rattle.vkg_terms.specs.declared.term.Term.{Term}

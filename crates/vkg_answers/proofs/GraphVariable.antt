@@ -1,6 +1,6 @@
 -- GRAPH with a variable: the hidden graph of a plan in mode each becomes the variable's column.
 use Rattle.std.proofs.Common.{◌≡◌, ℕ, ◌<◌, Bool, true, false, List, [], ◌∷◌, ◌++◌, map, length, refl, sym, ap, subst, ◌∙◌, arith, true≢false, append-nil}
-use Rattle.std.specs.Prelude.{Option, Some, None, ◌||◌, filter, flat_map, Contains, nat_eq, fold, slice_set, if◌then◌else◌, unwrap_or}
+use Rattle.std.specs.Prelude.{Option, Some, None, ◌||◌, filter, flat_map, Contains, nat_eq, slice_set, if◌then◌else◌, unwrap_or}
 use Rattle.std.specs.Option.{option_or}
 use Rattle.std.specs.List.{list_all, range_with_len, position_or_len}
 use Rattle.std.specs.List.Sorted.{IsPermutation}
@@ -18,16 +18,14 @@ use Rattle.vkg_lists.proofs.Rows.{agree_none}
 use Rattle.vkg_terms.specs.declared.term.Term.{Term}
 use Rattle.vkg_terms.specs.Same.{term_eq}
 use Rattle.vkg_terms.proofs.SameLemmas.{terms_apart}
-use Rattle.vkg_cells.specs.declared.cell.Cell.{Cell}
-use Rattle.vkg_cells.specs.Order.{same}
 use Rattle.vkg_cells.specs.declared.cell.Cell.TheVariants as cell
-use Rattle.vkg_schema.specs.Rows.{is_null, Row, cell_at}
+use Rattle.vkg_schema.specs.Rows.{Row, cell_at}
 use Rattle.vkg_algebra.specs.Solutions.{Solution, compatible, merge, join, only}
 use Rattle.vkg_algebra.specs.Evaluation.{Dataset, graph_names}
 use Rattle.vkg_algebra.specs.Visible.{each_once, has}
-use Rattle.vkg_expr.specs.Expr.{Expr, Col, Same, IsNull}
+use Rattle.vkg_expr.specs.Expr.{Col, Same, IsNull}
 use Rattle.vkg_expr.specs.Logic.{or_of}
-use Rattle.vkg_expr.specs.Value.{value_of, term_of, term_cell, truth_of, truth_cell, holds}
+use Rattle.vkg_expr.specs.Value.{value_of, term_of, holds}
 use Rattle.vkg_unfold.specs.Unfolded.{default_graph, graph_column, left_column, visible_column}
 use Rattle.vkg_unfold.specs.declared.mode.Mode.TheVariants.{Default, Each}
 use Rattle.vkg_unfold.specs.StandsFor.{belongs, term_in, solution_of, solutions_of}

@@ -7,7 +7,6 @@ use Rattle.vkg_cells.specs.declared.cell.SqlType.{SqlType}
 use Rattle.vkg_cells.specs.declared.cell.SqlType.TheVariants as kind
 use Rattle.vkg_cells.specs.declared.cell.Cell.{Cell}
 use Rattle.vkg_cells.specs.declared.cell.Cell.TheVariants as cell
-use Rattle.vkg_cells.specs.declared.cell.FieldFault.TheVariants as field
 use Rattle.vkg_cells.specs.Field.{cell_of_field, is_true_word, is_false_word}
 use Rattle.vkg_cells.specs.Form.{lexical_form, bool_form}
 use Rattle.vkg_cells.specs.Moment.{is_date, stamp_form}

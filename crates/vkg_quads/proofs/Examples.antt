@@ -6,7 +6,6 @@ use Rattle.std.specs.Fmt.{digits}
 use Rattle.vkg_terms.specs.declared.term.Term.TheVariants.{Iri}
 use Rattle.vkg_terms.specs.declared.term.Annotation.TheVariants.{Plain, Typed}
 use Rattle.vkg_terms.specs.Vocabulary.{xsd}
-use Rattle.vkg_cells.specs.declared.cell.Cell.TheVariants as cell
 use Rattle.vkg_schema.specs.Company.{base}
 use Rattle.vkg_schema.specs.Rows.{equal_at, is_known}
 use Rattle.vkg_maps.specs.declared.mapping.Mapping.{Mapping}

@@ -1,5 +1,5 @@
 -- The plan of a query over a mapping of a schema is well typed over it.
-use Rattle.std.proofs.Common.{◌≡◌, ap, refl}
+use Rattle.std.proofs.Common.{◌≡◌, ap}
 use Rattle.std.specs.Prelude.{IsTrue}
 use Rattle.std.specs.Option.{is_some}
 use Rattle.vkg_schema.specs.Meets.{IsWellFormed}

@@ -1,7 +1,7 @@
 -- SPARQL 1.1, 19.8, [69] and [110] to [121]: the expression of a filter, off its tree. `||` and `&&` join from the left; a comparison
 -- has two sides.
-use Rattle.std.specs.Prelude.{ℕ, Bool, true, false, List, [], ◌∷◌}
-use Rattle.vkg_grammar.specs.Trees.{Tree, leaf, nothing, pair, first, second, present}
+use Rattle.std.specs.Prelude.{Bool, true, false, List, [], ◌∷◌}
+use Rattle.vkg_grammar.specs.Trees.{Tree, pair, first, second, present}
 use Rattle.vkg_sparql.specs.declared.condition.Condition.{Condition}
 use Rattle.vkg_sparql.specs.declared.condition.Condition.TheVariants.{Variable, Bound, Compare, SameTerm, Not, And, Or}
 use Rattle.vkg_sparql.specs.declared.meaning.Meaning.{Meaning}

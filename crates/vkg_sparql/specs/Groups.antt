@@ -1,7 +1,6 @@
 -- SPARQL 1.1, 19.8, [1] to [9], [17], [53] to [68]: groups and the query, off its tree.
 use Rattle.std.specs.Prelude.{ℕ, Bool, true, false, List, [], ◌∷◌, ◌++◌, map}
 use Rattle.vkg_grammar.specs.Trees.{Tree, pair, first, second}
-use Rattle.vkg_sparql.specs.declared.condition.Condition.{Condition}
 use Rattle.vkg_sparql.specs.declared.meaning.Meaning.{Meaning}
 use Rattle.vkg_sparql.specs.declared.meaning.TripleTokens.{TripleTokens}
 use Rattle.vkg_sparql.specs.declared.pattern.TriplePattern.{TriplePattern}

@@ -1,5 +1,5 @@
 -- What the tokens of a query say by themselves, and how its variables and blank nodes are numbered.
-use Rattle.std.specs.Prelude.{ℕ, Bool, ◌||◌, List, [], ◌∷◌, ◌++◌, codes, decimal, fold, length, map, position, unwrap_or, Option, Some, None, if◌then◌else◌, ◌==◌}
+use Rattle.std.specs.Prelude.{ℕ, ◌||◌, List, [], ◌∷◌, ◌++◌, codes, decimal, fold, length, map, position, unwrap_or, Option, Some, None, if◌then◌else◌, ◌==◌}
 use Rattle.std.specs.List.{list_any}
 use Rattle.std.specs.Str.{bytes_eq}
 use Rattle.vkg_tokens.specs.declared.cutting.Token.{Token}

@@ -1,13 +1,13 @@
 -- SPARQL 1.1, 4.1.2: the terms and the other meanings of the tokens of a query.
-use Rattle.std.specs.Prelude.{ℕ, Bool, true, false, ◌||◌, ◌&&◌, List, [], ◌∷◌, codes, if◌then◌else◌, ◌==◌}
-use Rattle.std.specs.Str.{bytes_eq, str_to_ascii_lowercase}
+use Rattle.std.specs.Prelude.{ℕ, Bool, ◌||◌, List, [], ◌∷◌, codes, if◌then◌else◌, ◌==◌}
+use Rattle.std.specs.Str.{str_to_ascii_lowercase}
 use Rattle.vkg_terms.specs.declared.term.Term.{Term}
 use Rattle.vkg_terms.specs.declared.term.Term.TheVariants.{Iri, Lit}
 use Rattle.vkg_terms.specs.declared.term.Annotation.{Annotation}
-use Rattle.vkg_terms.specs.declared.term.Annotation.TheVariants.{Plain, Lang, Typed}
-use Rattle.vkg_terms.specs.Vocabulary.{xsd, rdf_type}
+use Rattle.vkg_terms.specs.declared.term.Annotation.TheVariants.{Plain, Lang}
+use Rattle.vkg_terms.specs.Vocabulary.{rdf_type}
 use Rattle.vkg_turtle.specs.declared.lexeme.Word.{Word}
-use Rattle.vkg_turtle.specs.declared.lexeme.Word.TheVariants.{Quoted, Tag, Integer, Decimal, Double, Boolean, IsA}
+use Rattle.vkg_turtle.specs.declared.lexeme.Word.TheVariants.{Quoted, Tag, Integer, Decimal, Boolean, IsA}
 use Rattle.vkg_turtle.specs.Document.{annotation_of_type, typed}
 use Rattle.vkg_values.specs.declared.operator.Test.TheVariants.{IsIri, IsBlank, IsLiteral, IsNumeric}
 use Rattle.vkg_values.specs.declared.operator.Take.TheVariants as take

@@ -1,11 +1,11 @@
 -- What the typing of a plan says of its parts.
-use Rattle.std.proofs.Common.{◌≡◌, ◌<◌, ◌==◌, ◌&&◌, Bool, true, List, length, Option, Some, option_map, is_some, ap}
+use Rattle.std.proofs.Common.{◌≡◌, ◌<◌, ◌==◌, ◌&&◌, true, List, length, Option, option_map, is_some, ap}
 use Rattle.std.specs.Prelude.{slice_get}
 use Rattle.std.proofs.lemmas.Option.{slice_get_within}
 use Rattle.vkg_lists.proofs.Onto.{first_some, both_some, map_given}
 use Rattle.vkg_lists.specs.Options.{joined}
 use Rattle.vkg_lists.proofs.Bools.{and_parts}
-use Rattle.vkg_lists.proofs.Results.{some_if, some_of, some_then, then_test}
+use Rattle.vkg_lists.proofs.Results.{some_of, some_then, then_test}
 use Rattle.vkg_cells.specs.declared.cell.SqlType.{SqlType}
 use Rattle.vkg_cells.specs.declared.cell.SqlType.TheVariants as kind
 use Rattle.vkg_expr.specs.Expr.{Expr, Exprs, Col, Const, MakeIri, IriOf, MakeBlank, MakeLit, Lex, IriSafe, Concat, Same, IsNull, Not, And, Or, Coalesce, Sparql, Ebv, each, exprs}

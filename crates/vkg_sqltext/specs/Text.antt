@@ -1,5 +1,5 @@
 -- The text of a plan over a schema, as a statement in the manner of SQL-92.
-use Rattle.std.specs.Prelude.{ℕ, suc, Bool, true, false, List, [], ◌∷◌, ◌++◌, map, flat_map, Option, Some, None, chars, codes, decimal, encode_utf8, ◌==◌, if◌then◌else◌}
+use Rattle.std.specs.Prelude.{ℕ, suc, true, false, List, [], ◌∷◌, ◌++◌, map, flat_map, chars, codes, decimal, encode_utf8, ◌==◌, if◌then◌else◌}
 use Rattle.std.specs.List.{join_by}
 use Rattle.vkg_terms.specs.declared.term.Annotation.{Annotation}
 use Rattle.vkg_terms.specs.declared.term.Annotation.TheVariants.{Plain, Lang, Typed}

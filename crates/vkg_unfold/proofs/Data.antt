@@ -2,7 +2,6 @@
 use Rattle.std.specs.Prelude.{ℕ, List, [], ◌∷◌, ◌++◌, Some, None, codes}
 use Rattle.vkg_terms.specs.declared.term.Annotation.TheVariants.{Plain}
 use Rattle.vkg_terms.specs.declared.term.Term.TheVariants.{Iri}
-use Rattle.vkg_cells.specs.declared.cell.Cell.TheVariants as cell
 use Rattle.vkg_cells.specs.declared.cell.SqlType.TheVariants as kind
 use Rattle.vkg_expr.specs.declared.term_expr.Sort.TheVariants.{OfIri, OfLit}
 use Rattle.vkg_expr.specs.declared.term_expr.Piece.TheVariants.{Chars, Hole}

@@ -4,7 +4,7 @@ use Rattle.vkg_terms.specs.declared.term.Annotation.TheVariants.{Typed}
 use Rattle.vkg_terms.specs.Vocabulary.{xsd}
 use Rattle.vkg_sparql.specs.Query.{Condition, Variable, Constant, Bound, Test, Take, Compare, SameTerm, Not, And, Or}
 use Rattle.vkg_expr.specs.declared.expr.Operator.TheVariants as op
-use Rattle.vkg_expr.specs.Expr.{Expr, Same, IsNull, Sparql, Ebv, MakeLit, Lex, Const, exprs, Nil, More}
+use Rattle.vkg_expr.specs.Expr.{Expr, Same, IsNull, Sparql, Ebv, MakeLit, Lex, exprs}
 use Rattle.vkg_expr.specs.Expr as expr
 use Rattle.vkg_expr.specs.TermExprs.{term_const}
 

@@ -1,5 +1,5 @@
 -- The steps that are lemmas on algebras.
-use Rattle.std.proofs.Common.{◌≡◌, ◌∙◌, [], IfOk, drop, sym, subst, ap, arith, rules}
+use Rattle.std.proofs.Common.{◌≡◌, ◌∙◌, [], IfOk, drop, sym, subst, ap, arith}
 use Rattle.std.proofs.lemmas.List.{drop_all}
 use Rattle.vkg_sparql.specs.Seen.{group_seen}
 use Rattle.vkg_algebra.specs.Algebra.{Bgp, LeftJoin, Union}

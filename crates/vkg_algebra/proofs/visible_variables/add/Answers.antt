@@ -1,4 +1,4 @@
-use Rattle.std.proofs.Common.{◌≡◌, ◌∙◌, Bool, true, false, ◌++◌, [], ◌∷◌, nat_eq, sym, ap, subst}
+use Rattle.std.proofs.Common.{◌≡◌, ◌∙◌, false, ◌++◌, [], ◌∷◌, nat_eq, sym, ap, subst}
 use Rattle.std.specs.List.{list_any}
 use Rattle.vkg_algebra.specs.Visible.{AddsEach}
 use Rattle.vkg_algebra.proofs.VisibleLemmas.{adds_old, adds_new}

@@ -1,9 +1,11 @@
 -- What failed in a chain: its first value with another behind it, or one of the others.
 use Rattle.std.proofs.Common.{rules, arith}
-use Rattle.vkg_plain.proofs.Asked.{either_failed}
+use Rattle.vkg_values.specs.Logic.{or3}
+use Rattle.vkg_plain.specs.Chains.{either_value}
+use Rattle.vkg_plain.proofs.Asked.{failed, never_made}
 use Rattle.vkg_plain.proofs.conditions.any_behind.Goals as goal
 
 pub returns-in_err-any-clause-wide : goal.returns-in_err-any-clause-wide
 returns-in_err-any-clause-wide c =
-    let k = either_failed c.args.first c.loop-next.any c.next-item.result c.args.more.now c.loop-next.next-index (omega arith) c.next-item.is c.loop-next.invariant in
+    let k = failed either_value (never_made or3) c.args.first c.loop-next.any c.next-item.result c.args.more.now c.loop-next.next-index (omega arith) c.next-item.is c.loop-next.invariant in
     search (rules, k)

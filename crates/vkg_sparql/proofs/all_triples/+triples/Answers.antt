@@ -1,4 +1,4 @@
-use Rattle.std.proofs.Common.{◌≡◌, ◌++◌, ◌∙◌, ap, sym, arith, append_assoc}
+use Rattle.std.proofs.Common.{◌≡◌, ◌++◌, ◌∙◌, ap, arith, append_assoc}
 use Rattle.vkg_grammar.specs.Forest.{tree}
 use Rattle.vkg_sparql.specs.Triples.{group_triples, parts_triples, part_triples, groups_triples, block_triples}
 use Rattle.vkg_sparql.proofs.Steps.{one_more}

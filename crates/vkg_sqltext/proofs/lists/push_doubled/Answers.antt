@@ -1,5 +1,5 @@
 -- What was read in all is the text.
-use Rattle.std.proofs.Common.{◌≡◌, ◌++◌, ◌∙◌, sym, ap, flat_map, string_bytes}
+use Rattle.std.proofs.Common.{◌++◌, ◌∙◌, sym, ap, flat_map, string_bytes}
 use Rattle.std.proofs.lemmas.Iterator.{YieldsList-from_chars}
 use Rattle.std.proofs.lemmas.Iterator.Consumers.{YieldsList-end}
 use Rattle.std.proofs.lemmas.List.{map-id}
