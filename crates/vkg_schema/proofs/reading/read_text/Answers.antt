@@ -1,6 +1,6 @@
 use Rattle.std.proofs.Common.{ap, sym, ◌∙◌, subst}
 use Rattle.vkg_ddl.specs.FirstFault.{first_fault}
-use Rattle.vkg_ddl.specs.Reading.{TextFails as NoText}
+use Rattle.vkg_ddl.specs.Reading.{Says, TextFails as NoText}
 use Rattle.vkg_schema.specs.Meets.{IsWellFormed}
 use Rattle.vkg_schema.specs.Names.{HasOwnNames}
 use Rattle.vkg_schema.specs.Reading.{TextFails, no_utf8}
@@ -21,6 +21,15 @@ returns-in-Some-clause-err c = no_schema_of c.in-Ok-read_written.written c.as_sl
 
 pub new-requires : goal.new-requires
 new-requires c = subst IsWellFormed (sym (c.in_ok-tables.ensures ∙ ap schema_of c.as_slice-2.ensures)) (well_formed c.in-Ok-read_written.written (ap first_fault (sym c.as_slice.ensures) ∙ sym c.first_fault.ensures ∙ c.in_default.is) c.in-Ok-read_written.ensures.form)
+
+pub returns-clause-ok : goal.returns-clause-ok
+returns-clause-ok c = record {
+  written = c.in-Ok-read_written.written;
+  utf8 = c.in-Ok.ensures.cases.1;
+  says = subst (λ t. Says t c.in-Ok-read_written.written) c.in-Ok.ensures.cases.0 c.in-Ok-read_written.ensures.ok;
+  fine = ap first_fault (sym c.as_slice.ensures) ∙ sym c.first_fault.ensures ∙ c.in_default.is;
+  resolved = c.new.ensures ∙ c.in_ok-tables.ensures ∙ ap schema_of c.as_slice-2.ensures;
+}
 
 pub returns-clause-names : goal.returns-clause-names
 returns-clause-names c =
