@@ -1,5 +1,5 @@
 -- The rules over rows give the dataset of the mapping.
-use Rattle.std.proofs.Common.{◌≡◌, ◌∙◌, ℕ, [], length, refl, ap}
+use Rattle.std.proofs.Common.{◌≡◌, ◌∙◌, ℕ, [], length, refl, ap, sym}
 use Rattle.std.specs.Prelude.{Contains}
 use Rattle.std.proofs.lemmas.List.{length-map}
 use Rattle.std.proofs.lemmas.Slice.Zip.{AllZip-long}
