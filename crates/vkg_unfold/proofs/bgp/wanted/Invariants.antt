@@ -6,4 +6,4 @@ use Rattle.vkg_unfold.specs.Unfolded.{name_eq}
 use Rattle.vkg_unfold.proofs.bgp.wanted.Given as goal
 
 abbrev pub invariant-loop-variable : goal.invariant-loop-variable
-invariant-loop-variable l = map expr_seen l.columns ≡ map (λ v. Col (position_or_len (name_eq (Some v)) l.names)) (take l.variable-index l.variables)
+invariant-loop-variable l = map expr_seen l.columns ≡ map (λ x. Col (position_or_len (name_eq x) l.names)) (map Some (take l.variable-index l.variables))
