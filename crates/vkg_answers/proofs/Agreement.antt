@@ -2,6 +2,7 @@
 use Rattle.std.proofs.Common.{◌≡◌, ℕ, ◌+◌, ◌<◌, ◌≤◌, Bool, true, false, List, [], ◌∷◌, ◌++◌, map, length, refl, sym, ap, ◌∙◌, arith}
 use Rattle.std.specs.Prelude.{Option, Some, None, ◌&&◌, ◌||◌, filter}
 use Rattle.std.specs.List.{list_all, range_with_len}
+use Rattle.std.proofs.Math.Bool.{or-false}
 use Rattle.std.proofs.lemmas.List.Folds.{list_all-map}
 use Rattle.std.proofs.lemmas.Map.Made.{is_member-Decides}
 use Rattle.vkg_lists.proofs.Members.{each_of_all, all_of_each}
@@ -35,7 +36,7 @@ unfolding or_cells
 or_terms None None = refl
 or_terms None (Some u) = refl
 or_terms (Some t) None = refl
-or_terms (Some t) (Some u) = refl
+or_terms (Some t) (Some u) = or-false (term_eq t u)
 
 pub holds-or_null : (a b : Expr) (row : Row) (o p : Option Term) → value_of a row ≡ term_cell o → value_of b row ≡ term_cell p → holds (or_null a b) row ≡ agree o p
 unfolding or_cells
