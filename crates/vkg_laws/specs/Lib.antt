@@ -1,0 +1,3 @@
+pub mod ByValue
+pub mod DdlTokens
+pub mod RemoveDots
