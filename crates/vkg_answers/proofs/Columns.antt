@@ -7,7 +7,8 @@ use Rattle.std.specs.List.Sorted.{IsPermutation}
 use Rattle.std.proofs.lemmas.List.Elements.{Contains-append_cases}
 use Rattle.std.proofs.lemmas.List.Folds.{list_all-append}
 use Rattle.std.proofs.Math.Seq.{drop-append_seam}
-use Rattle.vkg_lists.proofs.Bags.{bag_same, bag_trans}
+use Rattle.std.proofs.lemmas.List.Sorted.{IsPermutation-trans}
+use Rattle.vkg_lists.proofs.Bags.{bag_same}
 use Rattle.vkg_lists.proofs.Counts.{eq_itself, eq_same}
 use Rattle.vkg_lists.proofs.Members.{Contains-none, Contains-here, Contains-there, Contains-from_map, Contains-from_filter, Contains-from_flat_map, each_of_all, recursion_from_each, Contains-only}
 use Rattle.vkg_lists.proofs.Rows.{agree_none}
@@ -179,7 +180,7 @@ module _ (n : ℕ) (d : Dataset) (mode : Mode) (R : TriplePattern → List Row) 
       IsPermutation (map (λ row. named_solution n (zip (names mode ps) row)) (filter (fits g ps) (product (map R ps)))) (join_all n (map (λ p. pattern_solutions n p (graph_of d g)) ps))
   product_bag [] h g k = bag_same (ap (λ s. s ∷ []) (sym (unbound_is n 0)))
   product_bag (p ∷ ps) h g k =
-      bag_trans (bag_same
+      IsPermutation-trans _ _ _ (bag_same
       (ap (map solution) (pairs_split P Q kl (fits g ps) pass (λ row. alike [] (cells row)) (λ row. graphs_fit (hidden_in mode g) (cells row)) split (R p) (product (map R ps)) every_left every_right)
       ∙ join_rows P Q (λ l. named_solution n (zip ns l)) (λ r. named_solution n (zip (names mode ps) r)) solution pass agrees merged
       (filter kl (R p)) (filter (fits g ps) (product (map R ps))) (recursion_from_each _ (filter kl (R p)) (λ row c. here.are_rows row (Contains-from_filter kl (R p) row c).0))

@@ -7,7 +7,8 @@ use Rattle.std.specs.List.{list_any}
 use Rattle.std.proofs.lemmas.Map.Made.{is_member-Decides}
 use Rattle.vkg_lists.proofs.Nothing.{member_there, there_member, flat_map_nothing}
 use Rattle.vkg_lists.specs.Lists.{is_empty}
-use Rattle.vkg_lists.proofs.Bags.{bag_same, bag_trans, bag_map, bag_filter}
+use Rattle.std.proofs.lemmas.List.Sorted.{IsPermutation-map, IsPermutation-trans}
+use Rattle.vkg_lists.proofs.Bags.{bag_same, bag_filter}
 use Rattle.vkg_lists.proofs.Counts.{eq_itself, eq_comm, eq_same}
 use Rattle.vkg_lists.proofs.Walks.{filter_map_is_flat_map, map-flat_map, filter-flat_map, map_filter_is_flat_map}
 use Rattle.vkg_lists.proofs.Distinct.{Contains-from_distinct, Contains-distinct, IsDistinct-distinct}
@@ -208,5 +209,5 @@ empty_stands schema rules n d db p narrow Each = record { are_rows = fine; bag =
     whole None h = let e : None ≡ Some h.0 = h.1 in cc
     whole (Some i) h =
         let e : i ≡ h.0 = cc in
-        bag_trans (bag_map (solution_of n []) (bag_filter (hidden_is 0 i) p))
+        IsPermutation-trans _ _ _ (IsPermutation-map (solution_of n []) _ _ (bag_filter (hidden_is 0 i) p))
         (bag_same (in_one i (graph_names d) ∙ flat_map_only terms_apart (graph_names d) i (unbound n ∷ []) (IsDistinct-distinct term_eq _) (subst (Contains (graph_names d)) (sym e) h.2)))

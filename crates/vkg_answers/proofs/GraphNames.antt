@@ -7,7 +7,8 @@ use Rattle.std.specs.List.Sorted.{IsPermutation}
 use Rattle.std.proofs.lemmas.List.Folds.{list_all-append}
 use Rattle.vkg_lists.proofs.Nothing.{flat_map_nothing}
 use Rattle.vkg_lists.specs.Sets.{HasSameMembers, distinct}
-use Rattle.vkg_lists.proofs.Bags.{bag_same, bag_trans, bag_map}
+use Rattle.std.proofs.lemmas.List.Sorted.{IsPermutation-map, IsPermutation-trans}
+use Rattle.vkg_lists.proofs.Bags.{bag_same}
 use Rattle.vkg_lists.proofs.Counts.{eq_same}
 use Rattle.vkg_lists.proofs.SameMembers.{members_refl, members_flat_map}
 use Rattle.vkg_lists.proofs.Walks.{filter_map_is_flat_map, flat_map-flat_map, map-flat_map, map_filter_is_flat_map}
@@ -141,12 +142,12 @@ module _ (schema : Tables) (rules : List RowRule) (db : Database) (fine : (rule 
 
   -- THE NAMES' PLAN
   pub names_are : IsPermutation (rows_of schema (names_plan schema rules) db) (map name_row (graph_names (dataset_of schema rules db)))
-  names_are = bag_trans (bag_same
+  names_are = IsPermutation-trans _ _ _ (bag_same
       (union_rows schema db 1 (λ rule. rule_member schema rule (graph_exprs rule) [] (graph_test Each rule.graph)) rules
       ∙ ap (distinct one_row) (flat_map_agree_on (λ rule. rows_or_none schema db (rule_member schema rule (graph_exprs rule) [] (graph_test Each rule.graph))) (λ rule. map name_row (names_of rule)) rules names_rule
       ∙ sym (map-flat_map name_row names_of rules) ∙ ap (map name_row) (sym all_names))
       ∙ sym (distinct_map_on term_eq one_row name_row (filter_map (λ q. q.graph) (all_quads schema rules db)) (λ x y c d. and-true (term_eq x y)))))
-      (bag_map name_row (bag_distinct_members terms_apart same_names))
+      (IsPermutation-map name_row _ _ (bag_distinct_members terms_apart same_names))
     where
       same_names : HasSameMembers (filter_map (λ q. q.graph) (all_quads schema rules db)) (filter_map (λ q. q.graph) (dataset_of schema rules db))
       same_names = subst (λ xs. HasSameMembers xs (filter_map (λ q. q.graph) (dataset_of schema rules db))) (sym (filter_map_is_flat_map (λ q. q.graph) (all_quads schema rules db)))

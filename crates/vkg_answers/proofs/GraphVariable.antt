@@ -9,9 +9,10 @@ use Rattle.vkg_lists.proofs.Tests.{nat_test}
 use Rattle.vkg_lists.proofs.Counts.{eq_itself, eq_same, eq_comm}
 use Rattle.vkg_lists.proofs.Distinct.{IsDistinct-distinct}
 use Rattle.vkg_lists.proofs.Groups.{bag_groups}
-use Rattle.vkg_lists.proofs.Bags.{bag_refl, bag_same, bag_sym, bag_trans, bag_map, bag_filter}
+use Rattle.std.proofs.lemmas.List.Sorted.{IsPermutation-map, IsPermutation-refl, IsPermutation-sym, IsPermutation-trans}
+use Rattle.vkg_lists.proofs.Bags.{bag_same, bag_filter, bag_flat_map_each_on}
 use Rattle.vkg_lists.proofs.Walks.{map-map, filter-flat_map, map-flat_map}
-use Rattle.vkg_lists.proofs.Members.{Contains-here, Contains-there, Contains-from_map, Contains-from_filter, filter_agree_on, bag_flat_map_each_on}
+use Rattle.vkg_lists.proofs.Members.{Contains-here, Contains-there, Contains-from_map, Contains-from_filter, filter_agree_on}
 use Rattle.vkg_lists.proofs.Bools.{or_right, same_truth}
 use Rattle.vkg_lists.proofs.Onto.{or_none}
 use Rattle.vkg_lists.proofs.Rows.{agree_none}
@@ -162,11 +163,11 @@ module _ (n : ℕ) (d : Dataset) (vs : List ℕ) (v : ℕ) (within : v < n) wher
     are_rows = λ row c.
         let x = Contains-from_map graph_row (filter graph_test rows) row c in
         subst (IsRowOf d Default (each_once (v ∷ vs))) x.2 (graph_row_fine x.0 (a.are_rows x.0 (Contains-from_filter graph_test rows x.0 x.1).0));
-    bag = bag_trans (bag_same (map-map (solution_of n (each_once (v ∷ vs))) graph_row (filter graph_test rows)))
-        (bag_trans (bag_map solution (bag_filter graph_test (bag_sym grouped)))
-        (bag_trans (bag_same (ap (map solution) (filter-flat_map graph_test part (graph_names d)) ∙ map-flat_map solution (λ j. filter graph_test (part j)) (graph_names d)))
+    bag = IsPermutation-trans _ _ _ (bag_same (map-map (solution_of n (each_once (v ∷ vs))) graph_row (filter graph_test rows)))
+        (IsPermutation-trans _ _ _ (IsPermutation-map solution _ _ (bag_filter graph_test (IsPermutation-sym _ _ grouped)))
+        (IsPermutation-trans _ _ _ (bag_same (ap (map solution) (filter-flat_map graph_test part (graph_names d)) ∙ map-flat_map solution (λ j. filter graph_test (part j)) (graph_names d)))
         (bag_flat_map_each_on (λ j. map solution (filter graph_test (part j))) (λ i. join (A (Some i)) (only n v i ∷ [])) (graph_names d) (λ j c.
-        bag_trans (bag_same (in_one j (part j) (in_part j) ∙ ap (λ xs. join (solutions_of n vs xs) (only n v j ∷ [])) (part_is j))) (bag_join {rs = only n v j ∷ []} {ss = only n v j ∷ []} (a.bag (Some j) (j, refl, c)) bag_refl)))));
+        IsPermutation-trans _ _ _ (bag_same (in_one j (part j) (in_part j) ∙ ap (λ xs. join (solutions_of n vs xs) (only n v j ∷ [])) (part_is j))) (bag_join {rs = only n v j ∷ []} {ss = only n v j ∷ []} (a.bag (Some j) (j, refl, c)) (IsPermutation-refl _))))));
   }
     where
       solution : Row → Solution

@@ -9,7 +9,8 @@ use Rattle.vkg_lists.proofs.Counts.{eq_comm}
 use Rattle.vkg_lists.proofs.Distinct.{IsDistinct-distinct}
 use Rattle.vkg_lists.proofs.SameMembers.{members_bag}
 use Rattle.vkg_lists.proofs.Groups.{flat_map_only}
-use Rattle.vkg_lists.proofs.Bags.{bag_refl, bag_same, bag_trans, bag_map, bag_filter, bag_flat_map}
+use Rattle.std.proofs.lemmas.List.Sorted.{IsPermutation-map, IsPermutation-refl, IsPermutation-trans}
+use Rattle.vkg_lists.proofs.Bags.{bag_same, bag_filter, bag_flat_map}
 use Rattle.vkg_lists.proofs.Walks.{map-map}
 use Rattle.vkg_lists.proofs.Members.{Contains-none, Contains-from_map, Contains-from_flat_map, filter_keeps}
 use Rattle.vkg_terms.specs.declared.term.Term.{Term}
@@ -49,19 +50,19 @@ to_named d i vs row h = record { size = h.size; cells = h.cells; graph = tt }
 pub plain_named : (n : ℕ) (d : Dataset) (i : List ℕ) (vs : List ℕ) (rows : List Row) (A : Option Term → List Solution) → Stands n d (InGraph i) vs rows A → Plain n d vs rows (A (Some (Iri i)))
 plain_named n d i vs rows A a = record {
   are_rows = λ row c. in_named d i vs row (a.are_rows row c);
-  bag = bag_trans (bag_same (ap (map (solution_of n vs)) (sym (filter_keeps (belongs (InGraph i) (length vs) (Some (Iri i))) rows (λ x c. refl))))) (a.bag (Some (Iri i)) refl);
+  bag = IsPermutation-trans _ _ _ (bag_same (ap (map (solution_of n vs)) (sym (filter_keeps (belongs (InGraph i) (length vs) (Some (Iri i))) rows (λ x c. refl))))) (a.bag (Some (Iri i)) refl);
 }
 
 pub stands_default : (n : ℕ) (d : Dataset) (vs : List ℕ) (rows : List Row) (S : List Solution) → Plain n d vs rows S → Stands n d Default vs rows (λ g. S)
 stands_default n d vs rows S a = record {
   are_rows = a.are_rows;
-  bag = λ g h. bag_trans (bag_same (ap (map (solution_of n vs)) (filter_keeps (belongs Default (length vs) g) rows (λ x c. refl)))) a.bag;
+  bag = λ g h. IsPermutation-trans _ _ _ (bag_same (ap (map (solution_of n vs)) (filter_keeps (belongs Default (length vs) g) rows (λ x c. refl)))) a.bag;
 }
 
 pub stands_named : (n : ℕ) (d : Dataset) (i : List ℕ) (vs : List ℕ) (rows : List Row) (S : List Solution) → Plain n d vs rows S → Stands n d (InGraph i) vs rows (λ g. S)
 stands_named n d i vs rows S a = record {
   are_rows = λ row c. to_named d i vs row (a.are_rows row c);
-  bag = λ g h. bag_trans (bag_same (ap (map (solution_of n vs)) (filter_keeps (belongs (InGraph i) (length vs) g) rows (λ x c. refl)))) a.bag;
+  bag = λ g h. IsPermutation-trans _ _ _ (bag_same (ap (map (solution_of n vs)) (filter_keeps (belongs (InGraph i) (length vs) g) rows (λ x c. refl)))) a.bag;
 }
 
 -- ---- a plan after another one, whose rows have m columns
@@ -88,13 +89,13 @@ after_typed vs m l r h p v = subst IsTermCell (sym (cell_at-right l r (m + k) k 
 -- the one that has a row without columns, or none
 pub after_exists : (n : ℕ) (d : Dataset) (vs : List ℕ) (b : Bool) (rows : List Row) (S : List Solution) → Plain n d vs rows S →
     Plain n d vs (map (after_row vs 0 []) (filter (holds (truth_const true)) (product ((if b then [] ∷ [] else []) ∷ rows ∷ [])))) (if b then S else [])
-after_exists n d vs false rows S a = record { are_rows = λ row c. absurd (Contains-none row c); bag = bag_refl }
+after_exists n d vs false rows S a = record { are_rows = λ row c. absurd (Contains-none row c); bag = IsPermutation-refl _ }
 after_exists n d vs true rows S a = Prim.rw (product-two ([] ∷ []) rows, filter_keeps (holds (truth_const true)) (pairs ([] ∷ []) rows) (λ x c. refl), append-nil (map (λ r. [] ++ r) rows)) (record {
   are_rows = λ row c.
       let x = Contains-from_map (after_row vs 0 []) (map (λ r. [] ++ r) rows) row c in
       let y = Contains-from_map (λ r. [] ++ r) rows x.0 x.1 in
       subst (IsRowOf d Default vs) (ap (after_row vs 0 []) y.2 ∙ x.2) (projected d Default (column vs 0) vs (Col 0) ([] ++ y.0) (after_typed vs 0 [] y.0 refl (a.are_rows y.0 y.1).cells) tt);
-  bag = bag_trans (bag_same (same_solutions rows)) a.bag;
+  bag = IsPermutation-trans _ _ _ (bag_same (same_solutions rows)) a.bag;
 })
   where
     same_solutions : (xs : List Row) → solutions_of n vs (map (after_row vs 0 []) (map (λ r. [] ++ r) xs)) ≡ solutions_of n vs xs
@@ -153,5 +154,5 @@ after_names n d vs names rows S p narrow a = Prim.rw (product-two names rows, fi
     in_each None h = let e : None ≡ Some h.0 = h.1 in cc
     in_each (Some i) h =
         let e : i ≡ h.0 = cc in
-        bag_trans (bag_map (solution_of n vs) (bag_filter (hidden_is (length vs) i) (bag_map proj (bag_flat_map (λ l. map (λ r. l ++ r) rows) p))))
-        (bag_trans (bag_same (in_one i (graph_names d) ∙ flat_map_only terms_apart (graph_names d) i (solutions_of n vs rows) (IsDistinct-distinct term_eq _) (subst (Contains (graph_names d)) (sym e) h.2))) a.bag)
+        IsPermutation-trans _ _ _ (IsPermutation-map (solution_of n vs) _ _ (bag_filter (hidden_is (length vs) i) (IsPermutation-map proj _ _ (bag_flat_map (λ l. map (λ r. l ++ r) rows) p))))
+        (IsPermutation-trans _ _ _ (bag_same (in_one i (graph_names d) ∙ flat_map_only terms_apart (graph_names d) i (solutions_of n vs rows) (IsDistinct-distinct term_eq _) (subst (Contains (graph_names d)) (sym e) h.2))) a.bag)

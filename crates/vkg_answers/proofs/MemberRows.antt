@@ -6,7 +6,8 @@ use Rattle.std.specs.List.Sorted.{IsPermutation}
 use Rattle.std.proofs.lemmas.List.Elements.{Contains-append_cases}
 use Rattle.std.specs.List.{zip}
 use Rattle.vkg_lists.proofs.Results.{some_of}
-use Rattle.vkg_lists.proofs.Bags.{bag_same, bag_trans, bag_sym}
+use Rattle.std.proofs.lemmas.List.Sorted.{IsPermutation-sym, IsPermutation-trans}
+use Rattle.vkg_lists.proofs.Bags.{bag_same}
 use Rattle.vkg_lists.proofs.Counts.{eq_itself, eq_same}
 use Rattle.vkg_lists.proofs.Distinct.{Contains-from_distinct, Contains-distinct, distinct_map_on, filter-distinct}
 use Rattle.vkg_lists.proofs.Members.{Contains-none, Contains-here, Contains-there, Contains-from_map, Contains-from_filter, Contains-from_flat_map, Contains-flat_map, Contains-filter_map, Contains-only}
@@ -252,13 +253,13 @@ module _ (schema : Tables) (rules : List RowRule) (db : Database) (n : ℕ) (p :
       where
         whole : (g : Option Term) → IsIn d mode g →
             IsPermutation (map (λ row. named_solution n (zip (pattern_names mode p) row)) (filter (λ row. graphs_fit (hidden_in mode g) (zip (pattern_names mode p) row)) (distinct one_row all_rows))) (pattern_solutions n p (graph_of d g))
-        whole g h = bag_trans (bag_same
+        whole g h = IsPermutation-trans _ _ _ (bag_same
             (ap (map solution) (filter-distinct rows_apart fits all_rows)
             ∙ distinct_map_on one_row solution_eq solution (filter fits all_rows)
             (λ x y a b. let s = Contains-from_filter fits all_rows x a in let t = Contains-from_filter fits all_rows y b in
             solution_says n d mode (pattern_names mode p) g h x y (any_row x s.0) (any_row y t.0) s.1 t.1)
             ∙ ap (distinct solution_eq) (rules_answer schema db n d mode g h p below rules (λ rule c row k. (fine rule c row k).never))))
-            (bag_sym (quads_once (triple_solutions n p) g (triple_once n p (pattern_below n p below)) (quad_apart n p below) (flat_map (quads_of schema db) rules)))
+            (IsPermutation-sym _ _ (quads_once (triple_solutions n p) g (triple_once n p (pattern_below n p below)) (quad_apart n p below) (flat_map (quads_of schema db) rules)))
           where
             solution : Row → Solution
             solution = row_solution schema db n d mode g h p below

@@ -7,7 +7,8 @@ use Rattle.vkg_lists.specs.Sets.{distinct}
 use Rattle.vkg_lists.proofs.Counts.{eq_same}
 use Rattle.vkg_lists.proofs.Distinct.{IsDistinct-distinct, IsDistinct-flat_map, Contains-from_distinct, HasSameMembers-distinct, bag_from_members, filter-distinct}
 use Rattle.vkg_lists.proofs.SameMembers.{members_refl, members_sym, members_trans, members_flat_map}
-use Rattle.vkg_lists.proofs.Bags.{bag_same, bag_trans}
+use Rattle.std.proofs.lemmas.List.Sorted.{IsPermutation-trans}
+use Rattle.vkg_lists.proofs.Bags.{bag_same}
 use Rattle.vkg_lists.proofs.Members.{Contains-from_filter}
 use Rattle.vkg_terms.specs.declared.term.Term.{Term}
 use Rattle.vkg_terms.specs.NQuads.{Quad}
@@ -22,7 +23,7 @@ module _ (f : Quad → List Solution) (g : Option Term)
     (one : (q : Quad) → IsDistinct solution_eq (f q))
     (apart : (q r : Quad) (s : Solution) → q.graph ≡ r.graph → Contains (f q) s → Contains (f r) s → q ≡ r) where
   pub quads_once : (qs : List Quad) → IsPermutation (flat_map f (filter (λ q. graph_eq q.graph g) (distinct quad_eq qs))) (distinct solution_eq (flat_map f (filter (λ q. graph_eq q.graph g) qs)))
-  quads_once qs = bag_trans (bag_same (ap (flat_map f) (filter-distinct quads_apart (λ q. graph_eq q.graph g) qs)))
+  quads_once qs = IsPermutation-trans _ _ _ (bag_same (ap (flat_map f) (filter-distinct quads_apart (λ q. graph_eq q.graph g) qs)))
       (bag_from_members solution_test (flat_map f (distinct quad_eq here)) (distinct solution_eq (flat_map f here))
       (IsDistinct-flat_map quads_apart solution_test f (distinct quad_eq here) (IsDistinct-distinct quad_eq here) (λ q c. one q) (λ q r s c e k l. apart q r s (in_graph q c ∙ sym (in_graph r e)) k l))
       (IsDistinct-distinct solution_eq (flat_map f here))

@@ -5,7 +5,8 @@ use Rattle.std.specs.Option.{option_map_or}
 use Rattle.std.specs.List.{range_with_len}
 use Rattle.std.proofs.lemmas.List.{map-append}
 use Rattle.std.proofs.lemmas.List.Elements.{filter-append, Contains-append_cases}
-use Rattle.vkg_lists.proofs.Bags.{bag_same, bag_trans, bag_append, bag_filter}
+use Rattle.std.proofs.lemmas.List.Sorted.{IsPermutation-append, IsPermutation-trans}
+use Rattle.vkg_lists.proofs.Bags.{bag_same, bag_filter}
 use Rattle.vkg_lists.proofs.Walks.{filter-map, filter_comm, map-map}
 use Rattle.vkg_lists.proofs.Members.{Contains-from_map, Contains-from_filter, filter_agree_on}
 use Rattle.vkg_terms.specs.Same.{term_eq}
@@ -40,7 +41,7 @@ module _ (n : ℕ) (d : Dataset) (mode : Mode) (vs : List ℕ) (below : AreBelow
   pub filter_stands : Stands n d mode vs (filter (holds (truth_expr (visible_column vs) c)) rows) (λ g. filter (algebra.holds c) (A g))
   filter_stands = record {
     are_rows = λ row k. a.are_rows row (Contains-from_filter (holds (truth_expr (visible_column vs) c)) rows row k).0;
-    bag = λ g h. bag_trans (bag_same (equal g)) (bag_filter (algebra.holds c) (a.bag g h));
+    bag = λ g h. IsPermutation-trans _ _ _ (bag_same (equal g)) (bag_filter (algebra.holds c) (a.bag g h));
   }
     where
       equal : (g : Option Term) → solutions_of n vs (filter (belongs mode (length vs) g) (filter (holds (truth_expr (visible_column vs) c)) rows)) ≡ filter (algebra.holds c) (solutions_of n vs (filter (belongs mode (length vs) g) rows))
@@ -74,7 +75,7 @@ module _ (n : ℕ) (d : Dataset) (mode : Mode) (all vs : List ℕ) (more : (v : 
     are_rows = λ row k.
         let x = Contains-from_map (widened mode all vs) rows row k in
         subst (IsRowOf d mode all) x.2 (projected d mode (visible_column vs) all (Col (length vs)) x.0 (read_typed vs x.0 (a.are_rows x.0 x.1).cells) (graph_cell d mode vs x.0 (a.are_rows x.0 x.1)));
-    bag = λ g h. bag_trans (bag_same (equal g)) (a.bag g h);
+    bag = λ g h. IsPermutation-trans _ _ _ (bag_same (equal g)) (a.bag g h);
   }
     where
       equal : (g : Option Term) → solutions_of n all (filter (belongs mode (length all) g) (map (widened mode all vs) rows)) ≡ solutions_of n vs (filter (belongs mode (length vs) g) rows)
@@ -86,5 +87,5 @@ module _ (n : ℕ) (d : Dataset) (mode : Mode) (all vs : List ℕ) (more : (v : 
 pub append_stands : (n : ℕ) (d : Dataset) (mode : Mode) (vs : List ℕ) (xs ys : List Row) (A B : Option Term → List Solution) → Stands n d mode vs xs A → Stands n d mode vs ys B → Stands n d mode vs (xs ++ ys) (λ g. A g ++ B g)
 append_stands n d mode vs xs ys A B a b = record {
   are_rows = λ row k. ⊎_elim (a.are_rows row) (b.are_rows row) (Contains-append_cases xs ys row k);
-  bag = λ g h. bag_trans (bag_same (ap (map (solution_of n vs)) (filter-append (belongs mode (length vs) g) xs ys) ∙ map-append (solution_of n vs) (filter (belongs mode (length vs) g) xs) (filter (belongs mode (length vs) g) ys))) (bag_append (a.bag g h) (b.bag g h));
+  bag = λ g h. IsPermutation-trans _ _ _ (bag_same (ap (map (solution_of n vs)) (filter-append (belongs mode (length vs) g) xs ys) ∙ map-append (solution_of n vs) (filter (belongs mode (length vs) g) xs) (filter (belongs mode (length vs) g) ys))) (IsPermutation-append _ _ _ _ (a.bag g h) (b.bag g h));
 }

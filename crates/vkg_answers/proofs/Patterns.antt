@@ -10,7 +10,8 @@ use Rattle.std.proofs.lemmas.List.Elements.{Contains-append_cases}
 use Rattle.std.proofs.lemmas.List.Folds.{list_any-append}
 use Rattle.vkg_lists.proofs.Tests.{nat_test}
 use Rattle.vkg_lists.proofs.Distinct.{any_of-distinct}
-use Rattle.vkg_lists.proofs.Bags.{bag_same, bag_trans, bag_map}
+use Rattle.std.proofs.lemmas.List.Sorted.{IsPermutation-map, IsPermutation-trans}
+use Rattle.vkg_lists.proofs.Bags.{bag_same}
 use Rattle.vkg_lists.proofs.Counts.{eq_comm}
 use Rattle.vkg_lists.proofs.Walks.{filter-map, filter-filter, map-map}
 use Rattle.vkg_lists.proofs.Members.{Contains-none, Contains-here, Contains-there, Contains-from_map, Contains-from_filter, Contains-from_flat_map, map_agree_on, filter_agree_on, each_of_all, all_of_each}
@@ -292,7 +293,7 @@ module _ (schema : Tables) (rules : List RowRule) (n : ℕ) (d : Dataset) (db : 
             (graph_cell_of mode x.0 (named x.0 y) (product_graph n d mode (pattern_rows mode) p ps h x.0 y)))
 
         bag_fine : (g : Option Term) → IsIn d mode g → IsPermutation (solutions_of n vis (filter (belongs mode (length vis) g) (map (proj mode) (filter condition X)))) (bgp_solutions n (p ∷ ps) (graph_of d g))
-        bag_fine g k = bag_trans (bag_same
+        bag_fine g k = IsPermutation-trans _ _ _ (bag_same
             (ap (map (solution_of n vis)) (filter-map (belongs mode (length vis) g) (proj mode) (filter condition X))
             ∙ map-map (solution_of n vis) (proj mode) (filter (λ row. belongs mode (length vis) g (proj mode row)) (filter condition X))
             ∙ ap (map (λ row. solution_of n vis (proj mode row))) (filter-filter (λ row. belongs mode (length vis) g (proj mode row)) condition X
@@ -301,4 +302,4 @@ module _ (schema : Tables) (rules : List RowRule) (n : ℕ) (d : Dataset) (db : 
             ∙ map_agree_on (λ row. solution_of n vis (proj mode row)) (λ row. without (labels_of (p ∷ ps)) (named_solution n (cells mode row))) (filter (fits n d mode (pattern_rows mode) g (p ∷ ps)) X)
             (λ row c. solution_is mode row (named row (Contains-from_filter (fits n d mode (pattern_rows mode) g (p ∷ ps)) X row c).0))
             ∙ sym (map-map (without (labels_of (p ∷ ps))) (λ row. named_solution n (cells mode row)) (filter (fits n d mode (pattern_rows mode) g (p ∷ ps)) X))))
-            (bag_map (without (labels_of (p ∷ ps))) (product_bag n d mode (pattern_rows mode) (p ∷ ps) h g k))
+            (IsPermutation-map (without (labels_of (p ∷ ps))) _ _ (product_bag n d mode (pattern_rows mode) (p ∷ ps) h g k))

@@ -6,7 +6,8 @@ use Rattle.std.specs.Option.{option_eq}
 use Rattle.vkg_lists.specs.Ascending.{ascending}
 use Rattle.vkg_lists.specs.Sets.{distinct}
 use Rattle.vkg_lists.proofs.Ascending.{same_ascending}
-use Rattle.vkg_lists.proofs.Bags.{bag_same, bag_trans, bag_map}
+use Rattle.std.proofs.lemmas.List.Sorted.{IsPermutation-map, IsPermutation-trans}
+use Rattle.vkg_lists.proofs.Bags.{bag_same}
 use Rattle.vkg_lists.proofs.Distinct.{bag_distinct, distinct_map_on}
 use Rattle.vkg_lists.proofs.Members.{Contains-from_map, filter_keeps}
 use Rattle.vkg_lists.proofs.Walks.{map-map}
@@ -83,12 +84,12 @@ module _ (schema : Tables) (rules : List RowRule) (query : Query) (db : Database
 
   bag : IsPermutation (map row_solution rows) (map (projected (selected_variables query)) found)
   bag = let stands = unfolded_rows schema rules (length query.names) db meets (algebra_of query) Default lawful in
-      bag_trans (bag_same
+      IsPermutation-trans _ _ _ (bag_same
       (map-map row_solution selected (rows_of schema inner db)
       ∙ (λ i. map (λ row. terms_are (length query.names) (visible (algebra_of query)) (selected_variables query) row (visible_below (length query.names) (algebra_of query) lawful) i)
       (sym (filter_keeps (belongs Default (length (visible (algebra_of query))) None) (rows_of schema inner db) (λ x c. refl)) i))
       ∙ sym (map-map (projected (selected_variables query)) (solution_of (length query.names) (visible (algebra_of query))) (filter (belongs Default (length (visible (algebra_of query))) None) (rows_of schema inner db)))))
-      (bag_map (projected (selected_variables query)) (stands.bag None refl))
+      (IsPermutation-map (projected (selected_variables query)) _ _ (stands.bag None refl))
 
   typed : (row : Row) → AreTermCells row → (us : List ℕ) → AreTermCells (map (λ e. value_of e row) (map (visible_column (visible (algebra_of query))) us))
   typed row h [] = cells-nil
@@ -106,14 +107,14 @@ module _ (schema : Tables) (rules : List RowRule) (query : Query) (db : Database
       of : (b : Bool) → IsPermutation
           (map row_solution (rows_of schema (if b then Distinct (Project columns inner) else Project columns inner) db))
           (if b then distinct solution_eq (map (projected (selected_variables query)) found) else map (projected (selected_variables query)) found)
-      of true = bag_trans (bag_same
+      of true = IsPermutation-trans _ _ _ (bag_same
           (ap (λ rs. map row_solution (distinct one_row rs)) (project_rows schema db columns inner)
           ∙ distinct_map_on one_row solution_eq row_solution rows (λ x y c d. same_rows x y (rows_typed x c) (rows_typed y d))))
           (bag_distinct solution_test bag)
-      of false = bag_trans (bag_same (ap (map row_solution) (project_rows schema db columns inner))) bag
+      of false = IsPermutation-trans _ _ _ (bag_same (ap (map row_solution) (project_rows schema db columns inner))) bag
 
   start_lines : (rows : List Row) → IsPermutation rows (rows_of schema (start_plan schema rules query) db) → IsPermutation (map row_line rows) (map solution_line (solutions_of query (dataset_of schema rules db)))
-  start_lines rows p = bag_trans (bag_same (lines_are rows)) (bag_map solution_line (bag_trans (bag_map row_solution p) start_solutions))
+  start_lines rows p = IsPermutation-trans _ _ _ (bag_same (lines_are rows)) (IsPermutation-map solution_line _ _ (IsPermutation-trans _ _ _ (IsPermutation-map row_solution _ _ p) start_solutions))
 
   pub start_answer : (rows : List Row) → IsPermutation rows (rows_of schema (start_plan schema rules query) db) →
       header query ∷ ascending (map row_line rows) ≡ header query ∷ ascending (map solution_line (solutions_of query (dataset_of schema rules db)))

@@ -6,7 +6,8 @@ use Rattle.std.specs.Option.{option_or}
 use Rattle.std.specs.List.Sorted.{IsPermutation}
 use Rattle.std.proofs.lemmas.List.Elements.{Contains-append_cases}
 use Rattle.std.proofs.Math.Bool.{and-true}
-use Rattle.vkg_lists.proofs.Bags.{bag_same, bag_trans, bag_append, bag_filter, bag_filter_agree, IsPermutation-induction}
+use Rattle.std.proofs.lemmas.List.Sorted.{IsPermutation-append, IsPermutation-trans}
+use Rattle.vkg_lists.proofs.Bags.{bag_same, bag_filter, bag_filter_agree, IsPermutation-induction}
 use Rattle.vkg_lists.proofs.Onto.{or_none}
 use Rattle.vkg_lists.proofs.Walks.{filter-map, filter-filter, map-map}
 use Rattle.vkg_lists.proofs.Members.{Contains-from_map, Contains-from_filter, Contains-from_flat_map, recursion_from_each}
@@ -59,7 +60,7 @@ list_all-permutation {A} p = IsPermutation-induction (λ xs ys. list_all p xs �
     turned false false c = refl
 
 bag_left_join : (hold : Solution → Bool) {ls ms rs ss : List Solution} → IsPermutation ls ms → IsPermutation rs ss → IsPermutation (left_join hold ls rs) (left_join hold ms ss)
-bag_left_join hold b c = bag_append (bag_filter hold (bag_join b c)) (bag_filter_agree (λ l. list_all-permutation (λ r. not (compatible l r && hold (merge l r))) c) b)
+bag_left_join hold b c = IsPermutation-append _ _ _ _ (bag_filter hold (bag_join b c)) (bag_filter_agree (λ l. list_all-permutation (λ r. not (compatible l r && hold (merge l r))) c) b)
 
 -- ---- rows of a Project
 
@@ -162,7 +163,7 @@ module _ (n : ℕ) (d : Dataset) (mode : Mode) (vs ws : List ℕ) (below : AreBe
   -- JOIN
   pub join_stands : Stands n d mode (each_once (vs ++ ws)) (map (project_merged mode vs ws) (filter (holds (and_of (agreement mode vs ws))) (product (ls ∷ rs ∷ [])))) (λ g. join (A g) (B g))
   unfolding here there
-  join_stands = Prim.rw (product-two ls rs, ← append-nil (agreement mode vs ws)) (record { are_rows = rows_fine; bag = λ g h. bag_trans (bag_same (equal g h)) (bag_join (a.bag g h) (b.bag g h)) })
+  join_stands = Prim.rw (product-two ls rs, ← append-nil (agreement mode vs ws)) (record { are_rows = rows_fine; bag = λ g h. IsPermutation-trans _ _ _ (bag_same (equal g h)) (bag_join (a.bag g h) (b.bag g h)) })
     where
       rows_fine : (row : Row) → Contains (map (project_merged mode vs ws) (filter (joined d vs ws [] mode) (pairs ls rs))) row → IsRowOf d mode (each_once (vs ++ ws)) row
       rows_fine row c =
@@ -210,7 +211,7 @@ module _ (n : ℕ) (d : Dataset) (mode : Mode) (vs ws : List ℕ) (below : AreBe
     pub left_stands : Stands n d mode (each_once (vs ++ ws))
         (map (project_merged mode vs ws) (left_pairs (holds (and_of (agreement mode vs ws ++ condition_of (merged mode vs ws) c))) m ls rs)) (λ g. left_join (algebra.holds_if_any c) (A g) (B g))
     unfolding here there
-    left_stands = record { are_rows = rows_fine; bag = λ g h. bag_trans (bag_same (equal g h)) (bag_left_join (algebra.holds_if_any c) (a.bag g h) (b.bag g h)) }
+    left_stands = record { are_rows = rows_fine; bag = λ g h. IsPermutation-trans _ _ _ (bag_same (equal g h)) (bag_left_join (algebra.holds_if_any c) (a.bag g h) (b.bag g h)) }
       where
         cs : List Expr
         cs = condition_of (merged mode vs ws) c

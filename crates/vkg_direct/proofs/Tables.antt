@@ -23,7 +23,7 @@ use Rattle.vkg_maps.specs.QuadRules.{class_map, parent_of, object_rule, predicat
 use Rattle.vkg_maps.specs.Dataset.{quad_from, quad_of, quads_of_rule}
 use Rattle.vkg_direct.specs.DirectGraph.{table_iri, column_iri, reference_iri, row_node, triple, literal_triple, reference_triples, row_graph}
 use Rattle.vkg_direct.specs.DirectMapping.{column_property, reference_property, direct_map}
-use Rattle.vkg_lists.proofs.Members.{Contains-here, Contains-there, Contains-cons_cases, Contains-from_flat_map, Contains-flat_map, Contains-from_map, Contains-map, Contains-filter_map, Contains-first, Contains-only, Contains-from_filter_map, Contains-from_filter}
+use Rattle.vkg_lists.proofs.Members.{Contains-here, Contains-there, Contains-cons_cases, Contains-from_flat_map, Contains-flat_map, Contains-from_map, Contains-map, Contains-filter_map, Contains-only, Contains-from_filter_map, Contains-from_filter}
 
 -- each term map of the table makes what the direct graph has, of this row
 pub record Makes (base : List ℕ) (tables : List Table) (maps : List TriplesMap) (db : Database) (k : ℕ) (table : Table) (row : Row) : Type 0 where
@@ -94,7 +94,7 @@ module _ (base : List ℕ) (tables : List Table) (maps : List TriplesMap) (db : 
   references_of row = flat_map (reference_triples base tables db table row) table.references
 
   in_head : (row : Row) (q : Quad) → head row ≡ q → Contains (row_graph base tables db table row) q
-  in_head row q e = Contains-append_left (head row ∷ literals_of row) (references_of row) q (Contains-first (head row) q (literals_of row) e)
+  in_head row q e = Contains-append_left (head row ∷ literals_of row) (references_of row) q (subst (Contains (head row ∷ literals_of row)) e (Contains-here (head row) (literals_of row)))
 
   in_literals : (row : Row) (q : Quad) → Contains (literals_of row) q → Contains (row_graph base tables db table row) q
   in_literals row q h = Contains-append_left (head row ∷ literals_of row) (references_of row) q (Contains-there (head row) (literals_of row) q h)

@@ -12,7 +12,8 @@ use Rattle.std.proofs.lemmas.Map.Keys.{IsDistinct-IsPermutation}
 use Rattle.vkg_lists.specs.Ascending.{put_in, ascending_by, ascending, ascending_once}
 use Rattle.vkg_lists.specs.Sets.{IsLinearOrder, HasSameMembers, distinct}
 use Rattle.vkg_lists.specs.Texts.{bytes_cmp}
-use Rattle.vkg_lists.proofs.Bags.{bag_refl, bag_sym, bag_trans, bag_cons, bag_exchange}
+use Rattle.std.proofs.lemmas.List.Sorted.{IsPermutation-cons, IsPermutation-refl, IsPermutation-sym, IsPermutation-trans}
+use Rattle.vkg_lists.proofs.Bags.{bag_exchange}
 use Rattle.vkg_lists.proofs.Members.{Contains-none, Contains-here, Contains-cons_cases}
 use Rattle.vkg_lists.proofs.SameMembers.{members_bag, members_sym, members_trans}
 use Rattle.vkg_lists.proofs.Counts.{eq_comm}
@@ -39,15 +40,15 @@ module _ {A : Type 0} {cmp : A → A → Ordering} (o : IsLinearOrder cmp) where
   up x y z k l = (ranks_by o.total (λ (w : A). w)).chain z y x l k
 
   pub put_in-bag : (x : A) (ys : List A) → IsPermutation (x ∷ ys) (put_in cmp x ys)
-  put_in-bag x [] = bag_refl
+  put_in-bag x [] = IsPermutation-refl _
   put_in-bag x (y ∷ ys) = elim (is_lt (cmp y x)) as (λ b. IsPermutation (x ∷ y ∷ ys) (cond b (y ∷ put_in cmp x ys) (x ∷ y ∷ ys))) [
-    | true ↦ bag_trans (bag_exchange (x ∷ []) (y ∷ []) ys) (bag_cons y (put_in-bag x ys))
-    | false ↦ bag_refl
+    | true ↦ IsPermutation-trans _ _ _ (bag_exchange (x ∷ []) (y ∷ []) ys) (IsPermutation-cons y _ _ (put_in-bag x ys))
+    | false ↦ IsPermutation-refl _
   ]
 
   pub ascending_by-bag : (xs : List A) → IsPermutation xs (ascending_by cmp xs)
-  ascending_by-bag [] = bag_refl
-  ascending_by-bag (x ∷ xs) = bag_trans (bag_cons x (ascending_by-bag xs)) (put_in-bag x (ascending_by cmp xs))
+  ascending_by-bag [] = IsPermutation-refl _
+  ascending_by-bag (x ∷ xs) = IsPermutation-trans _ _ _ (IsPermutation-cons x _ _ (ascending_by-bag xs)) (put_in-bag x (ascending_by cmp xs))
 
   pub put_in-sorted : (x : A) (ys : List A) → IsSorted cmp ys → IsSorted cmp (put_in cmp x ys)
   put_in-sorted x [] s = IsSorted-cons x [] (λ y c. absurd (Contains-none y c)) s
@@ -70,7 +71,7 @@ module _ {A : Type 0} {cmp : A → A → Ordering} (o : IsLinearOrder cmp) where
 
   -- what is in order and has the same elements as often is the ascending list
   pub ascending_by_is : (xs ys : List A) → IsPermutation xs ys → IsSorted cmp ys → ys ≡ ascending_by cmp xs
-  ascending_by_is xs ys p s = sorted_unique o ys (ascending_by cmp xs) s (ascending_by-sorted xs) (bag_trans (bag_sym p) (ascending_by-bag xs))
+  ascending_by_is xs ys p s = sorted_unique o ys (ascending_by cmp xs) s (ascending_by-sorted xs) (IsPermutation-trans _ _ _ (IsPermutation-sym _ _ p) (ascending_by-bag xs))
 
 -- ---- texts
 
@@ -79,7 +80,7 @@ ascending_is = ascending_by_is bytes_linear
 
 -- in whatever order the texts stood
 pub same_ascending : (xs ys : List (List ℕ)) → IsPermutation xs ys → ascending xs ≡ ascending ys
-same_ascending xs ys p = ascending_is ys (ascending xs) (bag_trans (bag_sym p) (ascending_by-bag bytes_linear xs)) (ascending_by-sorted bytes_linear xs)
+same_ascending xs ys p = ascending_is ys (ascending xs) (IsPermutation-trans _ _ _ (IsPermutation-sym _ _ p) (ascending_by-bag bytes_linear xs)) (ascending_by-sorted bytes_linear xs)
 
 pub ascending_once-members : (xs : List (List ℕ)) → HasSameMembers xs (ascending_once xs)
 ascending_once-members xs = members_trans (HasSameMembers-distinct bytes_test xs) (members_bag (ascending_by-bag bytes_linear (distinct bytes_eq xs)))

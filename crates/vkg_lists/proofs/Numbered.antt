@@ -4,7 +4,7 @@ use Rattle.std.specs.Prelude.{slice_get}
 use Rattle.std.specs.List.{Contains, enumerate_from}
 use Rattle.std.proofs.lemmas.Option.{same_Some}
 use Rattle.vkg_lists.proofs.Firsts.{opened}
-use Rattle.vkg_lists.proofs.Members.{Contains-none, Contains-here, Contains-there, Contains-first, Contains-cons_cases}
+use Rattle.vkg_lists.proofs.Members.{Contains-none, Contains-here, Contains-there, Contains-cons_cases}
 
 module _ {A : Type 0} where
   pub numbered : (n : ℕ) (xs : List A) (x : A) → Contains xs x → (k : ℕ) × Contains (enumerate_from n xs) (k, x)
@@ -32,7 +32,7 @@ module _ {A : Type 0} where
   pub numbered_member : (n : ℕ) (xs : List A) (p : ℕ × A) → Contains (enumerate_from n xs) p → Contains xs p.1
   numbered_member n [] p c = absurd (Contains-none p c)
   numbered_member n (x ∷ xs) p c = elim (Contains-cons_cases (n, x) (enumerate_from (n + 1) xs) p c) [
-    | inl e ↦ Contains-first x p.1 xs (ap (λ q. q.1) e)
+    | inl e ↦ subst (Contains (x ∷ xs)) (ap (λ q. q.1) e) (Contains-here x xs)
     | inr d ↦ Contains-there x xs p.1 (numbered_member (n + 1) xs p d)
   ]
 

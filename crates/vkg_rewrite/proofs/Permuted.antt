@@ -4,7 +4,7 @@ use Rattle.std.specs.Prelude.{IfOk, Result}
 use Rattle.std.specs.List.Sorted.{IsPermutation}
 use Rattle.std.proofs.lemmas.Result.{IfOk-weaker}
 use Rattle.vkg_lists.proofs.Ascending.{same_ascending}
-use Rattle.vkg_lists.proofs.Bags.{bag_map}
+use Rattle.std.proofs.lemmas.List.Sorted.{IsPermutation-map}
 use Rattle.vkg_base.specs.declared.memory.Memory.{Memory}
 use Rattle.vkg_schema.specs.Rows.{Row}
 use Rattle.vkg_sparql.specs.Query.{Query}
@@ -14,7 +14,7 @@ use Rattle.vkg_rewrite.specs.Lines.{result_lines}
 
 pub same_lines : (query : Query) (rows others : List Row) → IsPermutation rows others → result_lines query rows ≡ result_lines query others
 unfolding result_lines
-same_lines query rows others p = ap (λ (ls : List (List ℕ)). header query ∷ ls) (same_ascending (map row_line rows) (map row_line others) (bag_map row_line p))
+same_lines query rows others p = ap (λ (ls : List (List ℕ)). header query ∷ ls) (same_ascending (map row_line rows) (map row_line others) (IsPermutation-map row_line _ _ p))
 
 -- what has the lines of some rows has those of the same rows in another order
 pub lines_of_all : (made : Result (List (List ℕ)) Memory) (query : Query) (rows others : List Row) → IfOk made (λ lines. lines ≡ result_lines query rows) → IsPermutation rows others

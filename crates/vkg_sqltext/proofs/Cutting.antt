@@ -12,7 +12,7 @@ use Rattle.vkg_lists.proofs.Bools.{and_parts}
 use Rattle.vkg_lists.proofs.Heads.{head_same, tail_same}
 use Rattle.vkg_cells.proofs.Digits.{are-digits}
 use Rattle.vkg_sqltext.specs.Text.{doubled, quoted}
-use Rattle.vkg_terms.proofs.TextLemmas.{chars_same, starts}
+use Rattle.vkg_terms.proofs.TextLemmas.{chars_same, octet}
 
 -- bytes of another kind stand between
 pub stops_behind : (p q : ℕ → Bool) (w x : List ℕ) → list_all q w ≡ true → ((b : ℕ) → q b ≡ true → p b ≡ false) → stops p x ≡ true → stops p (w ++ x) ≡ true
@@ -54,10 +54,10 @@ module _ (sign : ℕ) (small : sign < 128) where
       (e ∙ sym f, tail_same c d x y (tail_same c d (c ∷ x) (d ∷ y) joined))
   one_same c d v w x y (inl (e, p)) (inr (n, r)) same =
       let joined : c ∷ c ∷ x ≡ encode d ++ y = sym (ap (λ (l : List ℕ). l ++ x) p) ∙ same ∙ ap (λ (l : List ℕ). l ++ y) r in
-      absurd (n (starts d c y (c ∷ x) (omega (arith, e, small)) joined ∙ e))
+      absurd (n ((octet d c y (c ∷ x) (omega (arith, e, small)) (sym joined)).0 ∙ e))
   one_same c d v w x y (inr (n, p)) (inl (f, r)) same =
       let joined : d ∷ d ∷ y ≡ encode c ++ x = sym (ap (λ (l : List ℕ). l ++ y) r) ∙ sym same ∙ ap (λ (l : List ℕ). l ++ x) p in
-      absurd (n (starts c d x (d ∷ y) (omega (arith, f, small)) joined ∙ f))
+      absurd (n ((octet c d x (d ∷ y) (omega (arith, f, small)) (sym joined)).0 ∙ f))
   one_same c d v w x y (inr (n, p)) (inr (m, r)) same =
       encode_same c d x y (sym (ap (λ (l : List ℕ). l ++ x) p) ∙ same ∙ ap (λ (l : List ℕ). l ++ y) r)
 
@@ -66,7 +66,7 @@ module _ (sign : ℕ) (small : sign < 128) where
   not_closed c v x y (inl (e, p)) same s =
       let joined : c ∷ c ∷ x ≡ sign ∷ y = sym (ap (λ (l : List ℕ). l ++ x) p) ∙ same in
       both_ways (c == sign) (not-true (c == sign) (subst (λ z. stops is_sign z ≡ true) (sym (tail_same c sign (c ∷ x) y joined)) s)) (eq-eqb c sign e)
-  not_closed c v x y (inr (n, p)) same s = n (starts c sign x y small (sym same ∙ ap (λ (l : List ℕ). l ++ x) p))
+  not_closed c v x y (inr (n, p)) same s = n ((octet c sign x y small (sym (sym same ∙ ap (λ (l : List ℕ). l ++ x) p))).0)
 
   body_same : (cs ds x y : List ℕ) → stops is_sign x ≡ true → stops is_sign y ≡ true → flat_map (doubled sign) cs ++ sign ∷ x ≡ flat_map (doubled sign) ds ++ sign ∷ y → (cs ≡ ds) × (x ≡ y)
   body_same [] [] x y s t same = (refl, tail_same sign sign x y same)
