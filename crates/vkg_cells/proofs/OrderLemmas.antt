@@ -2,9 +2,10 @@
 use Rattle.std.proofs.Common.{◌≡◌, ◌∙◌, ◌*◌, ◌^◌, ◌<◌, inl, inr, ℕ, zero, suc, Bool, true, false, List, [], ℤ, pos, refl, sym, ap, subst, arith, if◌then◌else◌}
 use Rattle.std.specs.Prelude.{neg_ℤ, ◌*ℤ◌}
 use Rattle.std.specs.Ordering.{bool_cmp, int_cmp, nat_cmp, on, then_cmp}
-use Rattle.std.specs.Cmp.{IsTotalOrder, bool_cmp_total, int_cmp_total, nat_cmp_total, on_total, then_total}
+use Rattle.std.specs.Cmp.{IsTotalOrder, bool_cmp_total, int_cmp_total, nat_cmp_is, nat_cmp_total, on_total, then_total}
 use Rattle.std.specs.Cmp.Lexicographic.{nat_list_cmp_total}
 use Rattle.std.specs.declared.cmp.Ordering.{Ordering}
+use Rattle.std.specs.declared.cmp.Ordering.TheVariants.{Less, Equal, Greater}
 use Rattle.std.proofs.Math.IntN.{pos-*ℤ-pos}
 use Rattle.std.proofs.Math.Nat.{mul-lt-mul_of_pos_right, mul-pos, mul_right_comm, one-le-pow, zero-mul}
 use Rattle.std.proofs.Math.Dec.{lit<}
@@ -15,7 +16,7 @@ use Rattle.vkg_cells.specs.declared.cell.Cell.TheVariants as cell
 use Rattle.vkg_cells.specs.Number.{is_negative, number_cmp, numerator, scale, size}
 use Rattle.vkg_cells.specs.Order.{family_of, order}
 use Rattle.vkg_cells.proofs.SignLemmas.{above-neg, cmp-neg, cmp-pos, neg-above, neg-times}
-use Rattle.vkg_cells.proofs.ValueLemmas.{cmp-equal, cmp-greater, cmp-less, then-equal}
+use Rattle.vkg_cells.proofs.ValueLemmas.{then-equal}
 use Rattle.vkg_terms.specs.declared.term.Term.{Term}
 use Rattle.vkg_terms.specs.declared.term.Term.TheVariants.{Iri}
 use Rattle.vkg_terms.specs.Same.{annotation_cmp, annotation_name, annotation_rank, term_annotation, term_cmp, term_name, term_rank}
@@ -29,9 +30,9 @@ signed-times false n m = pos-*ℤ-pos n m
 
 nat-scaled : (x y m : ℕ) → 0 < m → nat_cmp (x * m) (y * m) ≡ nat_cmp x y
 nat-scaled x y m h = elim (cases_order x y) [
-  | inl e ↦ rw (cmp-equal x y e) (cmp-equal (x * m) (y * m) (ap (λ n. n * m) e))
-  | inr (inl l) ↦ rw (cmp-less x y l) (cmp-less (x * m) (y * m) (mul-lt-mul_of_pos_right l h))
-  | inr (inr g) ↦ rw (cmp-greater x y g) (cmp-greater (x * m) (y * m) (mul-lt-mul_of_pos_right g h))
+  | inl e ↦ rw (sym (nat_cmp_is x y Equal e)) (sym (nat_cmp_is (x * m) (y * m) Equal (ap (λ n. n * m) e)))
+  | inr (inl l) ↦ rw (sym (nat_cmp_is x y Less l)) (sym (nat_cmp_is (x * m) (y * m) Less (mul-lt-mul_of_pos_right l h)))
+  | inr (inr g) ↦ rw (sym (nat_cmp_is x y Greater g)) (sym (nat_cmp_is (x * m) (y * m) Greater (mul-lt-mul_of_pos_right g h)))
 ]
 
 int-scaled : (p q : Bool) (x y m : ℕ) → 0 < m → int_cmp (signed p (x * m)) (signed q (y * m)) ≡ int_cmp (signed p x) (signed q y)

@@ -1,6 +1,7 @@
 -- Cells that are equal in the order are the same cell.
 use Rattle.std.proofs.Common.{◌≡◌, ◌∙◌, ℕ, Bool, true, false, List, refl, sym, length}
 use Rattle.std.specs.Ordering.{nat_cmp, ordering_then}
+use Rattle.std.specs.Cmp.{nat_cmp_is}
 use Rattle.std.specs.Cmp.Lexicographic.{slice_cmp}
 use Rattle.std.specs.declared.cmp.Ordering.{Ordering}
 use Rattle.std.specs.declared.cmp.Ordering.TheVariants.{Less, Equal, Greater}
@@ -10,7 +11,6 @@ use Rattle.vkg_lists.proofs.Orders.{then_equal}
 use Rattle.vkg_cells.specs.Number.{canonical, fraction, is_below_zero, is_decimal, number_cmp, whole, without_leading_zeros, without_trailing_zeros}
 use Rattle.vkg_cells.proofs.CanonicalLemmas.{is-read, spelled}
 use Rattle.vkg_cells.proofs.SignLemmas.{cmp-above, cmp-above-below, cmp-below, cmp-below-above, cmp-size, size_cmp}
-use Rattle.vkg_cells.proofs.ValueLemmas.{cmp-equal}
 
 -- the digits that count
 abbrev pub digits : List ℕ → List ℕ × List ℕ
@@ -27,7 +27,7 @@ abbrev digits_cmp : List ℕ × List ℕ → List ℕ × List ℕ → Ordering
 digits_cmp p q = ordering_then (ordering_then (nat_cmp (length p.0) (length q.0)) (slice_cmp nat_cmp p.0 q.0)) (slice_cmp nat_cmp p.1 q.1)
 
 digits-itself : (p : List ℕ × List ℕ) → digits_cmp p p ≡ Equal
-digits-itself p = rw (cmp-equal (length p.0) (length p.0) refl, tied_itself nat_list_cmp_total p.0, tied_itself nat_list_cmp_total p.1) refl
+digits-itself p = rw (sym (nat_cmp_is (length p.0) (length p.0) Equal refl), tied_itself nat_list_cmp_total p.0, tied_itself nat_list_cmp_total p.1) refl
 
 digits-size : (a b : List ℕ) → is_decimal a ≡ true → is_decimal b ≡ true → digits a ≡ digits b → size_cmp a b ≡ Equal
 digits-size a b da db e = sym (cmp-size a b da db) ∙ (λ i. digits_cmp (e i) (digits b)) ∙ digits-itself (digits b)

@@ -2,7 +2,7 @@
 use Rattle.std.proofs.Common.{◌≡◌, ◌∙◌, ◌+◌, ◌*◌, ◌^◌, ◌<◌, ◌++◌, inl, inr, ℕ, zero, suc, Bool, true, false, List, [], ◌∷◌, pos, negsuc, refl, sym, ap, arith, length, nat_lt, lit<}
 use Rattle.std.specs.Prelude.{neg_ℤ, ◌*ℤ◌, ◌<ℤ◌}
 use Rattle.std.specs.Ordering.{nat_cmp, int_cmp, ordering_then}
-use Rattle.std.specs.Cmp.{int_cmp_is, ranked}
+use Rattle.std.specs.Cmp.{int_cmp_is, nat_cmp_is, ranked}
 use Rattle.std.specs.Cmp.Lexicographic.{slice_cmp}
 use Rattle.std.specs.declared.cmp.Ordering.{Ordering}
 use Rattle.std.specs.declared.cmp.Ordering.TheVariants.{Less, Equal, Greater}
@@ -14,7 +14,7 @@ use Rattle.vkg_lists.proofs.Bools.{and_parts}
 use Rattle.vkg_cells.specs.Number.{digits_value, fraction, is_below_zero, is_decimal, is_negative, number_cmp, numerator, scale, size, whole, width, without_leading_zeros, without_trailing_zeros}
 use Rattle.std.specs.Str.Parse.{AllDigits}
 use Rattle.vkg_cells.proofs.Digits.{digits-parts, digits-some}
-use Rattle.vkg_cells.proofs.ValueLemmas.{cmp-less, cmp-equal, cmp-greater, cmp-scaled}
+use Rattle.vkg_cells.proofs.ValueLemmas.{cmp-scaled}
 
 -- the digits of a decimal, before and after the point
 pub decimal-parts : (text : List ℕ) → is_decimal text ≡ true → AllDigits 10 (whole text) × AllDigits 10 (fraction text)
@@ -32,22 +32,22 @@ neg-below x y h = omega (arith, lt→ltb)
 
 pub cmp-pos : (x y : ℕ) → int_cmp (pos x) (pos y) ≡ nat_cmp x y
 cmp-pos x y = elim (cases_order x y) [
-  | inl e ↦ rw (cmp-equal x y e) (sym (int_cmp_is (pos x) (pos y) Equal (ap pos e)))
-  | inr (inl h) ↦ rw (cmp-less x y h) (sym (int_cmp_is (pos x) (pos y) Less (pos-below x y h)))
-  | inr (inr h) ↦ rw (cmp-greater x y h) (sym (int_cmp_is (pos x) (pos y) Greater (pos-below y x h)))
+  | inl e ↦ rw (sym (nat_cmp_is x y Equal e)) (sym (int_cmp_is (pos x) (pos y) Equal (ap pos e)))
+  | inr (inl h) ↦ rw (sym (nat_cmp_is x y Less h)) (sym (int_cmp_is (pos x) (pos y) Less (pos-below x y h)))
+  | inr (inr h) ↦ rw (sym (nat_cmp_is x y Greater h)) (sym (int_cmp_is (pos x) (pos y) Greater (pos-below y x h)))
 ]
 
 cmp-negsuc : (x y : ℕ) → int_cmp (negsuc x) (negsuc y) ≡ nat_cmp (suc y) (suc x)
 cmp-negsuc x y = elim (cases_order x y) [
-  | inl e ↦ rw (cmp-equal (suc y) (suc x) (omega (arith, e))) (sym (int_cmp_is (negsuc x) (negsuc y) Equal (ap negsuc e)))
-  | inr (inl h) ↦ rw (cmp-greater (suc y) (suc x) (omega (arith, h))) (sym (int_cmp_is (negsuc x) (negsuc y) Greater (neg-below x y h)))
-  | inr (inr h) ↦ rw (cmp-less (suc y) (suc x) (omega (arith, h))) (sym (int_cmp_is (negsuc x) (negsuc y) Less (neg-below y x h)))
+  | inl e ↦ rw (sym (nat_cmp_is (suc y) (suc x) Equal (omega (arith, e)))) (sym (int_cmp_is (negsuc x) (negsuc y) Equal (ap negsuc e)))
+  | inr (inl h) ↦ rw (sym (nat_cmp_is (suc y) (suc x) Greater (omega (arith, h)))) (sym (int_cmp_is (negsuc x) (negsuc y) Greater (neg-below x y h)))
+  | inr (inr h) ↦ rw (sym (nat_cmp_is (suc y) (suc x) Less (omega (arith, h)))) (sym (int_cmp_is (negsuc x) (negsuc y) Less (neg-below y x h)))
 ]
 
 pub cmp-neg : (x y : ℕ) → int_cmp (neg_ℤ (pos x)) (neg_ℤ (pos y)) ≡ nat_cmp y x
 cmp-neg zero zero = refl
-cmp-neg zero (suc y) = sym (cmp-greater (suc y) 0 (omega arith))
-cmp-neg (suc x) zero = sym (cmp-less 0 (suc x) (omega arith))
+cmp-neg zero (suc y) = nat_cmp_is (suc y) 0 Greater (omega arith)
+cmp-neg (suc x) zero = nat_cmp_is 0 (suc x) Less (omega arith)
 cmp-neg (suc x) (suc y) = cmp-negsuc x y
 
 pub neg-above : (x y : ℕ) → 0 < x → int_cmp (neg_ℤ (pos x)) (pos y) ≡ Less
@@ -70,7 +70,7 @@ wide : (w f : List ℕ) → nat_lt 0 (length w + length f) ≡ true
     → ordering_then (ordering_then (nat_cmp (length w) 0) (slice_cmp nat_cmp w [])) (slice_cmp nat_cmp f []) ≡ Greater
 wide [] [] e = absurd (omega (arith, ltb-true 0 (0 + 0) e))
 wide [] (d ∷ ds) e = refl
-wide (d ∷ ds) f e = rw (cmp-greater (suc (length ds)) 0 (omega arith)) refl
+wide (d ∷ ds) f e = rw (sym (nat_cmp_is (suc (length ds)) 0 Greater (omega arith))) refl
 
 narrow : (w f : List ℕ) → nat_lt 0 (length w + length f) ≡ false
     → ordering_then (ordering_then (nat_cmp (length w) 0) (slice_cmp nat_cmp w [])) (slice_cmp nat_cmp f []) ≡ Equal

@@ -13,15 +13,6 @@ use Rattle.std.specs.declared.cmp.Ordering.{Ordering}
 use Rattle.std.specs.declared.cmp.Ordering.TheVariants.{Less, Equal, Greater}
 use Rattle.std.proofs.lemmas.Bool.{cases_order, eqb-false}
 
-pub cmp-less : (x y : ℕ) → x < y → nat_cmp x y ≡ Less
-cmp-less x y h = sym (nat_cmp_is x y Less h)
-
-pub cmp-equal : (x y : ℕ) → x ≡ y → nat_cmp x y ≡ Equal
-cmp-equal x y h = sym (nat_cmp_is x y Equal h)
-
-pub cmp-greater : (x y : ℕ) → y < x → nat_cmp x y ≡ Greater
-cmp-greater x y h = sym (nat_cmp_is x y Greater h)
-
 pub then-equal : (o : Ordering) → ordering_then o Equal ≡ o
 then-equal Less = refl
 then-equal Equal = refl
@@ -39,16 +30,16 @@ onto n ds = fold (λ a d. 10 * a + (d - 48)) n ds
 step : (m n x y : ℕ) (o : Ordering) → 48 ≤ x → x ≤ 57 → 48 ≤ y → y ≤ 57
     → ordering_then (nat_cmp (10 * m + (x - 48)) (10 * n + (y - 48))) o ≡ ordering_then (nat_cmp m n) (ordering_then (nat_cmp x y) o)
 step m n x y o a b c d = elim (cases_order m n) [
-  | inl e ↦ rw (cmp-equal m n e) (within e)
-  | inr (inl h) ↦ rw (cmp-less m n h, cmp-less (10 * m + (x - 48)) (10 * n + (y - 48)) (omega arith)) refl
-  | inr (inr h) ↦ rw (cmp-greater m n h, cmp-greater (10 * m + (x - 48)) (10 * n + (y - 48)) (omega arith)) refl
+  | inl e ↦ rw (sym (nat_cmp_is m n Equal e)) (within e)
+  | inr (inl h) ↦ rw (sym (nat_cmp_is m n Less h), sym (nat_cmp_is (10 * m + (x - 48)) (10 * n + (y - 48)) Less (omega arith))) refl
+  | inr (inr h) ↦ rw (sym (nat_cmp_is m n Greater h), sym (nat_cmp_is (10 * m + (x - 48)) (10 * n + (y - 48)) Greater (omega arith))) refl
 ]
   where
     within : m ≡ n → ordering_then (nat_cmp (10 * m + (x - 48)) (10 * n + (y - 48))) o ≡ ordering_then (nat_cmp x y) o
     within e = elim (cases_order x y) [
-      | inl f ↦ rw (cmp-equal x y f, cmp-equal (10 * m + (x - 48)) (10 * n + (y - 48)) (omega arith)) refl
-      | inr (inl h) ↦ rw (cmp-less x y h, cmp-less (10 * m + (x - 48)) (10 * n + (y - 48)) (omega arith)) refl
-      | inr (inr h) ↦ rw (cmp-greater x y h, cmp-greater (10 * m + (x - 48)) (10 * n + (y - 48)) (omega arith)) refl
+      | inl f ↦ rw (sym (nat_cmp_is x y Equal f), sym (nat_cmp_is (10 * m + (x - 48)) (10 * n + (y - 48)) Equal (omega arith))) refl
+      | inr (inl h) ↦ rw (sym (nat_cmp_is x y Less h), sym (nat_cmp_is (10 * m + (x - 48)) (10 * n + (y - 48)) Less (omega arith))) refl
+      | inr (inr h) ↦ rw (sym (nat_cmp_is x y Greater h), sym (nat_cmp_is (10 * m + (x - 48)) (10 * n + (y - 48)) Greater (omega arith))) refl
     ]
 
 -- as many digits are ordered as their texts are
@@ -83,7 +74,7 @@ shorter xs y ys a b above fits =
     let long : length (48 ∷ padded) ≡ length (y ∷ ys) = rw (length-append, length-replicate) (omega arith) in
     ap (λ n. nat_cmp n (onto 0 (y ∷ ys))) (sym (onto-leading (suc k) xs))
     ∙ cmp-onto (48 ∷ padded) (y ∷ ys) (zero-first padded (digits-append (zeros k) xs (digits-zeros k) a)) b long 0 0
-    ∙ ap (λ o. ordering_then o (slice_cmp nat_cmp padded ys)) (cmp-less 48 y above)
+    ∙ ap (λ o. ordering_then o (slice_cmp nat_cmp padded ys)) (sym (nat_cmp_is 48 y Less above))
 
 cmp-append : (xs ys us vs : List ℕ) → length xs ≡ length ys
     → slice_cmp nat_cmp (xs ++ us) (ys ++ vs) ≡ ordering_then (slice_cmp nat_cmp xs ys) (slice_cmp nat_cmp us vs)
@@ -115,13 +106,13 @@ zeros-below : (d : ℕ) (ds : List ℕ) → AllDigits 10 (d ∷ ds) → IsTrimme
 zeros-below d ds a t zero l e = absurd (omega (arith, e))
 zeros-below d [] a t (suc k) l e =
     let above : 48 < d = omega (arith, (first-digit d [] a).0, t) in
-    ap (λ o. ordering_then o (slice_cmp nat_cmp (zeros k) (zeros l))) (cmp-less 48 d above)
+    ap (λ o. ordering_then o (slice_cmp nat_cmp (zeros k) (zeros l))) (sym (nat_cmp_is 48 d Less above))
 zeros-below d (c ∷ cs) a t (suc k) l e =
     ap (ordering_then (nat_cmp 48 d)) (zeros-below c cs a.1 t k l (omega (arith, e))) ∙ below (cases_order 48 d)
   where
     below : (48 ≡ d) ⊎ ((48 < d) ⊎ (d < 48)) → ordering_then (nat_cmp 48 d) Less ≡ Less
-    below (inl h) = rw (cmp-equal 48 d h) refl
-    below (inr (inl h)) = rw (cmp-less 48 d h) refl
+    below (inl h) = rw (sym (nat_cmp_is 48 d Equal h)) refl
+    below (inr (inl h)) = rw (sym (nat_cmp_is 48 d Less h)) refl
     below (inr (inr h)) = absurd (omega (arith, (first-digit d (c ∷ cs) a).0, h))
 
 zeros-above : (d : ℕ) (ds : List ℕ) → AllDigits 10 (d ∷ ds) → IsTrimmed (d ∷ ds) → (k l : ℕ) → k ≡ length (d ∷ ds) + l
@@ -129,14 +120,14 @@ zeros-above : (d : ℕ) (ds : List ℕ) → AllDigits 10 (d ∷ ds) → IsTrimme
 zeros-above d ds a t zero l e = absurd (omega (arith, e))
 zeros-above d [] a t (suc k) l e =
     let above : 48 < d = omega (arith, (first-digit d [] a).0, t) in
-    ap (λ o. ordering_then o (slice_cmp nat_cmp (zeros l) (zeros k))) (cmp-greater d 48 above)
+    ap (λ o. ordering_then o (slice_cmp nat_cmp (zeros l) (zeros k))) (sym (nat_cmp_is d 48 Greater above))
 zeros-above d (c ∷ cs) a t (suc k) l e =
     ap (ordering_then (nat_cmp d 48)) (zeros-above c cs a.1 t k l (omega (arith, e))) ∙ above (cases_order d 48)
   where
     above : (d ≡ 48) ⊎ ((d < 48) ⊎ (48 < d)) → ordering_then (nat_cmp d 48) Greater ≡ Greater
-    above (inl h) = rw (cmp-equal d 48 h) refl
+    above (inl h) = rw (sym (nat_cmp_is d 48 Equal h)) refl
     above (inr (inl h)) = absurd (omega (arith, (first-digit d (c ∷ cs) a).0, h))
-    above (inr (inr h)) = rw (cmp-greater d 48 h) refl
+    above (inr (inr h)) = rw (sym (nat_cmp_is d 48 Greater h)) refl
 
 -- zeros behind two fractions to one length change nothing
 cmp-padded : (f g : List ℕ) → AllDigits 10 f → AllDigits 10 g → IsTrimmed f → IsTrimmed g → (k l : ℕ) → length f + k ≡ length g + l
@@ -158,12 +149,12 @@ pub cmp-magnitude : (w v f g : List ℕ) → AllDigits 10 w → AllDigits 10 v �
     → nat_cmp (onto 0 (w ++ (f ++ zeros k))) (onto 0 (v ++ (g ++ zeros l)))
     ≡ ordering_then (ordering_then (nat_cmp (length w) (length v)) (slice_cmp nat_cmp w v)) (slice_cmp nat_cmp f g)
 cmp-magnitude w v f g dw dv df dg zw zv tf tg k l e = elim (cases_order (length w) (length v)) [
-  | inl same ↦ rw (cmp-equal (length w) (length v) same)
+  | inl same ↦ rw (sym (nat_cmp_is (length w) (length v) Equal same))
       (cmp-onto (w ++ (f ++ zeros k)) (v ++ (g ++ zeros l)) (behind w f k dw df) (behind v g l dv dg) (as_long same) 0 0
       ∙ cmp-append w v (f ++ zeros k) (g ++ zeros l) same
       ∙ ap (ordering_then (slice_cmp nat_cmp w v)) (cmp-padded f g df dg tf tg k l e))
-  | inr (inl less) ↦ rw (cmp-less (length w) (length v) less) (fewer w v f g k l dw dv df dg zv e less)
-  | inr (inr more) ↦ rw (cmp-greater (length w) (length v) more) (turned (onto 0 (w ++ (f ++ zeros k))) (onto 0 (v ++ (g ++ zeros l))) (fewer v w g f l k dv dw dg df zw (sym e) more))
+  | inr (inl less) ↦ rw (sym (nat_cmp_is (length w) (length v) Less less)) (fewer w v f g k l dw dv df dg zv e less)
+  | inr (inr more) ↦ rw (sym (nat_cmp_is (length w) (length v) Greater more)) (turned (onto 0 (w ++ (f ++ zeros k))) (onto 0 (v ++ (g ++ zeros l))) (fewer v w g f l k dv dw dg df zw (sym e) more))
 ]
   where
     behind : (w f : List ℕ) (k : ℕ) → AllDigits 10 w → AllDigits 10 f → AllDigits 10 (w ++ (f ++ zeros k))
@@ -184,7 +175,7 @@ cmp-magnitude w v f g dw dv df dg zw zv tf tg k l e = elim (cases_order (length 
         (omega (arith, (first-digit d ds dv).0, z)) (rw (length-all w f k, length-all ds g l) (omega (arith, e, h)))
 
     turned : (x y : ℕ) → nat_cmp y x ≡ Less → nat_cmp x y ≡ Greater
-    turned x y h = cmp-greater x y (ranked y x Less (sym h))
+    turned x y h = sym (nat_cmp_is x y Greater (ranked y x Less (sym h)))
 
 onto-zeros : (n k : ℕ) → onto n (zeros k) ≡ n * 10 ^ k
 onto-zeros n zero = sym (mul-one n)

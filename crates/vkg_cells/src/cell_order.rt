@@ -13,7 +13,8 @@ use std::cmp::Ordering;
 
 /// The order of two cells: NULL, then the families in their order, each by value.
 ///
-/// It is total, and two cells of kinds are equal in it exactly where they are the same.
+/// It is total, and two cells of kinds are equal in it exactly where they are the same. Asked of cells whose numbers are
+/// written as xsd:decimal, as those of each cell that was read are.
 pub fn order(a: &Cell, b: &Cell) -> Ordering
     requires first { HasNumber a.now }
     requires second { HasNumber b.now }

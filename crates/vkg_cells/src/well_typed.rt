@@ -28,7 +28,8 @@ pub fn is_well_typed(datatype: &str, text: &str) -> bool
     }
 }
 
-/// Whether a text is a number of more than 38 digits.
+/// Whether a text, read as a literal of xsd:integer or xsd:decimal, has more than 38 digits that count. It is asked of
+/// well-typed literals; of another text it tells no more than its length does.
 pub fn is_too_wide(datatype: &str, text: &str) -> bool
     ensures { result ≡ too_wide datatype.now text.now }
 {

@@ -1,14 +1,15 @@
 -- The tables tell whether a grammar is LL(1).
 use Rattle.std.proofs.Common.{◌≡◌, ℕ, ◌+◌, ◌<◌, ◌≤◌, inl, inr, List, [], ◌∷◌, length, Some, None, refl, subst, arith}
+use Rattle.std.proofs.lemmas.Bool.{cases_lt}
 use Rattle.vkg_lists.specs.Lists.{AllBelow}
 use Rattle.vkg_grammar.specs.declared.rule.Rule.{Rule}
 use Rattle.vkg_grammar.specs.Grammar.{Shape, One, Parts, Choice, shape_of, MayBeEmpty, Starts, the_first, the_second, IsLL1, IsGrammar, IsProductive}
-use Rattle.vkg_grammar.specs.Rank.{rank_in, Begins, IsTable}
+use Rattle.vkg_grammar.specs.Rank.{column, rank_in, Begins, IsTable}
 use Rattle.vkg_grammar.specs.Machine.{at_token, at_end_of}
 use Rattle.vkg_grammar.specs.Tables.{StartsBy, WaysApart, ShapeApart, IsFollowTable}
 use Rattle.vkg_grammar.proofs.Core.{ahead_empty, ahead_begin}
 use Rattle.vkg_grammar.proofs.Heights.{ahead_begins, begins_ahead}
-use Rattle.vkg_grammar.proofs.Rounds.{out_of_range, column_or_not, never_past}
+use Rattle.vkg_grammar.proofs.Rounds.{out_of_range, never_past}
 
 module _ (g : List Rule) (t follow : List ℕ) (w : ℕ) (wf : IsGrammar g) (prod : IsProductive g) (table : IsTable g (rank_in t w)) (follows : IsFollowTable g w follow) where
   empty_by : (xs : List ℕ) → AllBelow (length g) xs → MayBeEmpty g xs → Begins (rank_in t w) None xs
@@ -26,7 +27,7 @@ module _ (g : List Rule) (t follow : List ℕ) (w : ℕ) (wf : IsGrammar g) (pro
   by_starts n k xs h b (inr (s, p)) = inr (by_empty xs b s, (follows n k h).0 p)
 
   starts_inside : (n k : ℕ) (xs : List ℕ) → 0 < w → StartsBy (rank_in t w) follow w n k xs → k + 1 < w
-  starts_inside n k xs pos s = elim (column_or_not w (Some k)) [ inl h ↦ h | inr out ↦ absurd (past out s) ]
+  starts_inside n k xs pos s = elim (cases_lt (column (Some k)) w) [ inl h ↦ h | inr out ↦ absurd (past out s) ]
     where
       past : w ≤ k + 1 → StartsBy (rank_in t w) follow w n k xs → ⊥
       past out (inl b) = never_past w (Some k) t xs out pos b

@@ -1,5 +1,6 @@
 -- What may follow a symbol, by the table.
 use Rattle.std.proofs.Common.{◌≡◌, ℕ, zero, suc, ◌+◌, ◌*◌, ◌<◌, ◌≤◌, Bool, false, ◌⊎◌, inl, inr, List, [], ◌∷◌, ◌++◌, length, Option, Some, None, refl, ap, sym, ◌∙◌, subst, append_assoc, arith, replicate}
+use Rattle.std.proofs.lemmas.Bool.{cases_lt}
 use Rattle.std.proofs.lemmas.List.{take_all, length-replicate}
 use Rattle.std.proofs.Math.ListN.{get_or-eq_default}
 use Rattle.vkg_lists.specs.Lists.{AllBelow}
@@ -12,11 +13,11 @@ use Rattle.vkg_grammar.specs.Machine.{at_token, at_end_of}
 use Rattle.vkg_grammar.specs.Tables.{seen_at, IsRound, PlaceFollows, ShapeFollows, HasPlace, FollowReason, IsFollowTable}
 use Rattle.vkg_grammar.proofs.Core.{ahead_empty, ahead_begin}
 use Rattle.vkg_grammar.proofs.Heights.{ahead_begins, begins_ahead}
-use Rattle.vkg_grammar.proofs.Rounds.{cell_why, cell_done, out_of_range, column_or_not, zero_rank, never_past, cell_at}
+use Rattle.vkg_grammar.proofs.Rounds.{cell_why, cell_done, out_of_range, zero_rank, never_past, cell_at}
 
 -- a way's symbol has a rule
 pub way_inside : {g : List Rule} {m : ℕ} {xs : List ℕ} → IsWay g m xs → m < length g
-way_inside {g = g} {m = m} w = elim (column_or_not (length g) (seen_at m)) [ inl h ↦ inside m h | inr h ↦ absurd (none (past m h) w) ]
+way_inside {g = g} {m = m} w = elim (cases_lt (column (seen_at m)) (length g)) [ inl h ↦ inside m h | inr h ↦ absurd (none (past m h) w) ]
   where
     inside : (m : ℕ) → column (seen_at m) < length g → m < length g
     inside zero h = h
@@ -95,7 +96,7 @@ pub follow_begun : {g : List Rule} (w : ℕ) (t : List ℕ) → t ≡ replicate 
 follow_begun {g = g} w t e = subst (IsFollowing g w) (sym e) (record { size = length-replicate (w * length g) 0; sound = λ n c h p. absurd (let z : rank_in (replicate (w * length g) 0) w n c ≡ 0 = zero_rank (w * length g) w n c in omega arith) })
 
 pub follow_next : {g : List Rule} {changed : Bool} (rank : ℕ → Option ℕ → ℕ) (w : ℕ) (old new : List ℕ) → IsGrammar g → IsProductive g → IsTable g rank → IsFollowing g w old → IsRound (FollowReason g rank w old) 1 old new (length old) changed → IsFollowing g w new
-follow_next {g = g} rank w old new wf prod table a r = record { size = r.size ∙ a.size; sound = λ n c h p. sound n c h p (column_or_not w c) }
+follow_next {g = g} rank w old new wf prod table a r = record { size = r.size ∙ a.size; sound = λ n c h p. sound n c h p (cases_lt (column c) w) }
   where
     by_reason : (n : ℕ) (c : Option ℕ) → n < length g → (0 < rank_in old w n c) ⊎ ((rank_in new w n c ≡ 1) × HasPlace g rank old w n c) → (k : ℕ) × (c ≡ Some k) × MayFollow g n k
     by_reason n c h (inl p) = a.sound n c h p
@@ -118,7 +119,7 @@ past_shape w n m c t follow (Choice xs ys) out pos (inl p) = past_place w n m c 
 past_shape w n m c t follow (Choice xs ys) out pos (inr p) = past_place w n m c t follow ys out pos p
 
 pub follow_done : {g : List Rule} {changed : Bool} (t : List ℕ) (w : ℕ) (old new : List ℕ) → IsGrammar g → IsProductive g → IsTable g (rank_in t w) → 0 < w → IsFollowing g w old → IsRound (FollowReason g (rank_in t w) w old) 1 old new (length old) changed → changed ≡ false → IsFollowTable g w old
-follow_done {g = g} t w old new wf prod table wide a r e = λ n k h. ((λ p. of_sound k (a.sound n (Some k) h p)), follows_found g (rank_in t w) wf prod table old w (λ n c h s. closed n c h s (column_or_not w c)))
+follow_done {g = g} t w old new wf prod table wide a r e = λ n k h. ((λ p. of_sound k (a.sound n (Some k) h p)), follows_found g (rank_in t w) wf prod table old w (λ n c h s. closed n c h s (cases_lt (column c) w)))
   where
     of_sound : {n : ℕ} (k : ℕ) → (j : ℕ) × (Some k ≡ Some j) × MayFollow g n j → MayFollow g n k
     of_sound {n = n} k (j, e, f) = let same : j ≡ k = cc in subst (MayFollow g n) same f

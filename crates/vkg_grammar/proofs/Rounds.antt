@@ -128,14 +128,11 @@ shape_found {g = g} {n = n} c rank rank' w h kept lt (Parts xs) e f = falls_foun
 shape_found {g = g} {n = n} c rank rank' w h kept lt (Choice xs ys) e (inl f) = inl (falls_found (length g) rank rank' kept xs (w.closed n xs h (the_first e)) lt f)
 shape_found {g = g} {n = n} c rank rank' w h kept lt (Choice xs ys) e (inr f) = inr (falls_found (length g) rank rank' kept ys (w.closed n ys h (the_second e)) lt f)
 
-pub column_or_not : (w : ℕ) (c : Option ℕ) → (column c < w) ⊎ (w ≤ column c)
-column_or_not w c = cases_lt (column c) w
-
 pub founded_next : {g : List Rule} {changed : Bool} (w stamp : ℕ) (old new : List ℕ) → IsGrammar g → length old ≡ w * length g → 0 < stamp → IsFounded g (rank_in old w) stamp → IsRound (BeginReason g w old) stamp old new (length old) changed → IsFounded g (rank_in new w) (stamp + 1)
-founded_next {g = g} w stamp old new wf size pos f r = record { falls = λ n c h p. falls n c h p (column_or_not w c); below = λ n c h. below n c h (column_or_not w c) }
+founded_next {g = g} w stamp old new wf size pos f r = record { falls = λ n c h p. falls n c h p (cases_lt (column c) w); below = λ n c h. below n c h (cases_lt (column c) w) }
   where
     kept : (n : ℕ) (c : Option ℕ) → n < length g → 0 < rank_in old w n c → rank_in new w n c ≡ rank_in old w n c
-    kept n c h p = elim (column_or_not w c) [
+    kept n c h p = elim (cases_lt (column c) w) [
       | inl col ↦ cell_kept (cell_at (λ n c. ShapeBegins (rank_in old w) c (shape_of g n)) (length g) w stamp old new n c size h col r) p
       | inr out ↦ out_of_range new w n c out ∙ sym (out_of_range old w n c out)
     ]
@@ -157,7 +154,7 @@ never_past w c t (x ∷ xs) out pos (inl (k, e, p)) = let z : rank_in t w x (Som
 never_past w c t (x ∷ xs) out pos (inr (p, q)) = never_past w c t xs out pos q
 
 pub finished : {g : List Rule} {changed : Bool} (w stamp : ℕ) (old new : List ℕ) → IsGrammar g → HasColumns g w → 0 < w → length old ≡ w * length g → 0 < stamp → IsFounded g (rank_in old w) stamp → IsRound (BeginReason g w old) stamp old new (length old) changed → changed ≡ false → IsTable g (rank_in old w)
-finished {g = g} w stamp old new wf cols wide size pos f r e = record { falls = f.falls; closed = λ n c h s. closed n c h s (column_or_not w c) }
+finished {g = g} w stamp old new wf cols wide size pos f r e = record { falls = f.falls; closed = λ n c h s. closed n c h s (cases_lt (column c) w) }
   where
     same : new ≡ old
     same = r.same e ∙ take_all (length old) old (omega arith)
@@ -181,7 +178,7 @@ zeros_replicate zero = refl
 zeros_replicate (suc n) = count_by-cons (λ x. nat_eq x 0) 0 (replicate n 0) ∙ omega (arith, zeros_replicate n)
 
 pub zero_rank : (m w n : ℕ) (c : Option ℕ) → rank_in (replicate m 0) w n c ≡ 0
-zero_rank m w n c = elim (column_or_not w c) [ inl col ↦ in_range (replicate m 0) w n c col ∙ replicate_same {A = ℕ} m (n * w + column c) 0 | inr out ↦ out_of_range (replicate m 0) w n c out ]
+zero_rank m w n c = elim (cases_lt (column c) w) [ inl col ↦ in_range (replicate m 0) w n c col ∙ replicate_same {A = ℕ} m (n * w + column c) 0 | inr out ↦ out_of_range (replicate m 0) w n c out ]
 
 -- What holds before each round.
 pub record IsBegun (g : List Rule) (w stamp : ℕ) (table : List ℕ) : Type 0 where

@@ -8,6 +8,7 @@ use Rattle.vkg_grammar.specs.declared.note.Act.{Act}
 use Rattle.vkg_grammar.specs.declared.note.Act.TheVariants.{Leaf, Nothing, Pair, First, Second}
 use Rattle.vkg_grammar.specs.Grammar.{noted, One, Parts, Choice, shape, at_parts, at_first, at_second}
 use Rattle.vkg_grammar.specs.Grammar as engine
+use Rattle.vkg_grammar.specs.Laws.{TextsHaveTrees}
 use Rattle.vkg_grammar.specs.Parsing.{IsTheText}
 use Rattle.vkg_grammar.specs.Trees.{Tree, size}
 use Rattle.vkg_grammar.specs.Decoding.{acts_of, decoded, steps_of}
@@ -100,6 +101,10 @@ built {g = g} {kinds = kinds} {ws = ws} derived =
     let r : (t : Tree) × IsTreeOf g kinds t × (acts_of ws ≡ steps_of t) = has_tree (from_engine derived) in
     let d = decodes (length kinds) 0 r.0 [] r.1.from (let same : length kinds ≡ 0 + size r.0 = omega (arith, r.1.all) in same) in
     (r.0, r.1, ap (λ q. (decoded (length kinds) q).trees) (r.2 ∙ sym (append-nil (steps_of r.0))) ∙ d.1)
+
+-- tokens have a tree exactly where they are derived
+pub texts_have_trees : TextsHaveTrees
+texts_have_trees g kinds = ((λ h. tree_derives h.1), (λ h. let r = built h.1 in (r.0, r.1)))
 
 pub tree_found : (g : List Rule) (kinds : List ℕ) (ws : List Note) (t : Tree) → engine.Derives g (0 ∷ []) kinds ws → (decoded (length kinds) (acts_of ws)).trees ≡ t ∷ [] → IsTreeOf g kinds t
 tree_found g kinds ws t d e = let r = built d in subst (IsTreeOf g kinds) (head_same r.0 t [] [] (sym r.2 ∙ e)) r.1

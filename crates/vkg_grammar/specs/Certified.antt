@@ -4,7 +4,8 @@ use Rattle.vkg_grammar.specs.declared.rule.Rule.{Rule}
 use Rattle.vkg_grammar.specs.declared.rule.Rule.TheVariants.{Token}
 use Rattle.vkg_grammar.specs.Grammar.{Shape, One, Parts, Choice, shape}
 
--- what is claimed of a symbol: whether it may be empty, what kinds begin it, what kinds follow it
+-- what is claimed of a symbol: whether it may be empty, what kinds begin it, what kinds follow it, and a level
+-- above those of the symbols that it has to be made of, so that each symbol makes some text
 pub record Claim : Type 0 where
   pub empty : Bool
   pub begin : List ℕ
@@ -119,7 +120,7 @@ rule_fits kinds r = true
 abbrev pub all_fit : ℕ → List Rule → Bool
 all_fit kinds rs = each (rule_fits kinds) rs
 
--- The claims on the symbols of these rules pass every test. For rules and claims that are written out, each test is `refl`.
+-- The claims on the symbols of these rules pass every test. For rules and claims that are written out, each is by computing.
 pub record IsCertified (g : List Rule) (kinds : ℕ) (cs : List Claim) : Type 0 where
   pub some : 0 < length g
   pub closed : all_pass (λ c. shape_below (length g)) 0 g cs ≡ true

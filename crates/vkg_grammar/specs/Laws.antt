@@ -1,5 +1,5 @@
 -- Laws of the definitions.
-use Rattle.std.specs.Prelude.{◌≡◌, ◌↔◌, ℕ, List, slice_get, Some}
+use Rattle.std.specs.Prelude.{◌≡◌, ◌↔◌, ℕ, List, [], ◌∷◌, slice_get, Some}
 use Rattle.vkg_grammar.specs.declared.note.Note.{Note}
 use Rattle.vkg_grammar.specs.declared.parsing.ParseFault.{ParseFault}
 use Rattle.vkg_grammar.specs.declared.parsing.ParseFault.TheVariants.{Memory}
@@ -7,8 +7,8 @@ use Rattle.vkg_grammar.specs.declared.rule.Rule.{Rule}
 use Rattle.vkg_grammar.specs.declared.rule.Rule.TheVariants.{Token, Empty, Then, Either, Optional, Repeated}
 use Rattle.vkg_grammar.specs.Certified.{Claim, IsCertified}
 use Rattle.vkg_grammar.specs.Form.{Form, HasKinds, IsShallow}
-use Rattle.vkg_grammar.specs.Grammar.{IsGrammar, IsLL1}
-use Rattle.vkg_grammar.specs.OneTree.{rule, IsTree}
+use Rattle.vkg_grammar.specs.Grammar.{Derives, IsGrammar, IsLL1}
+use Rattle.vkg_grammar.specs.OneTree.{rule, IsTree, IsTreeOf}
 use Rattle.vkg_grammar.specs.Parsing.{IsTheText, Fails}
 use Rattle.vkg_grammar.specs.Trees.{Tree, leaf, nothing, pair, first, second}
 
@@ -37,3 +37,7 @@ IsMadeBy g ks n r t = ⊥
 -- A tree stands for a symbol exactly where it is made as the symbol's rule says.
 abbrev pub TreesFollowRules : Type 0
 TreesFollowRules = (g : List Rule) (ks : List ℕ) (n : ℕ) (t : Tree) → IsTree g ks n t ↔ IsMadeBy g ks n (rule g n) t
+
+-- Tokens have a tree exactly where they are derived.
+abbrev pub TextsHaveTrees : Type 0
+TextsHaveTrees = (g : List Rule) (ks : List ℕ) → ((t : Tree) × IsTreeOf g ks t) ↔ ((ws : List Note) × Derives g (0 ∷ []) ks ws)

@@ -1,4 +1,4 @@
-ghost use Rattle.vkg_grammar.specs.Laws.{CertificatesHold, HaveOneOutcome, TreesFollowRules};
+ghost use Rattle.vkg_grammar.specs.Laws.{CertificatesHold, HaveOneOutcome, TextsHaveTrees, TreesFollowRules};
 
 /// A law, which does nothing: rules with a certificate are a grammar and are LL(1). So a language whose rules
 /// and claims are written out needs no `check_ll1` when it runs.
@@ -16,4 +16,10 @@ pub fn tokens_have_one_outcome()
 /// reads a value off a tree knows by it which forms a tree can have.
 pub fn trees_follow_rules()
     ensures { TreesFollowRules }
+{}
+
+/// A law, which does nothing: tokens have a tree exactly where the rules derive them. So what `parse_tree` gives and what
+/// it refuses are told apart by one notion of a text.
+pub fn texts_have_trees()
+    ensures { TextsHaveTrees }
 {}

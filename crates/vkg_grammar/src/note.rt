@@ -22,7 +22,7 @@ pub struct Note {
     pub act: Act,
 }
 
-/// What a symbol means by a table of meanings, and this one where the table has none.
+/// What a symbol means by a table of meanings, and `other` where the table has no meaning of it.
 pub fn role_in<R: Copy>(roles: &[R], symbol: usize, other: R) -> R
     ensures { result ≡ unwrap_or (slice_get roles.now symbol) other }
 {

@@ -92,7 +92,7 @@ pub(crate) fn parse_by(
 
 /// The notes of the one leftmost derivation of the tokens, one for each of its symbols, from the left.
 ///
-/// Asked of grammars that are LL(1) (`check_ll1`, or a certificate). `TooDeep` names the first token behind which more
+/// Asked of grammars that are LL(1) (`check_ll1`, or a certificate), and of tokens of its kinds. `TooDeep` names the first token behind which more
 /// brackets are open than the grammar allows, whatever the rules say; in a text without one, `Dead` names the first token
 /// up to and with which the tokens begin no text; `Ended` says that they begin a text and are none. A closer
 /// of any kind closes one open bracket, and none where none is open.

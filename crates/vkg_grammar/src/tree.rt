@@ -20,7 +20,7 @@ pub struct Parsed {
     pub root: usize,
 }
 
-/// The one tree of the tokens, or the fault that `parse` names.
+/// The one tree of the tokens, or the fault that `parse` names. Asked of what `parse` is asked of.
 pub fn parse_tree(alloc: Global, grammar: &Grammar, tokens: &[Token]) -> Result<Parsed, ParseFault>
     requires ll1 { IsLL1 grammar.now.rules }
     requires kinds { AreBelow grammar.now.kinds tokens.now }

@@ -1,4 +1,4 @@
--- The classes of characters that names are made of (Turtle and SPARQL 1.1, the productions whose names are said below), by code points.
+-- The classes of characters that names are made of (RDF 1.1 Turtle, 6.5, and SPARQL 1.1 Query Language, 19.8: the productions whose names are said below), by code points.
 use Rattle.std.specs.Prelude.{ℕ, ◌+◌, ◌*◌, ◌-◌, Bool, ◌||◌, ◌&&◌, not, Option, Some, None, if◌then◌else◌, ◌==◌, nat_le, nat_lt}
 use Rattle.std.specs.Char.{is_ascii_alphabetic, is_ascii_hexdigit, digit_value}
 use lib.Utf8.{scalar}

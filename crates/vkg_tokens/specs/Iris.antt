@@ -1,4 +1,4 @@
--- IRIs in angle brackets (Turtle and SPARQL 1.1: IRIREF; the numeric escapes too), and what else begins with `<`, character by character.
+-- IRIs in angle brackets (RDF 1.1 Turtle, 6.5, and SPARQL 1.1 Query Language, 19.8: IRIREF; the numeric escapes too), and what else begins with `<`, character by character.
 use Rattle.std.specs.Prelude.{ℕ, Option, Some, None, option_map, if◌then◌else◌, ◌==◌}
 use Rattle.vkg_tokens.specs.declared.characters.CodePoint.{CodePoint}
 use Rattle.vkg_tokens.specs.declared.iris.IriRef.{IriRef}

@@ -1,4 +1,4 @@
--- Words, prefixed names and labels of blank nodes (Turtle and SPARQL 1.1: PNAME_NS, PNAME_LN, BLANK_NODE_LABEL), character by character.
+-- Words, prefixed names and labels of blank nodes (RDF 1.1 Turtle, 6.5, and SPARQL 1.1 Query Language, 19.8: PNAME_NS, PNAME_LN, BLANK_NODE_LABEL), character by character.
 use Rattle.std.specs.Prelude.{ℕ, ◌||◌, Option, Some, None, if◌then◌else◌, ◌==◌}
 use Rattle.std.specs.Char.{is_ascii_alphabetic, is_ascii_hexdigit}
 use Rattle.vkg_tokens.specs.declared.names.Name.{Name}
@@ -22,7 +22,7 @@ in_prefix c = if is_name_part c then Some Prefix else if c == 0x2e then Some Pre
 abbrev pub behind_prefix_dot : ℕ → Option Name
 behind_prefix_dot c = if is_name_part c then Some Prefix else if c == 0x2e then Some PrefixDot else None
 
--- PLX: `%` (37) and two digits, or `\` (92) and a sign
+-- PLX: `%` (37) and two hexadecimal digits, or `\` (92) and a sign
 abbrev pub escape_begin : ℕ → Option Name
 escape_begin c = if c == 0x25 then Some Percent else if c == 0x5c then Some Backslash else None
 

@@ -1,4 +1,4 @@
--- Numbers (Turtle and SPARQL 1.1: INTEGER, DECIMAL, DOUBLE), character by character.
+-- Numbers (RDF 1.1 Turtle, 6.5, and SPARQL 1.1 Query Language, 19.8: INTEGER, DECIMAL, DOUBLE), character by character.
 use Rattle.std.specs.Prelude.{ℕ, Bool, ◌||◌, Option, Some, None, if◌then◌else◌, ◌==◌}
 use Rattle.std.specs.Char.{is_ascii_digit}
 use Rattle.vkg_tokens.specs.declared.numbers.Number.{Number}

@@ -1,4 +1,4 @@
--- The signs of Turtle and SPARQL 1.1 that begin nothing longer, and their numbers among each language's kinds.
+-- The signs of Turtle and SPARQL 1.1 (RDF 1.1 Turtle, 6.5, and SPARQL 1.1 Query Language, 19.8) that begin nothing longer, and their numbers among each language's kinds.
 use Rattle.std.specs.Prelude.{ℕ, Option, Some, None, if◌then◌else◌, ◌==◌}
 use Rattle.std.specs.Bool.{then_some}
 use Rattle.vkg_tokens.specs.declared.signs.Sign.{Sign}

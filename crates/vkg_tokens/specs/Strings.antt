@@ -1,4 +1,4 @@
--- Strings (Turtle and SPARQL 1.1: STRING_LITERAL1 and 2, STRING_LITERAL_LONG1 and 2; in Turtle _SINGLE_QUOTE for 1, _QUOTE for 2), character by character.
+-- Strings (RDF 1.1 Turtle, 6.5, and SPARQL 1.1 Query Language, 19.8: STRING_LITERAL1 and 2, STRING_LITERAL_LONG1 and 2; in Turtle _SINGLE_QUOTE for 1, _QUOTE for 2), character by character.
 use Rattle.std.specs.Prelude.{ℕ, ◌+◌, true, false, ◌||◌, ◌&&◌, not, Option, Some, None, option_map, if◌then◌else◌, ◌==◌, nat_lt}
 use Rattle.vkg_tokens.specs.declared.characters.CodePoint.{CodePoint}
 use Rattle.vkg_tokens.specs.declared.strings.Quotes.{Quotes}

@@ -1,4 +1,4 @@
--- Language tags (Turtle and SPARQL 1.1: LANGTAG) and variables (SPARQL 1.1: VAR1, VAR2), character by character.
+-- Language tags (RDF 1.1 Turtle, 6.5, and SPARQL 1.1 Query Language, 19.8: LANGTAG) and variables (SPARQL 1.1 Query Language, 19.8: VAR1, VAR2), character by character.
 use Rattle.std.specs.Prelude.{ℕ, Option, Some, None, if◌then◌else◌, ◌==◌}
 use Rattle.std.specs.Char.{is_ascii_alphabetic, is_ascii_alphanumeric}
 use Rattle.vkg_tokens.specs.declared.tags.Tag.{Tag}
