@@ -22,6 +22,7 @@ impl<T> Model for Box<T> {
 }
 
 impl<T> Box<T> {
+    /// The value, off the heap.
     pub fn into_inner(self) -> T
         ensures { result ≡ self }
     {
@@ -31,6 +32,7 @@ impl<T> Box<T> {
 }
 
 impl<T: Drop> Box<T> {
+    /// Puts a value on the heap.
     pub fn new(alloc: Global, value: T) -> Result<Box<T>, Memory>
         ensures { IfOk result (λ b. b ≡ value) }
     {

@@ -21,6 +21,7 @@ impl<W: Write + Drop> Model for HostSink<W> {
 }
 
 impl<W: Write + Drop> HostSink<W> {
+    /// A sink over this writer, with no fault so far.
     pub fn new(writer: W) -> HostSink<W>
         ensures taken { result.taken ≡ W.contents writer }
         ensures faults { result.faults ≡ 0 }

@@ -33,12 +33,14 @@ impl<T> Items<T> {
         }
     }
 
+    /// The items of a `Vec`, in its order.
     pub fn from_vec(items: Vec<T>) -> Items<T>
         ensures { result ≡ items.items }
     {
         Items { items }
     }
 
+    /// The items as a `Vec`, in their order.
     pub fn into_vec(self) -> Vec<T>
         ensures { result.items ≡ self }
     {
@@ -51,18 +53,21 @@ impl<T> Items<T> {
         *self.items.allocator()
     }
 
+    /// The items as a slice.
     pub fn as_slice(&self) -> &[T]
         ensures { result.now ≡ self.now }
     {
         self.items.as_slice()
     }
 
+    /// How many items there are.
     pub fn len(&self) -> usize
         ensures { result ≡ length self.now }
     {
         self.items.len()
     }
 
+    /// The item at a place, counted from 0, or none past the end.
     pub fn get(&self, at: usize) -> Option<&T>
         ensures value { option_copied result ≡ slice_get self.now at }
         ensures within { OnSome result (at < length self.now) }
@@ -89,6 +94,7 @@ impl<T> Items<T> {
         self.items.pop()
     }
 
+    /// Whether there is no item.
     pub fn is_empty(&self) -> bool
         ensures { IsTrue result ↔ (self.now ≡ []) }
     {
@@ -97,6 +103,7 @@ impl<T> Items<T> {
 }
 
 impl<T: Copy> Items<T> {
+    /// A list of copies of these items.
     pub fn from_slice(alloc: Global, items: &[T]) -> Result<Items<T>, Memory>
         ensures { IfOk result (λ it. it ≡ items.now) }
     {
@@ -106,7 +113,7 @@ impl<T: Copy> Items<T> {
 }
 
 impl<T: Drop> Items<T> {
-    /// Takes the item at a place off. It costs a move of each item behind it.
+    /// Takes the item at a place, counted from 0, off. It costs a move of each item behind it.
     pub fn remove(&mut self, at: usize) -> T
         requires { at < length self.old }
         ensures item { slice_get self.old at ≡ Some result }
@@ -115,6 +122,7 @@ impl<T: Drop> Items<T> {
         self.items.remove(at)
     }
 
+    /// Puts an item at a place, counted from 0. The one that was there is dropped.
     pub fn set(&mut self, at: usize, item: T)
         requires { at < length self.old }
         ensures { self.new ≡ slice_set self.old at item }

@@ -3,7 +3,7 @@
 //! want of memory; the least of places, and numbers grouped by texts; and the containers `Box`, `Items` and `Text`, which
 //! contracts see as what they hold.
 //!
-//! It promises: a fault is answered only where its count rose, lines are sorted by their bytes and written in order.
+//! It follows no standard but that texts are UTF-8. It promises: a fault is answered only where its count rose, lines are sorted by their bytes and written in order.
 //! It stands on vkg_lists, and on itoa for the decimal digits of a number.
 #![tactic(auto)]
 

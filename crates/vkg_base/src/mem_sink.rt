@@ -7,8 +7,8 @@ use crate::{Failed, Memory, Sink};
 use std::alloc::Global;
 use std::marker::Model;
 
-/// A sink in memory, with room for so many bytes. A listed write takes that many bytes of its piece and fails; one past
-/// the room takes what fits and fails.
+/// A sink in memory, with room for so many bytes. A listed write takes as many bytes as it is told, but no more than its
+/// piece has and than there is room for, and fails; one past the room takes what fits and fails.
 #[derive(Drop)]
 pub struct MemSink {
     taken: Vec<u8>,
@@ -31,7 +31,7 @@ impl Model for MemSink {
 
 impl MemSink {
     /// An empty sink with room for `room` bytes, and for each listed write its number, from 1, and how many bytes of its
-    /// piece it takes.
+    /// piece it takes at most.
     pub fn with_room(
         alloc: Global,
         room: usize,

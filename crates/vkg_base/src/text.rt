@@ -19,6 +19,7 @@ impl Model for Text {
 }
 
 impl Text {
+    /// A copy of a text.
     pub fn new(alloc: Global, text: &str) -> Result<Text, Memory>
         ensures { IfOk result (λ r. r ≡ text.now) }
     {
@@ -27,12 +28,14 @@ impl Text {
         })
     }
 
+    /// The text of a `String`, which is not copied.
     pub fn from_string(text: String) -> Text
         ensures { result ≡ string_bytes text }
     {
         Text { text }
     }
 
+    /// The text as a `String`, which is not copied.
     pub fn into_string(self) -> String
         ensures { string_bytes result ≡ self }
     {
@@ -40,12 +43,14 @@ impl Text {
         text
     }
 
+    /// The text as a `str`.
     pub fn as_str(&self) -> &str
         ensures { result.now ≡ self.now }
     {
         self.text.as_str()
     }
 
+    /// The same text once more.
     pub fn copy(&self) -> Result<Text, Memory>
         ensures { IfOk result (λ r. r ≡ self.now) }
     {

@@ -10,10 +10,10 @@ use Rattle.vkg_lists.proofs.Onto.{first_given, map_given}
 use Rattle.vkg_lists.proofs.Results.{none_if}
 use Rattle.vkg_terms.specs.declared.template.Part.{Part}
 use Rattle.vkg_terms.specs.declared.template.Part.TheVariants.{Fixed, Hole}
-use Rattle.vkg_terms.specs.TemplateParts.{Mark, Plain, Open, Close, mark, marks, escape, is_special, onto_fixed, hole, outside, inside, template_of}
+use Rattle.vkg_terms.specs.TemplateParts.{Mark, Plain, Open, Close, mark, marks, escape, onto_fixed, hole, outside, inside, template_of}
 use Rattle.vkg_terms.proofs.TemplateLemmas.{marks-cons, ordinary_cons, glue, glue_end, glue_hole}
 use Rattle.vkg_terms.specs.Name.{is_all_named, if_named, template_read, IsTemplateOf, IsNoTemplate}
-use Rattle.vkg_terms.specs.TemplateText.{escaped, template_text, IsNormal, Reads}
+use Rattle.vkg_terms.specs.TemplateText.{escaped, is_special, template_text, IsNormal, Reads}
 
 -- how a mark is written
 abbrev written : Mark → List ℕ
@@ -201,6 +201,9 @@ named_by (Some qs) ps e = let h = cond_some (is_all_named qs) qs ps e in (ap Som
 
 pub read_is : (text : List ℕ) (ps : List Part) → template_read text ≡ Some ps → IsTemplateOf text ps
 read_is text ps e = let h = named_by (template_of text) ps e in record { reads = template_reads text ps h.0; named = h.1 }
+
+pub read_only : (text : List ℕ) (ps : List Part) → template_read text ≡ Some ps → (other : List Part) → Reads text other → other ≡ ps
+read_only text ps e other r = same_Some other ps (sym (reads_template text other r) ∙ (named_by (template_of text) ps e).0)
 
 pub read_bad : (text : List ℕ) → template_read text ≡ None → IsNoTemplate text
 read_bad text e ps r = (none_if (is_all_named ps) ps None (ap if_named (sym (reads_template text ps r)) ∙ e)).0

@@ -12,7 +12,8 @@ use Rattle.vkg_terms.specs.declared.template.Part.{Part}
 use Rattle.vkg_terms.specs.declared.template.Part.TheVariants as part
 use Rattle.vkg_terms.specs.declared.template_reader.Place.{Place}
 use Rattle.vkg_terms.specs.declared.template_reader.Place.TheVariants.{Fixed, Hole, EscapedFixed, EscapedHole, Broken}
-use Rattle.vkg_terms.specs.TemplateParts.{Mark, Plain, Open, Close, mark, marks, escape, is_special, onto_fixed, outside, inside, template_of}
+use Rattle.vkg_terms.specs.TemplateParts.{Mark, Plain, Open, Close, mark, marks, escape, onto_fixed, outside, inside, template_of}
+use Rattle.vkg_terms.specs.TemplateText.{is_special}
 use Rattle.vkg_terms.specs.TemplateReader.{State, start, fixed_part, step, at_place, with_char, with_fixed, with_hole, finished, finished_at}
 use Rattle.vkg_lists.proofs.Bools.{and_parts, not_true}
 use Rattle.vkg_terms.proofs.Octets.{encode_all, not_nothing, scalar_below}

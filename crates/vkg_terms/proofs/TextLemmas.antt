@@ -45,19 +45,15 @@ written c = written_by c _ _ _ _ _ refl refl refl refl refl
 pub octet : (c b : ℕ) (rest more : List ℕ) → b < 128 → encode c ++ rest ≡ b ∷ more → (c ≡ b) × (rest ≡ more)
 octet c b rest more h e = encode_same c b rest more (e ∙ ap (λ (l : List ℕ). l ++ more) (sym (encode_ascii b h)))
 
--- what begins with this ASCII octet begins with this character
-pub starts : (c b : ℕ) (rest more : List ℕ) → b < 128 → b ∷ more ≡ encode c ++ rest → c ≡ b
-starts c b rest more h e = (octet c b rest more h (sym e)).0
-
 written_same : (c d : ℕ) (v w x y : List ℕ) → Written c v → Written d w → v ++ x ≡ w ++ y → (c ≡ d) × (x ≡ y)
 written_same c d v w x y (inl (e, p, q, _, _)) (inl (f, r, t, _, _)) same =
     let joined : 92 ∷ e ∷ x ≡ 92 ∷ f ∷ y = sym (ap (λ (l : List ℕ). l ++ x) p) ∙ same ∙ ap (λ (l : List ℕ). l ++ y) r in
     let letter = tail_same _ _ _ _ joined in
     (sym q ∙ ap unescaped (head_same _ _ _ _ letter) ∙ t, tail_same _ _ _ _ letter)
 written_same c d v w x y (inl (e, p, q, _, _)) (inr (quote, back, inline, r)) same =
-    absurd (back (starts d 92 y (e ∷ x) (omega arith) (sym (ap (λ (l : List ℕ). l ++ x) p) ∙ same ∙ ap (λ (l : List ℕ). l ++ y) r)))
+    absurd (back ((octet d 92 y (e ∷ x) (omega arith) (sym (sym (ap (λ (l : List ℕ). l ++ x) p) ∙ same ∙ ap (λ (l : List ℕ). l ++ y) r))).0))
 written_same c d v w x y (inr (quote, back, inline, r)) (inl (e, p, q, _, _)) same =
-    absurd (back (starts c 92 x (e ∷ y) (omega arith) (sym (ap (λ (l : List ℕ). l ++ y) p) ∙ sym same ∙ ap (λ (l : List ℕ). l ++ x) r)))
+    absurd (back ((octet c 92 x (e ∷ y) (omega arith) (sym (sym (ap (λ (l : List ℕ). l ++ y) p) ∙ sym same ∙ ap (λ (l : List ℕ). l ++ x) r))).0))
 written_same c d v w x y (inr (_, _, _, p)) (inr (_, _, _, r)) same =
     encode_same c d x y (sym (ap (λ (l : List ℕ). l ++ x) p) ∙ same ∙ ap (λ (l : List ℕ). l ++ y) r)
 
@@ -69,7 +65,7 @@ written_quote c v x y (inl (e, p, q, _, _)) same =
     let joined : 92 ∷ e ∷ x ≡ 34 ∷ y = sym (ap (λ (l : List ℕ). l ++ x) p) ∙ same in
     let bad = head_same _ _ _ _ joined in
     omega (arith, bad)
-written_quote c v x y (inr (quote, _, _, p)) same = quote (starts c 34 x y (omega arith) (sym same ∙ ap (λ (l : List ℕ). l ++ x) p))
+written_quote c v x y (inr (quote, _, _, p)) same = quote ((octet c 34 x y (omega arith) (sym (sym same ∙ ap (λ (l : List ℕ). l ++ x) p))).0)
 
 pub not_quote : (c : ℕ) (x y : List ℕ) → escaped c ++ x ≡ 34 ∷ y → ⊥
 not_quote c x y same = written_quote c (escaped c) x y (written c) same

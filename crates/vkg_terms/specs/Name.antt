@@ -1,13 +1,24 @@
 -- Which texts name a table or a column.
-use Rattle.std.specs.Prelude.{ℕ, Bool, true, false, ◌&&◌, List, [], ◌∷◌, if◌then◌else◌, ◌==◌, Option, Some, None, ◌≡◌}
+use Rattle.std.specs.Prelude.{ℕ, Bool, true, false, ◌&&◌, List, [], ◌∷◌, ◌++◌, flat_map, if◌then◌else◌, ◌==◌, Option, Some, None, ◌≡◌, ◌≢◌}
 use Rattle.std.specs.List.{list_all}
 use Rattle.vkg_terms.specs.TemplateParts.{template_of}
 use Rattle.vkg_terms.specs.TemplateText.{Reads}
 use Rattle.vkg_terms.specs.declared.template.Part.{Part}
 use Rattle.vkg_terms.specs.declared.template.Part.TheVariants.{Fixed, Hole}
 
--- SQL-92, 5.2, delimited identifier, after its first quote (34): characters, of which a quote is doubled,
--- at least one of them here or before, and the last quote
+-- SQL-92, 5.2, delimited identifier: a quote (34) within is doubled
+abbrev pub doubled : ℕ → List ℕ
+doubled b = if b == 34 then 34 ∷ 34 ∷ [] else b ∷ []
+
+-- a name between quotes, behind the first of them
+abbrev pub quoted : List ℕ → List ℕ
+quoted name = flat_map doubled name ++ 34 ∷ []
+
+-- the text is a delimited identifier, behind its first quote
+abbrev pub IsDelimited : List ℕ → Type 0
+IsDelimited text = (name : List ℕ) × (name ≢ []) × (text ≡ quoted name)
+
+-- the same, octet by octet, where some of the name may stand before
 abbrev pub closes : Bool → List ℕ → Bool
 closes some [] = false
 closes some (b ∷ []) = (b == 34) && some

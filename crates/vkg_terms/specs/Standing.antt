@@ -1,4 +1,4 @@
--- A template's standing is found a character at a time.
+-- Own, after R2RML, 7.3 and 7.4, and RFC 3986, 3.1: a template's standing, found a character at a time.
 use Rattle.std.specs.Prelude.{ℕ, not, fold, if◌then◌else◌, ◌==◌}
 use Rattle.std.specs.Char.{is_ascii_alphabetic}
 use Rattle.vkg_terms.specs.Iri.{is_scheme_character}

@@ -2,7 +2,7 @@
 use Rattle.std.specs.Prelude.{ℕ, List, [], ◌∷◌, ◌++◌, Option, Some, None, if◌then◌else◌, ◌==◌, encode_utf8}
 use Rattle.std.specs.Str.{bytes_eq}
 use Rattle.std.specs.String.{string_bytes}
-use Rattle.vkg_terms.specs.TemplateParts.{is_special}
+use Rattle.vkg_terms.specs.TemplateText.{is_special}
 use Rattle.vkg_terms.specs.declared.template.Part.{Part}
 use Rattle.vkg_terms.specs.declared.template.Part.TheVariants as part
 use Rattle.vkg_terms.specs.declared.template_reader.Place.{Place}

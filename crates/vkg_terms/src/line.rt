@@ -10,7 +10,8 @@ use std::alloc::Global;
 use vkg_base::Memory;
 
 /// The line of a quad without its line feed (N-Quads, 4, statement). No graph is the default graph.
-/// No two quads whose parts hold only what may stand in them have one line, and it is one line.
+/// No two quads whose parts hold only what may stand in them have one line, and their lines hold no line feed and no
+/// carriage return.
 pub fn quad_line(
     alloc: Global,
     subject: &Term,

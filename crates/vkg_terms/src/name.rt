@@ -1,12 +1,20 @@
-ghost use Rattle.std.specs.Prelude.{◌≡◌, false};
-ghost use Rattle.vkg_terms.specs.Name.{closes, is_name as name};
+ghost use Rattle.std.specs.Prelude.{◌≡◌, ◌∷◌, ◌↔◌, IsTrue, List, ℕ, false};
+ghost use Rattle.vkg_terms.specs.Name.{closes, is_name as name, IsDelimited};
 
 /// Whether a text names a table or a column: what begins with a quote is a whole delimited identifier
 /// (SQL-92, 5.2), every other text that is not empty is a name.
 pub fn is_name(text: &str) -> bool
+    ensures value { result ≡ name text.now }
+    ensures delimited { (rest : List ℕ) → text.now ≡ 34 ∷ rest → (IsTrue result ↔ IsDelimited rest) }
+{
+    names_something(text.as_bytes())
+}
+
+// The same, octet by octet.
+fn names_something(text: &[u8]) -> bool
     ensures { result ≡ name text.now }
 {
-    match text.as_bytes() {
+    match text {
         [] => false,
         [b'"', rest @ ..] => is_closed(rest),
         _ => true,

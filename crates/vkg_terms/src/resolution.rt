@@ -1,6 +1,6 @@
 ghost use Rattle.std.specs.Prelude.{◌≡◌, ◌++◌, IfOk, OnOk, string_bytes};
-ghost use Rattle.vkg_terms.specs.Components.{path_on, seen};
-ghost use Rattle.vkg_terms.specs.Resolve.{merge as merged, resolve as resolved, transform, up_to_last_slash};
+ghost use Rattle.vkg_terms.specs.Components.{seen};
+ghost use Rattle.vkg_terms.specs.Resolve.{merge as merged, path_on, resolve as resolved, transform, up_to_last_slash};
 
 use crate::components::{Components, push_joined, split};
 use crate::dot_segments::remove_dots;

@@ -1,5 +1,5 @@
 ghost use Rattle.std.specs.Prelude.{◌≡◌, ◌++◌, ◌∷◌, [], IfOk, OnOk, string_bytes};
-ghost use Rattle.vkg_terms.specs.TemplateParts.{is_special as special};
+ghost use Rattle.vkg_terms.specs.TemplateText.{is_special as special};
 ghost use Rattle.vkg_terms.specs.TemplateReader.{at_place, finished, start, state, step, step_escaped, step_fixed, step_hole, with_char, with_fixed, with_hole};
 
 use crate::template::{Part, Template};

@@ -20,8 +20,9 @@ pub(crate) enum Front {
     Doubtful,
 }
 
-/// Whether the IRIs of a template are absolute, by its text alone: its first `:` with nothing before it that could not
-/// stand in a scheme.
+/// Whether the IRIs of a template are absolute, by its text alone. They are where a scheme (RFC 3986, 3.1) and its `:`
+/// stand in front of the first hole; they are relative where what stands before the first `:` is no scheme, or there is
+/// no `:`; and it is doubtful where that could be a scheme but has a hole in it.
 pub fn standing(template: &[Part]) -> Standing
     ensures { result ≡ standing_of template.now }
 {

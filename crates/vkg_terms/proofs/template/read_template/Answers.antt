@@ -1,5 +1,5 @@
 use Rattle.std.proofs.Common.{rules}
-use Rattle.vkg_terms.proofs.TemplateLaws.{read_is, read_bad}
+use Rattle.vkg_terms.proofs.TemplateLaws.{read_is, read_bad, read_only}
 use Rattle.vkg_terms.proofs.template.read_template.Goals as goal
 
 pub returns-in-Ok-None-clause-bad : goal.returns-in-Ok-None-clause-bad
@@ -13,6 +13,9 @@ returns-then-is_all_named-clause-value c = search rules
 
 pub returns-then-is_all_named-clause-written : goal.returns-then-is_all_named-clause-written
 returns-then-is_all_named-clause-written c = read_is c.args.text.now _ (returns-then-is_all_named-clause-value c)
+
+pub returns-then-is_all_named-clause-only : goal.returns-then-is_all_named-clause-only
+returns-then-is_all_named-clause-only c = read_only c.args.text.now _ (returns-then-is_all_named-clause-value c)
 
 pub returns-else-is_all_named-clause-bad : goal.returns-else-is_all_named-clause-bad
 returns-else-is_all_named-clause-bad c = search rules
