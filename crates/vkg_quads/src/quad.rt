@@ -1,8 +1,6 @@
 // The line of a quad of a rule.
 ghost use Rattle.std.specs.Prelude.{◌≡◌, ◌++◌, ◌∷◌, [], IfOk, OnOk, Option, Some, None, option_map, string_bytes};
 ghost use Rattle.vkg_terms.specs.NQuads.{line};
-ghost use Rattle.vkg_terms.specs.Same.{term_eq};
-ghost use Rattle.vkg_terms.specs.Vocabulary.{rr_default_graph};
 ghost use Rattle.vkg_maps.specs.Terms.{term_of, term_if_any};
 ghost use Rattle.vkg_maps.specs.Dataset.{quad_of, quad_from, target, graph_name};
 
@@ -60,16 +58,10 @@ fn target_of(
 fn named(name: Term) -> Option<Term>
     ensures { result ≡ graph_name name }
 {
-    if is_default(&name) { None } else { Some(name) }
-}
-
-fn is_default(name: &Term) -> bool
-    ensures { result ≡ term_eq name.now (Term.Iri rr_default_graph) }
-{
-    match name {
-        Term::Iri(iri) => iri.as_str() == DEFAULT_GRAPH,
-        Term::Blank(_) => false,
-        Term::Lit(_, _) => false,
+    if name.is_iri(DEFAULT_GRAPH) {
+        None
+    } else {
+        Some(name)
     }
 }
 

@@ -1,7 +1,5 @@
 ghost use Rattle.std.specs.Prelude.{◌≡◌, ◌++◌, ◌∷◌, [], IfOk, OnOk, string_bytes};
 ghost use Rattle.std.specs.Result.{result_ok};
-ghost use Rattle.vkg_terms.specs.declared.term.Term.TheVariants.{Iri as IriTerm};
-ghost use Rattle.vkg_terms.specs.Same.{term_eq};
 ghost use Rattle.vkg_terms.specs.NQuads.{term_text as text_of_term};
 ghost use Rattle.vkg_terms.specs.Writable.{HoldsText, IsOnlyTerm};
 ghost use Rattle.vkg_r2rml.specs.TriplesMaps.{shows_triples_map, map_node as node_of_map, triples_maps, place_of, table_at};
@@ -113,17 +111,8 @@ fn add_triple(
 fn shows_triples_map(t: &Triple) -> bool
     ensures { result ≡ shows_triples_map t.now }
 {
-    is_iri(&t.predicate, RR_LOGICAL_TABLE)
-        || (is_iri(&t.predicate, RDF_TYPE) && is_iri(&t.object, RR_TRIPLES_MAP))
-}
-
-fn is_iri(term: &Term, iri: &str) -> bool
-    ensures { result ≡ term_eq term.now (IriTerm iri.now) }
-{
-    match term {
-        Term::Iri(text) => text.as_str() == iri,
-        _ => false,
-    }
+    t.predicate.is_iri(RR_LOGICAL_TABLE)
+        || (t.predicate.is_iri(RDF_TYPE) && t.object.is_iri(RR_TRIPLES_MAP))
 }
 
 fn map_node(

@@ -1,5 +1,4 @@
 ghost use Rattle.std.specs.Prelude.{◌≡◌, IfOk};
-ghost use Rattle.vkg_turtle.specs.Document.{annotation_of_type};
 ghost use Rattle.vkg_sparql.specs.Lexemes.{key_of, number_in};
 ghost use Rattle.vkg_sparql.specs.Literals.{type_behind, tag_or_type, annotation, term_of, operator_of, is_term, meaning_of, meanings_of};
 
@@ -11,7 +10,7 @@ use std::alloc::Global;
 use vkg_base::{Memory, Text};
 use vkg_terms::vocabulary::{RDF_TYPE, XSD_BOOLEAN, XSD_DECIMAL, XSD_INTEGER};
 use vkg_terms::{Annotation, Term};
-use vkg_turtle::{Word, lowered};
+use vkg_turtle::{Word, lowered, typed};
 use vkg_values::{Compare, Take, Test};
 
 fn type_behind(
@@ -58,14 +57,6 @@ fn annotation(
         return Ok(Annotation::Plain);
     };
     tag_or_type(alloc, environment, &lexeme.word, lexeme.kind == 22, rest)
-}
-
-// A literal of a datatype.
-fn typed(alloc: Global, text: Text, datatype: &str) -> Result<Term, Memory>
-    ensures { IfOk result (λ t. t ≡ Term.Lit text (annotation_of_type datatype.now)) }
-{
-    let datatype = Text::new(alloc, datatype)?;
-    Ok(Term::Lit(text, Annotation::typed(datatype)))
 }
 
 /// The term that begins with a token, where the rest follows.

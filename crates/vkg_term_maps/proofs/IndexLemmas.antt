@@ -66,7 +66,7 @@ pub objects_found : (triples : List Triple) (node : Term) (property : List ℕ) 
 objects_found triples node property = looked_up_from (term_name node) (object_if node property) by triples 0 triples (λ i. let e : 0 + i ≡ i = omega arith in ap (λ j. slice_get triples j) e)
   where
     by : GivesByName (term_name node) (object_if node property)
-    by = record { other = λ t e. ap (λ b. if b && term_eq (Iri property) t.predicate then Some t.object else None) (other_text node t.subject e) }
+    by = record { other = λ t e. ap (λ b. if b && term_eq t.predicate (Iri property) then Some t.object else None) (other_text node t.subject e) }
 
 pub places_found : (triples : List Triple) (node : Term) (role : Role) → filter_map (given_at (place_if node role) triples) (numbers_named (term_name node) (enumerate_from 0 triples)) ≡ places triples node role
 places_found triples node role = looked_up_from (term_name node) (place_if node role) by triples 0 triples (λ i. let e : 0 + i ≡ i = omega arith in ap (λ j. slice_get triples j) e)

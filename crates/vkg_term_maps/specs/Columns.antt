@@ -1,16 +1,9 @@
 -- The columns that a mapping names.
-use Rattle.std.specs.Prelude.{ℕ, Bool, false, List, [], ◌∷◌, ◌++◌, flat_map, position, Option, Some, None, if◌then◌else◌, ◌==◌, ◌≡◌}
+use Rattle.std.specs.Prelude.{ℕ, Bool, false, List, [], ◌∷◌, ◌++◌, position, Option, Some, None, if◌then◌else◌, ◌==◌, ◌≡◌}
 use Rattle.std.specs.Borrow.{Bor}
 use Rattle.std.specs.Str.{bytes_eq, str_eq_ignore_ascii_case}
+use Rattle.vkg_terms.specs.Name.{doubled, quoted}
 use Rattle.vkg_schema.specs.declared.table.Column.{Column}
-
--- SQL-92, 5.2, delimited identifier: a quote (34) within is doubled
-abbrev pub doubled : ℕ → List ℕ
-doubled b = if b == 34 then 34 ∷ 34 ∷ [] else b ∷ []
-
--- a name between quotes, behind the first of them
-abbrev pub quoted : List ℕ → List ℕ
-quoted name = flat_map doubled name ++ 34 ∷ []
 
 -- R2RML, 5, SQL identifier, and SQL-92, 5.2: what begins with a quote is a delimited identifier and means the name that is
 -- written so; own: another text that is not empty means a name whatever its case

@@ -10,7 +10,7 @@ use Rattle.vkg_term_maps.specs.declared.place.Place.TheVariants.{Constant, Node}
 use Rattle.vkg_term_maps.specs.Vocabulary.{shortcut, map_property}
 
 abbrev pub object_if : Term → List ℕ → Triple → Option Term
-object_if node property t = if term_eq node t.subject && term_eq (Iri property) t.predicate then Some t.object else None
+object_if node property t = if term_eq node t.subject && term_eq t.predicate (Iri property) then Some t.object else None
 
 -- the objects of the triples with this subject and this property, in their order
 abbrev pub objects : List Triple → Term → List ℕ → List Term
@@ -18,8 +18,8 @@ objects triples node property = filter_map (object_if node property) triples
 
 abbrev pub place_of : Role → Triple → Option Place
 place_of role t =
-    if term_eq (Iri (shortcut role)) t.predicate then Some (Constant t.object)
-    else if term_eq (Iri (map_property role)) t.predicate then Some (Node t.object)
+    if term_eq t.predicate (Iri (shortcut role)) then Some (Constant t.object)
+    else if term_eq t.predicate (Iri (map_property role)) then Some (Node t.object)
     else None
 
 abbrev pub place_if : Term → Role → Triple → Option Place

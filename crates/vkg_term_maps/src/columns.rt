@@ -1,6 +1,7 @@
 ghost use Rattle.std.specs.Prelude.{◌≡◌};
 ghost use Rattle.std.specs.Str.{bytes_eq};
-ghost use Rattle.vkg_term_maps.specs.Columns.{IsBehind, column_of as column_of_text, means as text_means, quoted};
+ghost use Rattle.vkg_terms.specs.Name.{quoted};
+ghost use Rattle.vkg_term_maps.specs.Columns.{IsBehind, column_of as column_of_text, means as text_means};
 
 use vkg_schema::Column;
 

@@ -1,7 +1,6 @@
 ghost use Rattle.std.specs.Prelude.{◌≡◌, IfOk, filter_map};
 ghost use Rattle.std.specs.List.{enumerate_from};
-ghost use Rattle.vkg_terms.specs.Same.{term_eq, term_name};
-ghost use Rattle.vkg_terms.specs.declared.term.Term.TheVariants.{Iri};
+ghost use Rattle.vkg_terms.specs.Same.{term_name};
 ghost use Rattle.vkg_term_maps.specs.Graph.{object_if as object_of_triple, objects, place_if as place_of_triple, place_of as place_by_role, places};
 ghost use Rattle.vkg_term_maps.specs.Index.{given_at, numbers_named};
 ghost use Rattle.vkg_term_maps.specs.Vocabulary.{map_property as map_property_of, shortcut as shortcut_of};
@@ -111,19 +110,10 @@ fn object_at(
 fn object_if(triple: &Triple, node: &Term, property: &str) -> Result<Option<Term>, Memory>
     ensures { IfOk result (λ object. object ≡ object_of_triple node.now property.now triple.now) }
 {
-    if node.same(&triple.subject) && is_iri(&triple.predicate, property) {
+    if node.same(&triple.subject) && triple.predicate.is_iri(property) {
         Ok(Some(triple.object.copy()?))
     } else {
         Ok(None)
-    }
-}
-
-fn is_iri(term: &Term, iri: &str) -> bool
-    ensures { result ≡ term_eq (Iri iri.now) term.now }
-{
-    match term {
-        Term::Iri(text) => iri == text.as_str(),
-        _ => false,
     }
 }
 
@@ -173,9 +163,9 @@ fn place_if(triple: &Triple, node: &Term, role: Role) -> Result<Option<Place>, M
 fn place_of(triple: &Triple, role: Role) -> Result<Option<Place>, Memory>
     ensures { IfOk result (λ place. place ≡ place_by_role role triple.now) }
 {
-    if is_iri(&triple.predicate, shortcut(role)) {
+    if triple.predicate.is_iri(shortcut(role)) {
         Ok(Some(Place::Constant(triple.object.copy()?)))
-    } else if is_iri(&triple.predicate, map_property(role)) {
+    } else if triple.predicate.is_iri(map_property(role)) {
         Ok(Some(Place::Node(triple.object.copy()?)))
     } else {
         Ok(None)

@@ -4,7 +4,7 @@ use std::fs;
 use std::test::Fail;
 use vkg_base::{
     Box, FixedLine, HostSink, HostStore, Items, Lines, LoadFault, MemSink, MemStore, Sink, Status,
-    Store, Text, WriteFault, earlier, lesser, place_if, put,
+    Store, Text, WriteFault, earlier, lesser, numbers_of, place_if, put,
 };
 
 fn store(alloc: Global, failing: Vec<u64>) -> Result<MemStore, Fail> {
@@ -184,5 +184,7 @@ fn numbers_are_put_under_their_texts(rt: HostRuntime) -> Result<(), Fail> {
         put(&mut groups, String::from_str(alloc, key)?, number)?;
     }
     assert_eq!(rt; groups.len(), 2);
+    assert_eq!(rt; numbers_of(&groups, "a"), [0, 2].as_slice());
+    assert!(rt; numbers_of(&groups, "c").is_empty());
     Ok(())
 }

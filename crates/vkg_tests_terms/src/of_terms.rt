@@ -26,6 +26,22 @@ fn safe_forms(rt: HostRuntime) {
             "%F0%9F%BF%BE%F0%9F%BF%BF\u{20000}\u{DFFFD}",
         ),
         (
+            "\u{2FFFD}\u{30000}\u{3FFFD}\u{40000}\u{4FFFD}\u{50000}",
+            "\u{2FFFD}\u{30000}\u{3FFFD}\u{40000}\u{4FFFD}\u{50000}",
+        ),
+        (
+            "\u{5FFFD}\u{60000}\u{6FFFD}\u{70000}\u{7FFFD}\u{80000}",
+            "\u{5FFFD}\u{60000}\u{6FFFD}\u{70000}\u{7FFFD}\u{80000}",
+        ),
+        (
+            "\u{8FFFD}\u{90000}\u{9FFFD}\u{A0000}\u{AFFFD}\u{B0000}",
+            "\u{8FFFD}\u{90000}\u{9FFFD}\u{A0000}\u{AFFFD}\u{B0000}",
+        ),
+        (
+            "\u{BFFFD}\u{C0000}\u{CFFFD}\u{D0000}",
+            "\u{BFFFD}\u{C0000}\u{CFFFD}\u{D0000}",
+        ),
+        (
             "\u{DFFFE}\u{E0FFF}\u{E1000}\u{EFFFD}",
             "%F3%9F%BF%BE%F3%A0%BF%BF\u{E1000}\u{EFFFD}",
         ),
@@ -57,6 +73,16 @@ fn absolute_iris(rt: HostRuntime) {
         "1a:b",
         "http://e/a b",
         "http://e/<",
+        "http://e/>",
+        "http://e/\"",
+        "http://e/{",
+        "http://e/}",
+        "http://e/|",
+        "http://e/^",
+        "http://e/`",
+        "http://e/\\",
+        "http://e/\u{0}",
+        "http://e/\u{1F}",
         "a\u{e9}:b",
     ] {
         assert!(rt; !is_absolute(text), "{text}");

@@ -89,7 +89,7 @@ fn each_fault_has_its_place(rt: HostRuntime) -> Result<(), Fail> {
     );
     assert_eq!(rt; fault(&rt, &[OPEN, OPEN]), Some(ParseFault::Ended));
     assert_eq!(rt; fault(&rt, &[]), Some(ParseFault::Ended));
-    // depth is looked at before the machine, which would stop at the second token
+    // depth is looked at before the machine, which would stop at the first token
     assert_eq!(rt;
         fault(&rt, &[CLOSE, CLOSE, OPEN, OPEN, OPEN, OPEN]),
         Some(ParseFault::TooDeep { index: 4 }),

@@ -94,6 +94,67 @@ fn names_of_turtle(rt: HostRuntime) -> Result<(), Fail> {
     Ok(())
 }
 
+// A prefix of one letter, and behind it a character with which a local name may or may not go on.
+fn goes_on(rt: &HostRuntime, c: char) -> Result<bool, Fail> {
+    let mut text = String::from_str(rt.alloc(), "p:a")?;
+    text.push(c)?;
+    let found = shown(rt, Lang::Turtle, text.as_str())?;
+    Ok(found.as_str() != "fault 3")
+}
+
+#[test]
+fn ends_of_the_ranges_of_names(rt: HostRuntime) -> Result<(), Fail> {
+    let ranges = [
+        ('\u{c0}', '\u{d6}'),
+        ('\u{d8}', '\u{f6}'),
+        ('\u{f8}', '\u{37d}'),
+        ('\u{37f}', '\u{1fff}'),
+        ('\u{200c}', '\u{200d}'),
+        ('\u{203f}', '\u{2040}'),
+        ('\u{2070}', '\u{218f}'),
+        ('\u{2c00}', '\u{2fef}'),
+        ('\u{3001}', '\u{d7ff}'),
+        ('\u{f900}', '\u{fdcf}'),
+        ('\u{fdf0}', '\u{fffd}'),
+        ('\u{10000}', '\u{effff}'),
+    ];
+    for (first, last) in ranges.iter() {
+        assert!(rt; goes_on(&rt, *first)?, "{first}");
+        assert!(rt; goes_on(&rt, *last)?, "{last}");
+    }
+    Ok(())
+}
+
+#[test]
+fn neighbours_of_the_ranges_of_names(rt: HostRuntime) -> Result<(), Fail> {
+    let outside = [
+        '\u{bf}',
+        '\u{d7}',
+        '\u{f7}',
+        '\u{37e}',
+        '\u{2000}',
+        '\u{200b}',
+        '\u{200e}',
+        '\u{203e}',
+        '\u{2041}',
+        '\u{206f}',
+        '\u{2190}',
+        '\u{2bff}',
+        '\u{2ff0}',
+        '\u{3000}',
+        '\u{e000}',
+        '\u{f8ff}',
+        '\u{fdd0}',
+        '\u{fdef}',
+        '\u{fffe}',
+        '\u{f0000}',
+    ];
+    for c in outside.iter() {
+        assert!(rt; !goes_on(&rt, *c)?, "{c}");
+    }
+    Ok(())
+}
+
 fn run_of_words(rt: &HostRuntime, times: usize) -> Result<String, Fail> {
     Ok("a.b1.".repeat(rt.alloc(), times)?)
 }

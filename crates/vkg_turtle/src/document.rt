@@ -54,12 +54,12 @@ pub fn or_empty(alloc: Global, iri: Option<Text>) -> Result<Text, Memory>
     }
 }
 
-// A literal of a datatype.
-fn typed(alloc: Global, text: &Text, datatype: &str) -> Result<Term, Memory>
-    ensures { IfOk result (λ t. t ≡ Term.Lit text.now (annotation_of_type datatype.now)) }
+/// A literal of a datatype.
+pub fn typed(alloc: Global, text: Text, datatype: &str) -> Result<Term, Memory>
+    ensures { IfOk result (λ t. t ≡ Term.Lit text (annotation_of_type datatype.now)) }
 {
     let datatype = Text::new(alloc, datatype)?;
-    Ok(Term::Lit(text.copy()?, Annotation::typed(datatype)))
+    Ok(Term::Lit(text, Annotation::typed(datatype)))
 }
 
 // The node of the bracket at a place.
@@ -170,10 +170,10 @@ impl Document {
         match &lexeme.word {
             Word::Label(text) => Ok(Term::Blank(text.copy()?)),
             Word::Quoted(text) => Ok(Term::Lit(text.copy()?, Annotation::Plain)),
-            Word::Integer(text) => typed(alloc, text, XSD_INTEGER),
-            Word::Decimal(text) => typed(alloc, text, XSD_DECIMAL),
-            Word::Double(text) => typed(alloc, text, XSD_DOUBLE),
-            Word::Boolean(text) => typed(alloc, text, XSD_BOOLEAN),
+            Word::Integer(text) => typed(alloc, text.copy()?, XSD_INTEGER),
+            Word::Decimal(text) => typed(alloc, text.copy()?, XSD_DECIMAL),
+            Word::Double(text) => typed(alloc, text.copy()?, XSD_DOUBLE),
+            Word::Boolean(text) => typed(alloc, text.copy()?, XSD_BOOLEAN),
             Word::IsA => Ok(Term::Iri(Text::new(alloc, RDF_TYPE)?)),
             _ => Ok(Term::Iri(self.iri(alloc, lexeme)?)),
         }

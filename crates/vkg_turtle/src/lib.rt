@@ -20,7 +20,7 @@ mod repeats;
 mod role;
 mod triple;
 
-pub use document::or_empty;
+pub use document::{or_empty, typed};
 pub use grammar_table::{ROLES, TURTLE};
 pub use lexeme::{Word, between, lowered, word_of};
 pub use names::{iri_named, prefix_of};

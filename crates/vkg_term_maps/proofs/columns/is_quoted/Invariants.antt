@@ -1,6 +1,6 @@
 use Rattle.std.proofs.Common.{◌≡◌, drop}
 use Rattle.std.specs.Str.{bytes_eq}
-use Rattle.vkg_term_maps.specs.Columns.{quoted}
+use Rattle.vkg_terms.specs.Name.{quoted}
 use Rattle.vkg_term_maps.proofs.columns.is_quoted.Given as goal
 
 abbrev pub invariant-loop-b : goal.invariant-loop-b
