@@ -6,6 +6,7 @@ use Rattle.hex.specs.Hex.{decode_of, encode_upper}
 use Rattle.hex.specs.declared.error.FromHexError.{FromHexError}
 use Rattle.hex.proofs.HexLemmas.{decode_of-ok}
 use Rattle.vkg_lists.proofs.Results.{ok_err, ok_same, some_of}
+use Rattle.vkg_lists.specs.Texts.{bytes_cmp}
 use Rattle.vkg_cells.specs.declared.cell.Cell.{Cell}
 use Rattle.vkg_cells.specs.declared.cell.Cell.TheVariants as cell
 use Rattle.vkg_cells.specs.declared.cell.FieldFault.TheVariants.{BadValue}
@@ -14,12 +15,12 @@ use Rattle.vkg_cells.specs.Field.{where_octets}
 use Rattle.vkg_cells.specs.Moment.{cut, day_of_text, is_date, stamp_form}
 use Rattle.vkg_cells.specs.Order.{order}
 use Rattle.vkg_cells.proofs.FieldLemmas.{field_ok, stamp_ok}
-use Rattle.vkg_laws.specs.ByValue.{IsByValue, OrderIsByValue, date_cmp, date_value, moment_cmp, moment_value, octets_cmp, octets_value}
+use Rattle.vkg_laws.specs.ByValue.{IsByValue, OrderIsByValue, date_cmp, moment_cmp, moment_value, octets_value}
 use Rattle.vkg_laws.proofs.Dates.{date-order}
 use Rattle.vkg_laws.proofs.Moments.{moment-order, written-parts}
 use Rattle.vkg_laws.proofs.Octets.{octets-order}
 
-dates : IsByValue kind.Date date_value date_cmp
+dates : IsByValue kind.Date day_of_text date_cmp
 dates s t c d e f =
     let p = field_ok (is_date s) (cell.Date s) c e in
     let q = field_ok (is_date t) (cell.Date t) d f in
@@ -39,7 +40,7 @@ octets-given : (r : Result (List ℕ) FromHexError) (c : Cell) → where_octets 
 octets-given (Ok octets) c e = (octets, refl, ok_same (cell.Bin (encode_upper octets)) c e)
 octets-given (Err f) c e = absurd (ok_err c BadValue (sym e))
 
-octets : IsByValue kind.Bin octets_value octets_cmp
+octets : IsByValue kind.Bin octets_value bytes_cmp
 octets s t c d e f =
     let p = octets-given (decode_of s) c e in
     let q = octets-given (decode_of t) d f in

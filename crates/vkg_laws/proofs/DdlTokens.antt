@@ -15,9 +15,10 @@ use Rattle.vkg_tokens.specs.declared.ddl.Ddl.{Ddl}
 use Rattle.vkg_tokens.specs.declared.ddl.Ddl.TheVariants.{Word, Opened, Emptied, Inside, Closed, Digits, Open, Comma, Close, Semicolon}
 use Rattle.vkg_tokens.specs.declared.lang.Lang.TheVariants as lang
 use Rattle.vkg_tokens.specs.declared.lang.State.TheVariants.{OfDdl}
+use Rattle.vkg_tokens.specs.Characters.{is_word_letter}
 use Rattle.vkg_tokens.specs.Ddl.{is_word_part, ddl_begin, ddl_step, ddl_class, keyword_kind}
 use Rattle.vkg_tokens.specs.Lang.{classed, kind_of, stepped, token_class}
-use Rattle.vkg_laws.specs.DdlTokens.{is_letter, is_part, IsWord, IsInteger, IsBetweenQuotes, IsToken, opening, comma, closing, semicolon, word, integer, delimited, IsKeyword, create, table, constraint, not, null, primary, key, unique, references, foreign, AreProductions}
+use Rattle.vkg_laws.specs.DdlTokens.{is_part, IsWord, IsInteger, IsBetweenQuotes, IsToken, opening, comma, closing, semicolon, word, integer, delimited, IsKeyword, create, table, constraint, not, null, primary, key, unique, references, foreign, AreProductions}
 
 -- ---- what is read behind a state, by the text alone
 
@@ -78,12 +79,12 @@ or_moved true u l z = refl
 or_moved false u l z = refl
 
 same_part : (b : ℕ) → is_part b ≡ is_word_part b
-same_part b = or_comm (is_letter b) (is_ascii_digit b) ∙ or_moved (is_ascii_digit b) (is_in_range 65 90 b) (is_in_range 97 122 b) (b == 95)
+same_part b = or_comm (is_word_letter b) (is_ascii_digit b) ∙ or_moved (is_ascii_digit b) (is_in_range 65 90 b) (is_in_range 97 122 b) (b == 95)
 
 same_parts : (bs : List ℕ) → list_all is_part bs ≡ list_all is_word_part bs
 same_parts bs = λ i. list_all (λ b. same_part b i) bs
 
-letter_above : (b : ℕ) → is_letter b ≡ true → 58 ≤ b
+letter_above : (b : ℕ) → is_word_letter b ≡ true → 58 ≤ b
 letter_above b h =
     ⊎_elim
     (λ (a : is_ascii_alphabetic b ≡ true).
@@ -94,7 +95,7 @@ letter_above b h =
     (λ (z : (b == 95) ≡ true). let k : b ≡ 95 = eqb-true b 95 z in omega arith)
     (or_cases (is_ascii_alphabetic b) (b == 95) h)
 
-letter_no_digit : (b : ℕ) → is_letter b ≡ true → is_ascii_digit b ≡ true → ⊥
+letter_no_digit : (b : ℕ) → is_word_letter b ≡ true → is_ascii_digit b ≡ true → ⊥
 letter_no_digit b h d = let k : b ≤ 57 = leb-true b 57 (and_parts (nat_le 48 b) (nat_le b 57) d).1 in let m : 58 ≤ b = letter_above b h in omega arith
 
 -- ---- the first byte
@@ -106,10 +107,10 @@ data Begins (b : ℕ) : Option Ddl → Type 0 where
   a_semicolon : b ≡ 59 → Begins b (Some Semicolon)
   a_quote : b ≡ 34 → Begins b (Some Opened)
   a_digit : is_ascii_digit b ≡ true → Begins b (Some Digits)
-  a_letter : is_letter b ≡ true → Begins b (Some Word)
-  none_begins : is_ascii_digit b ≡ false → is_letter b ≡ false → Begins b None
+  a_letter : is_word_letter b ≡ true → Begins b (Some Word)
+  none_begins : is_ascii_digit b ≡ false → is_word_letter b ≡ false → Begins b None
 
-begins_part : (b : ℕ) (d l : Bool) → is_ascii_digit b ≡ d → is_letter b ≡ l → Begins b (if d then Some Digits else if d || l then Some Word else None)
+begins_part : (b : ℕ) (d l : Bool) → is_ascii_digit b ≡ d → is_word_letter b ≡ l → Begins b (if d then Some Digits else if d || l then Some Word else None)
 begins_part b true l e f = a_digit e
 begins_part b false true e f = a_letter f
 begins_part b false false e f = none_begins e f
@@ -126,15 +127,15 @@ begins_by b false false false false false rest e1 e2 e3 e4 e5 r = r
 begins : (b : ℕ) → Begins b (ddl_begin b)
 begins b =
     begins_by b _ _ _ _ _ (if is_ascii_digit b then Some Digits else if is_word_part b then Some Word else None) refl refl refl refl refl
-    (subst (λ t. Begins b (if is_ascii_digit b then Some Digits else if t then Some Word else None)) (or_comm (is_ascii_digit b) (is_letter b) ∙ same_part b) (begins_part b (is_ascii_digit b) (is_letter b) refl refl))
+    (subst (λ t. Begins b (if is_ascii_digit b then Some Digits else if t then Some Word else None)) (or_comm (is_ascii_digit b) (is_word_letter b) ∙ same_part b) (begins_part b (is_ascii_digit b) (is_word_letter b) refl refl))
 
-no_letter : (b c : ℕ) → b ≡ c → is_letter c ≡ false → is_letter b ≡ true → ⊥
-no_letter b c e f h = true≢false (sym h ∙ ap is_letter e ∙ f)
+no_letter : (b c : ℕ) → b ≡ c → is_word_letter c ≡ false → is_word_letter b ≡ true → ⊥
+no_letter b c e f h = true≢false (sym h ∙ ap is_word_letter e ∙ f)
 
 no_digit : (b c : ℕ) → b ≡ c → is_ascii_digit c ≡ false → is_ascii_digit b ≡ true → ⊥
 no_digit b c e f h = true≢false (sym h ∙ ap is_ascii_digit e ∙ f)
 
-letter_begins : (b : ℕ) (o : Option Ddl) → Begins b o → is_letter b ≡ true → o ≡ Some Word
+letter_begins : (b : ℕ) (o : Option Ddl) → Begins b o → is_word_letter b ≡ true → o ≡ Some Word
 letter_begins b _ (open_paren e) h = absurd (no_letter b 40 e refl h)
 letter_begins b _ (a_comma e) h = absurd (no_letter b 44 e refl h)
 letter_begins b _ (close_paren e) h = absurd (no_letter b 41 e refl h)

@@ -2,14 +2,14 @@
 use Rattle.std.specs.Prelude.{◌≡◌, refl, codes, [], ◌∷◌, Some, None}
 use Rattle.hex.proofs.OnLiterals.{hex_on_literals}
 use Rattle.vkg_cells.specs.Moment.{clock_of_text, day_of_text}
-use Rattle.vkg_laws.specs.ByValue.{date_value, moment_value, octets_value}
+use Rattle.vkg_laws.specs.ByValue.{moment_value, octets_value}
 use Rattle.vkg_laws.specs.RemoveDots.{remove_dot_segments, turns}
 
-leap : date_value (codes "2024-02-29") ≡ Some (record { year = 2024; month = 2; day = 29 })
+leap : day_of_text (codes "2024-02-29") ≡ Some (record { year = 2024; month = 2; day = 29 })
 unfolding day_of_text
 leap = refl
 
-none : date_value (codes "2023-02-29") ≡ None
+none : day_of_text (codes "2023-02-29") ≡ None
 unfolding day_of_text
 none = refl
 

@@ -3,9 +3,9 @@ use Rattle.std.specs.Prelude.{◌≡◌, ℕ, ◌-◌, ◌*◌, ◌^◌, List, [
 use Rattle.std.specs.Option.{option_or}
 use Rattle.std.specs.Result.{result_ok}
 use Rattle.std.specs.Ordering.{nat_cmp, ordering_then}
-use Rattle.std.specs.Cmp.Lexicographic.{slice_cmp}
 use Rattle.std.specs.declared.cmp.Ordering.{Ordering}
 use Rattle.hex.specs.Hex.{decode_of}
+use Rattle.vkg_lists.specs.Texts.{bytes_cmp}
 use Rattle.vkg_cells.specs.declared.cell.Cell.{Cell}
 use Rattle.vkg_cells.specs.declared.cell.SqlType.{SqlType}
 use Rattle.vkg_cells.specs.declared.cell.SqlType.TheVariants as kind
@@ -15,10 +15,6 @@ use Rattle.vkg_cells.specs.Field.{cell_of_field}
 use Rattle.vkg_cells.specs.Moment.{clock_of_text, cut, day_of_text}
 use Rattle.vkg_cells.specs.Number.{digits_value}
 use Rattle.vkg_cells.specs.Order.{order}
-
--- XML Schema 1.1 Part 2, 3.3.9, without a zone: the year, the month and the day that a text `YYYY-MM-DD` writes
-abbrev pub date_value : List ℕ → Option Day
-date_value text = day_of_text text
 
 -- XML Schema 1.1 Part 2, 3.3.9, in the calendar of ISO 8601: by the year, then the month, then the day
 abbrev pub date_cmp : Day → Day → Ordering
@@ -65,10 +61,6 @@ moment_cmp a b = ordering_then (date_cmp a.date b.date) (ordering_then (clock_cm
 abbrev pub octets_value : List ℕ → Option (List ℕ)
 octets_value text = result_ok (decode_of text)
 
--- an order of this project, as XML Schema has none of octets: by the first that differ, and a beginning before the whole
-abbrev pub octets_cmp : List ℕ → List ℕ → Ordering
-octets_cmp a b = slice_cmp nat_cmp a b
-
 -- The fields of a kind have values, and the cells of two fields are ordered as their values. Each cell of the kind is of a field,
 -- and of its own lexical form too, so the same holds of the forms.
 abbrev pub IsByValue : {V : Type 0} → SqlType → (List ℕ → Option V) → (V → V → Ordering) → Type 0
@@ -78,6 +70,7 @@ IsByValue {V = V} k value cmp =
 
 -- the order of cells is that of the values of dates, of moments and of octets
 pub record OrderIsByValue : Type 0 where
-  pub dates : IsByValue kind.Date date_value date_cmp
+  pub dates : IsByValue kind.Date day_of_text date_cmp
   pub moments : IsByValue kind.Stamp moment_value moment_cmp
-  pub octets : IsByValue kind.Bin octets_value octets_cmp
+  -- XML Schema has no order of octets; own: that of texts, by the first that differ, and a beginning before the whole
+  pub octets : IsByValue kind.Bin octets_value bytes_cmp

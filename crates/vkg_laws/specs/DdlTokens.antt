@@ -1,24 +1,21 @@
 -- The tokens of the DDL by their productions, and the law that the automaton of vkg_tokens takes just these.
-use Rattle.std.specs.Prelude.{◌≡◌, ◌≢◌, ◌↔◌, ℕ, Bool, ◌||◌, ◌==◌, IsTrue, List, [], ◌∷◌, codes, Some, None}
-use Rattle.std.specs.Char.{is_ascii_alphabetic, is_ascii_digit}
+use Rattle.std.specs.Prelude.{◌≡◌, ◌≢◌, ◌↔◌, ℕ, Bool, ◌||◌, IsTrue, List, [], ◌∷◌, codes, Some, None}
+use Rattle.std.specs.Char.{is_ascii_digit}
 use Rattle.std.specs.List.{list_all}
 use Rattle.std.specs.Str.{str_to_ascii_lowercase}
 use Rattle.vkg_terms.specs.Name.{IsDelimited}
 use Rattle.vkg_tokens.specs.declared.lang.Lang.TheVariants.{Ddl}
+use Rattle.vkg_tokens.specs.Characters.{is_word_letter}
 use Rattle.vkg_tokens.specs.Lang.{kind_of, token_class}
 
--- own: the letters are those of ASCII, and `_` (95) may stand where a letter may
-abbrev pub is_letter : ℕ → Bool
-is_letter b = is_ascii_alphabetic b || (b == 95)
-
--- SQL-92, 5.2, identifier part
+-- SQL-92, 5.2, identifier part; own: the letters are those of ASCII, and `_` may stand where a letter may
 abbrev pub is_part : ℕ → Bool
-is_part b = is_letter b || is_ascii_digit b
+is_part b = is_word_letter b || is_ascii_digit b
 
 -- SQL-92, 5.2, regular identifier: a letter, and then letters and digits, `[A-Za-z_][A-Za-z0-9_]*`
 abbrev pub IsWord : List ℕ → Type 0
 IsWord [] = ⊥
-IsWord (b ∷ bs) = IsTrue (is_letter b) × IsTrue (list_all is_part bs)
+IsWord (b ∷ bs) = IsTrue (is_word_letter b) × IsTrue (list_all is_part bs)
 
 -- SQL-92, 5.3, unsigned integer: one digit or more, `[0-9]+`
 abbrev pub IsInteger : List ℕ → Type 0
