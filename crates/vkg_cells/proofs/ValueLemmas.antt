@@ -2,6 +2,7 @@
 use Rattle.std.proofs.Common.{◌≡◌, ◌≢◌, ◌∙◌, ◌+◌, ◌-◌, ◌*◌, ◌^◌, ◌<◌, ◌≤◌, ◌++◌, ◌⊎◌, inl, inr, ℕ, zero, suc, Bool, true, false, List, [], ◌∷◌, refl, sym, ap, arith, length, fold, replicate, length-append, append_assoc, eqb-true, if◌then◌else◌, ◌==◌}
 use Rattle.std.specs.Ordering.{nat_cmp, ordering_then}
 use Rattle.std.specs.Cmp.{nat_cmp_is, ranked}
+use Rattle.std.specs.Cmp.Derive.{then_next}
 use Rattle.std.proofs.lemmas.List.{length-replicate, replicate-append-replicate}
 use Rattle.std.proofs.lemmas.List.Sums.{fold-append}
 use Rattle.std.proofs.Math.Nat.{mul-one, pow-suc}
@@ -17,11 +18,6 @@ pub then-equal : (o : Ordering) → ordering_then o Equal ≡ o
 then-equal Less = refl
 then-equal Equal = refl
 then-equal Greater = refl
-
-then-assoc : (o p q : Ordering) → ordering_then (ordering_then o p) q ≡ ordering_then o (ordering_then p q)
-then-assoc Less p q = refl
-then-assoc Equal p q = refl
-then-assoc Greater p q = refl
 
 -- the number that digits write behind those of n
 abbrev pub onto : ℕ → List ℕ → ℕ
@@ -83,7 +79,7 @@ cmp-append [] (y ∷ ys) us vs e = absurd (omega (arith, e))
 cmp-append (x ∷ xs) [] us vs e = absurd (omega (arith, e))
 cmp-append (x ∷ xs) (y ∷ ys) us vs e =
     ap (ordering_then (nat_cmp x y)) (cmp-append xs ys us vs (omega (arith, e)))
-    ∙ sym (then-assoc (nat_cmp x y) (slice_cmp nat_cmp xs ys) (slice_cmp nat_cmp us vs))
+    ∙ then_next (nat_cmp x y) (slice_cmp nat_cmp xs ys) (slice_cmp nat_cmp us vs) refl refl
 
 -- the last digit is no zero
 abbrev pub IsTrimmed : List ℕ → Type 0

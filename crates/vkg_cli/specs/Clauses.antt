@@ -75,7 +75,7 @@ IsComplete asked old new status = (command : Command) → asked ≡ run command 
     → ¬ (Rose old.store.faults new.store.faults) → ¬ (Rose old.out.faults new.out.faults)
     → ((status ≡ Done) × Took old.out new.out (written lines)) ⊎ (status ≡ Memory)
 
--- A help request takes no memory.
+-- A help request is never answered with want of memory.
 abbrev pub HelpIsGiven : Asked → Status → Type 0
 HelpIsGiven asked status = asked ≡ help → (status ≡ Done) ⊎ (status ≡ WriteFault)
 

@@ -17,6 +17,16 @@ fn safe_forms(rt: HostRuntime) {
             "\u{FDD0}\u{FDEF}\u{FDF0}\u{FFEF}",
             "%EF%B7%90%EF%B7%AF\u{FDF0}\u{FFEF}",
         ),
+    ];
+    for (text, form) in rows {
+        let safe = iri_safe(rt.alloc(), text).expect(&rt, "memory");
+        assert!(rt; safe.as_str() == form, "{text}");
+    }
+}
+
+#[test]
+fn safe_forms_of_other_planes(rt: HostRuntime) {
+    let rows = [
         (
             "\u{FFF0}\u{FFFF}\u{10000}\u{1FFFD}",
             "%EF%BF%B0%EF%BF%BF\u{10000}\u{1FFFD}",
@@ -66,6 +76,10 @@ fn absolute_iris(rt: HostRuntime) {
     for iri in ["http://e/", "a:", "a+1.-:b", "http://e/é"] {
         assert!(rt; is_absolute(iri), "{iri}");
     }
+}
+
+#[test]
+fn texts_that_are_no_absolute_iris(rt: HostRuntime) {
     for text in [
         "",
         "e",
@@ -293,6 +307,10 @@ fn names(rt: HostRuntime) {
     for name in ["a b", "\"a\"\"b\"", "a\"b"] {
         assert!(rt; is_name(name), "{name}");
     }
+}
+
+#[test]
+fn texts_that_are_no_names(rt: HostRuntime) {
     for text in ["", "\"", "\"\"", "\"a", "\"a\"b"] {
         assert!(rt; !is_name(text), "{text}");
     }
