@@ -1,20 +1,17 @@
 -- Texts of octets are ordered as the octets.
-use Rattle.std.proofs.Common.{◌≡◌, ◌∙◌, ◌+◌, ◌/◌, ◌%◌, ◌<◌, ◌==◌, inl, inr, ℕ, suc, true, List, [], ◌∷◌, refl, sym, ap, arith, slice_index, eqb-true, if◌then◌else◌, nat_lt}
+use Rattle.std.proofs.Common.{◌≡◌, ◌∙◌, ◌+◌, ◌/◌, ◌%◌, ◌<◌, ◌==◌, inl, inr, ℕ, suc, true, List, [], ◌∷◌, refl, sym, ap, arith, slice_index, eqb-true}
 use Rattle.std.proofs.lemmas.Bool.{agree_below_at, cases_lt, le-ltb, lt-ltb}
 use Rattle.std.specs.Ordering.{nat_cmp, ordering_then}
 use Rattle.std.specs.Cmp.Lexicographic.{slice_cmp}
 use Rattle.hex.specs.Hex.{IsBytes, encode_upper, encode_with, upper_digits}
 use Rattle.std.specs.Cmp.Derive.{then_next}
+use Rattle.vkg_terms.specs.Safe.{upper_hex}
 use Rattle.vkg_laws.proofs.Orders.{nat-order, nat-order-then}
 
--- the digits are `0` (48) to `9`, and then `A` (65) to `F`
-abbrev digit : ℕ → ℕ
-digit n = if nat_lt n 10 then 48 + n else 55 + n
+upper-is : (n : ℕ) → n < 16 → slice_index upper_digits n ≡ upper_hex n
+upper-is n h = eqb-true (slice_index upper_digits n) (upper_hex n) (agree_below_at (λ k. slice_index upper_digits k == upper_hex k) (λ k. true) 16 n refl h)
 
-upper-is : (n : ℕ) → n < 16 → slice_index upper_digits n ≡ digit n
-upper-is n h = eqb-true (slice_index upper_digits n) (digit n) (agree_below_at (λ k. slice_index upper_digits k == digit k) (λ k. true) 16 n refl h)
-
-digits-ascend : (m n : ℕ) → m < n → digit m < digit n
+digits-ascend : (m n : ℕ) → m < n → upper_hex m < upper_hex n
 digits-ascend m n h = elim (cases_lt n 10) [
   | inl low ↦ let first : m < 10 = omega arith in rw (lt-ltb m 10 first, lt-ltb n 10 low) (omega arith)
   | inr high ↦ elim (cases_lt m 10) [
@@ -26,7 +23,7 @@ digits-ascend m n h = elim (cases_lt n 10) [
 digit-order : (m n : ℕ) → m < 16 → n < 16 → nat_cmp (slice_index upper_digits m) (slice_index upper_digits n) ≡ nat_cmp m n
 digit-order m n h g =
     (λ i. nat_cmp (upper-is m h i) (upper-is n g i))
-    ∙ nat-order (digit m) (digit n) m n (digits-ascend m n) (ap digit) (digits-ascend n m)
+    ∙ nat-order (upper_hex m) (upper_hex n) m n (digits-ascend m n) (ap upper_hex) (digits-ascend n m)
 
 octet-order : (x y : ℕ) → nat_cmp x y ≡ ordering_then (nat_cmp (x / 16) (y / 16)) (nat_cmp (x % 16) (y % 16))
 octet-order x y =
