@@ -313,4 +313,5 @@ def main():
     print(f"{len(shown)} rows; {len(rows) - len(shown)} more of lemmas that say so little that over {MOST} are their cases")
 
 
-main()
+if __name__ == "__main__":
+    main()
