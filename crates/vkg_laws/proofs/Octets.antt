@@ -1,5 +1,5 @@
 -- Texts of octets are ordered as the octets.
-use Rattle.std.proofs.Common.{◌≡◌, ◌∙◌, ◌+◌, ◌/◌, ◌%◌, ◌<◌, ◌==◌, inl, inr, ℕ, suc, true, List, [], ◌∷◌, refl, sym, ap, arith, slice_index, eqb-true}
+use Rattle.std.proofs.Common.{◌≡◌, ◌∙◌, ◌/◌, ◌%◌, ◌<◌, ◌==◌, inl, inr, ℕ, suc, true, List, [], ◌∷◌, refl, sym, ap, arith, slice_index, eqb-true}
 use Rattle.std.proofs.lemmas.Bool.{agree_below_at, cases_lt, le-ltb, lt-ltb}
 use Rattle.std.specs.Ordering.{nat_cmp, ordering_then}
 use Rattle.std.specs.Cmp.Lexicographic.{slice_cmp}
