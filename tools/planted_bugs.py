@@ -3,7 +3,7 @@
 
 usage: tools/planted_bugs.py LOG
 
-A row is a crate, a wrong body, the function in or before which it stands, and the first name in what the prover said. "An answer"
+A row is a crate, a wrong body, the function in or before which it stands (or the definition, of a crate of laws), and the first name in what the prover said. "An answer"
 is said where that is an answer of a proof file, which no longer fits the changed body.
 """
 
@@ -15,12 +15,14 @@ NAME = re.compile(r"`([^`]+)`")
 
 
 def function_of(crate, bug):
-    """The function in or before which the first changed line stands."""
+    """The function, or in a proof file the definition, in or before which the first changed line stands."""
     with open(f"crates/{crate}/must-fail/{bug}.edit", encoding="utf-8") as it:
         edit = it.read()
     file, old = re.search(r"file: (.*)\nold: (.*)\n", edit).groups()
     with open(f"crates/{crate}/{file}", encoding="utf-8") as it:
         before = it.read().partition(old)[0] + old
+    if file.endswith(".antt"):
+        return f"`{re.findall(r'^(?:abbrev|data|record)? ?(?:pub )?(?:data |record )?(\w+)(?: .*)? :', before, re.MULTILINE)[-1]}`, a definition"
     names = re.findall(r"\bfn (\w+)", before)
     return f"`{names[-1]}`" if names and "const " not in old else "a constant"
 
