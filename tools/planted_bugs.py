@@ -12,6 +12,7 @@ import sys
 
 LINE = re.compile(r"rt: must-fail (\w+)/(\w+)\.edit: refused, as it must be(?:: (.*))?")
 NAME = re.compile(r"`([^`]+)`")
+DEFINITION = re.compile(r"^(?:abbrev )?pub (?:data |record )?(\w+)", re.MULTILINE)
 
 
 def function_of(crate, bug):
@@ -22,7 +23,7 @@ def function_of(crate, bug):
     with open(f"crates/{crate}/{file}", encoding="utf-8") as it:
         before = it.read().partition(old)[0] + old
     if file.endswith(".antt"):
-        return f"`{re.findall(r'^(?:abbrev|data|record)? ?(?:pub )?(?:data |record )?(\w+)(?: .*)? :', before, re.MULTILINE)[-1]}`, a definition"
+        return f"`{DEFINITION.findall(before)[-1]}`, a definition"
     names = re.findall(r"\bfn (\w+)", before)
     return f"`{names[-1]}`" if names and "const " not in old else "a constant"
 
