@@ -7,6 +7,7 @@ from reference.calls import Ending, expected
 
 TOP = os.path.join(os.path.dirname(__file__), "..", "..", "..")
 COMPANY = os.path.join("examples", "company")
+CALL = ["--schema", f"{COMPANY}/schema.sql", "--base", "http://example.org/", "--mapping", f"{COMPANY}/mapping.ttl"]
 
 
 def read(*path):
@@ -15,35 +16,45 @@ def read(*path):
         return file.read()
 
 
-def excerpt(ending, shown):
-    """An ending with those lines of its output that are shown."""
-    lines = ending.output.splitlines(keepends=True)
-    return ending._replace(output="".join(line for line in lines if line in shown.splitlines(keepends=True)))
+def shown_in(text):
+    """The commands of a document's fenced blocks, each with what it is shown to write: a command stands behind `$ `, and what it writes below it."""
+    for block in re.findall(r"^```\w*\n(.*?)^```$", text, re.DOTALL | re.MULTILINE):
+        for part in re.split(r"^\$ ", block, flags=re.MULTILINE)[1:]:
+            command, _, output = part.partition("\n")
+            yield command, output
 
 
-def check(comparison, words, folder, shown):
-    """Asks whether a call has the output that is shown; of a dump a part is shown, and only `dump` and `query` are known here."""
+def as_shown(output, shown):
+    """Whether an output is what is shown, where a line `...` stands for any lines."""
+    parts = re.split(r"^\.\.\.\n", shown, flags=re.MULTILINE)
+    return re.fullmatch(r"(?:.*\n)*".join(re.escape(part) for part in parts), output) is not None
+
+
+def check_call(comparison, command, folder, shown):
+    """Asks whether a call writes what is shown, by the program and, of `dump` and `query`, by the second implementation."""
+    words = command.split()[1:]
     endings = {"vkg": comparison.call(words, folder)}
     if words[0] in ("dump", "query"):
         endings["the second implementation"] = expected(words, folder)
     for name, ending in endings.items():
-        if words[0] == "dump" and ending is not None:
-            ending = excerpt(ending, shown)
-        comparison.check(f"README.md, {words[0]} by {name}", words, folder, ending, Ending(0, shown))
+        is_so = ending is not None and as_shown(ending.output, shown)
+        comparison.check(f"README.md, {words[0]} by {name}", words, folder, ending, Ending(0, ending.output if is_so else shown))
+
+
+def check(comparison, words, folder, stored):
+    """Asks whether a call of the program, and of the second implementation where it is a query, writes what is stored."""
+    comparison.check(f"{words[-1]}, {words[0]} by vkg", words, folder, comparison.call(words, folder), Ending(0, stored))
+    if words[0] == "query":
+        comparison.check(f"{words[-1]}, by the second implementation", words, folder, expected(words, folder), Ending(0, stored))
 
 
 def compare(comparison, _, folder):
-    """The calls of README.md, in the order in which they stand there, and the answers and plans of the example's queries."""
+    """The calls of README.md that are no pipe, and the answers and plans of the example's queries."""
     shutil.copytree(os.path.join(TOP, COMPANY), os.path.join(folder, COMPANY))
-    blocks = re.findall(r"```\n(.*?)```", read("README.md"), re.DOTALL)
-    dump, _, of_mapping, of_direct, query, answer, gen, report = blocks
-    dump, query, gen = (call.split()[1:] for call in (dump, query, gen))
-    check(comparison, dump, folder, of_mapping)
-    check(comparison, [word for word in dump if word != "--mapping" and not word.endswith(".ttl")], folder, of_direct)
-    check(comparison, query, folder, answer)
-    check(comparison, gen, folder, report)
+    for command, shown in shown_in(read("README.md")):
+        if command.startswith("./vkg ") and "|" not in command:
+            check_call(comparison, command, folder, shown)
     for name in ("kinds", "members", "payroll"):
-        words = [re.sub(r"\w+\.rq", name + ".rq", word) for word in query]
-        check(comparison, words, folder, read(COMPANY, "queries", name + ".tsv"))
-        words = ["sql", *[word for word in words[1:] if word != "--data" and not word.endswith("/data")]]
-        check(comparison, words, folder, read(COMPANY, "queries", name + ".sql"))
+        query = ["--query", f"{COMPANY}/queries/{name}.rq"]
+        check(comparison, ["query", "--data", f"{COMPANY}/data", *CALL, *query], folder, read(COMPANY, "queries", name + ".tsv"))
+        check(comparison, ["sql", *CALL, *query], folder, read(COMPANY, "queries", name + ".sql"))
