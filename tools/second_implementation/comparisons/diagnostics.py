@@ -61,6 +61,7 @@ TOLD = [
     ("T08", "1:1:1", with_rows(f"a,b\n{NINES},2024-01-01\n", SCHEMA_OF_TABLES)),
     ("T09", "1:3:1", with_rows("a,b\n7,2024-01-01\n8,2024-01-02\n7,2024-01-03\n", SCHEMA_OF_TABLES)),
     ("T10", "2:1:1", {"schema.sql": SCHEMA_OF_REFERENCES, "data/u.csv": "id\n1\n", "data/t.csv": "id,u\n7,5\n"}),
+    ("M01", 2, {"mapping.ttl": b'a " \xff'}),
     ("M03", 74, {"mapping.ttl": "<#m> <#p> " + 65 * "["}),
     ("M10", 1, {"mapping.ttl": mapping("rr:subjectMap ")}),
     ("M19", 1, {"mapping.ttl": mapping("[ rr:parentTriplesMap <#u> ]")}),
@@ -70,6 +71,7 @@ TOLD = [
     ("X01", "1:2:0", {**with_rows("a,b,d\n1,q,\n2,a b,\n"), "mapping.ttl": mapping('rr:subjectMap [ rr:column "b" ]')}),
     ("X02", "1:1:2", {**with_rows("a,b,d\n1,x,\n"), "mapping.ttl": mapping(TYPED)}),
     ("X03", "1:1:2", {**with_rows(f"a,b,d\n1,{NINES},\n"), "mapping.ttl": mapping(TYPED)}),
+    ("Q01", 14, {"query.rq": b"SELECT * { ?s ~ ?o } # \xff"}),
     ("Q03", 73, {"query.rq": "SELECT * " + 65 * "{"}),
     ("Q08", 29, {"query.rq": f"SELECT * {{ ?s <http://e/p>   {NINES} }}"}),
 ]

@@ -7,7 +7,7 @@ from reference.queries import (ACCESSORS, COMPARISONS, TESTS, Call, FilterElemen
                                TriplesBlock, UnionElement, Var)
 from reference.rdf import RDF_TYPE, XSD, Term
 from reference.refusal import Refused, refuse_first
-from reference.tokens import Token, check_depth, cut, decoded
+from reference.tokens import Token, check_depth, cut_bytes
 from reference.triples_syntax import BASE_CHARS, CLASSES, SKIPPED, TriplesCursor
 
 SIGNS = [
@@ -221,7 +221,7 @@ class QueryCursor(TriplesCursor):
 
 def read_query(data, base):
     """The query that a file's bytes are; refused at its first fault."""
-    tokens = [with_keyword(token) for token in cut(decoded(data, "Q01"), CLASSES + SIGNS, SKIPPED, "Q01")]
+    tokens = [with_keyword(token) for token in cut_bytes(data, CLASSES + SIGNS, SKIPPED, "Q01")]
     check_depth(tokens, "Q03")
     cursor = QueryCursor(tokens, base)
     query = cursor.query()

@@ -50,6 +50,17 @@ def cut(text, classes, skipped, code):
     return tokens + [Token("END", "", at)]
 
 
+def cut_bytes(data, classes, skipped, code):
+    """The tokens of a file's bytes behind one byte order mark; refused at the least place at which no token begins or the bytes are no UTF-8."""
+    data = data.removeprefix(b"\xef\xbb\xbf")
+    try:
+        return cut(data.decode(), classes, skipped, code)
+    except UnicodeDecodeError as error:
+        # No token holds a byte that is no UTF-8, so the front alone tells whether a place before that byte is at fault.
+        cut(data[:error.start].decode(), classes, skipped, code)
+        raise Refused(code, error.start) from None
+
+
 def check_depth(tokens, code):
     """Refuses the first bracket that makes more open ones than are allowed; brackets of all kinds count alike."""
     depth = 0

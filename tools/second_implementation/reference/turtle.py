@@ -1,7 +1,7 @@
 """The triples of a Turtle document (RDF 1.1 Turtle, 6 and 7), without collections, or its first fault M01 to M05."""
 from reference.rdf import RDF_TYPE, Term
 from reference.refusal import refuse_first
-from reference.tokens import Token, check_depth, cut, decoded
+from reference.tokens import Token, check_depth, cut_bytes
 from reference.triples_syntax import CLASSES, SKIPPED, TriplesCursor
 
 SIGNS = [("SIGN", r"\^\^|[\[\]().;,]")]
@@ -56,7 +56,7 @@ class TurtleCursor(TriplesCursor):
 
 def read_turtle(data, base):
     """The triples of a document, each once, in the order of their objects' places; refused at its first fault."""
-    tokens = [with_keyword(token) for token in cut(decoded(data, "M01"), CLASSES + SIGNS, SKIPPED, "M01")]
+    tokens = [with_keyword(token) for token in cut_bytes(data, CLASSES + SIGNS, SKIPPED, "M01")]
     check_depth(tokens, "M03")
     cursor = TurtleCursor(tokens, base)
     cursor.document()
