@@ -4,7 +4,7 @@
 //! contracts see as what they hold.
 //!
 //! It follows no standard but that texts are UTF-8. It promises: a fault is answered only where its count rose, lines are sorted by their bytes and written in order.
-//! It stands on vkg_lists, and on itoa for the decimal digits of a number.
+//! It stands on vkg_lists, and on itoa for the decimal digits of a number, and on thiserror for the texts of errors.
 #![tactic(auto)]
 
 mod boxed;

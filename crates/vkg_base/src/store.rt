@@ -3,13 +3,16 @@ ghost use Rattle.vkg_base.specs.declared.store.LoadFault.TheVariants.{Memory as 
 ghost use Rattle.vkg_base.specs.Outside.{StoreState, LoadCounts, Gives};
 
 use std::alloc::{AllocError, AllocFailed, Global};
+use thiserror::Error;
 
 /// Why a file was not loaded.
-#[derive(Clone, Copy, Debug, PartialEq, Eq)]
+#[derive(Clone, Copy, Debug, Drop, Error, PartialEq, Eq)]
 pub enum LoadFault {
     /// The store failed, and counted a fault.
+    #[error("file not loaded")]
     Failed,
     /// An allocation was refused.
+    #[error("out of memory")]
     Memory,
 }
 

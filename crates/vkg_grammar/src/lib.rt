@@ -4,7 +4,7 @@
 //! Rule 0 makes the texts. `check_ll1` is exact. Of tokens, `parse` names the first bracket that passes the grammar's limit of
 //! depth, or else the first token up to which no text begins so, or says that a text ended too soon; it notes how each symbol of
 //! the one derivation is made. `parse_tree` gives the one tree, as numbered nodes. Neither goes deeper into the stack where a
-//! text nests deeper. It stands on vkg_base for `Memory`, on vkg_tokens for `Token`, and on vkg_lists.
+//! text nests deeper. It stands on vkg_base for `Memory`, on vkg_tokens for `Token`, on vkg_lists and on thiserror.
 #![tactic(auto)]
 
 mod building;

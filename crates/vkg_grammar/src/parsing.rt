@@ -13,18 +13,23 @@ use crate::note::Note;
 use crate::rule::Rule;
 use crate::table::begin_table;
 use std::alloc::{AllocError, AllocFailed, Global};
+use thiserror::Error;
 use vkg_tokens::Token;
 
 /// Why tokens are no text of a grammar, with the number of a token, counted from 0.
-#[derive(Clone, Copy, Debug, PartialEq, Eq)]
+#[derive(Clone, Copy, Debug, Drop, Error, PartialEq, Eq)]
 pub enum ParseFault {
     /// Memory ran out.
+    #[error("out of memory")]
     Memory,
     /// Behind this token more brackets are open than the grammar allows.
+    #[error("too many open brackets behind token {index}")]
     TooDeep { index: usize },
     /// No text of the grammar begins with the tokens up to and with this one.
+    #[error("no text begins with the tokens up to {index}")]
     Dead { index: usize },
     /// The tokens begin a text of the grammar, and are none.
+    #[error("the text ended too soon")]
     Ended,
 }
 
