@@ -1,12 +1,13 @@
-ghost use Rattle.std.specs.Prelude.{◌≡◌, find};
+ghost use Rattle.std.specs.Prelude.{◌≡◌, Some, find, nat_eq};
 ghost use Rattle.vkg_ddl.specs.NameChecks.{same_name, matches, text_matches, names_column, unknown_column, column_place, one_column};
 ghost use Rattle.std.specs.Option.{option_copied};
+ghost use Rattle.vkg_lists.specs.Options.{both_pass};
 ghost use Rattle.vkg_lists.specs.Places.{least_of};
 ghost use Rattle.std.specs.List.{list_any};
 
 use crate::name::Name;
 use crate::written::{WrittenColumn, WrittenKey, WrittenTable};
-use vkg_base::{lesser, place_if};
+use vkg_base::{at, lesser, place_if};
 
 pub fn same_name(a: &Name, b: &Name) -> bool
     ensures { result ≡ same_name a.now b.now }
@@ -76,17 +77,31 @@ pub fn column_place(columns: &[WrittenColumn], n: &Name) -> Option<usize>
     columns.iter().position(|c| matches(n, &c.name))
 }
 
-pub fn one_column(columns: &[WrittenColumn], a: &Name, b: &Name) -> bool
-    ensures { result ≡ one_column columns.now a.now b.now }
+fn is_place(found: Option<usize>, place: usize) -> bool
+    ensures { result ≡ both_pass nat_eq (Some place) found }
 {
-    match (column_place(columns, a), column_place(columns, b)) {
-        (Some(i), Some(j)) => i == j,
-        _ => false,
+    match found {
+        None => false,
+        Some(other) => place == other,
     }
 }
 
+// Whether a name means the column at this place. That column is tried first, since most names mean another.
+fn is_at(columns: &[WrittenColumn], place: usize, n: &Name) -> bool
+    ensures { result ≡ both_pass nat_eq (Some place) (column_place columns.now n.now) }
+{
+    match at(columns, place) {
+        None => false,
+        Some(c) => matches(n, &c.name) && is_place(column_place(columns, n), place),
+    }
+}
+
+/// Whether one of these names means the same column. The column is found once.
 pub fn any_one_column(columns: &[WrittenColumn], n: &Name, seen: &[Name]) -> bool
     ensures { result ≡ list_any (one_column columns.now n.now) seen.now }
 {
-    seen.iter().any(|b| one_column(columns, n, b))
+    match column_place(columns, n) {
+        None => false,
+        Some(place) => seen.iter().any(|b| is_at(columns, place, b)),
+    }
 }
