@@ -1,6 +1,7 @@
 pub mod Certificate
 pub mod Ends
 pub mod Forming
+pub mod IndexLemmas
 pub mod Last
 pub mod Meaning
 pub mod Naming

@@ -5,6 +5,7 @@ ghost use Rattle.vkg_lists.specs.Options.{both_pass};
 ghost use Rattle.vkg_lists.specs.Places.{least_of};
 ghost use Rattle.std.specs.List.{list_any};
 
+use crate::columns::Columns;
 use crate::name::Name;
 use crate::written::{WrittenColumn, WrittenKey, WrittenTable};
 use vkg_base::{at, lesser, place_if};
@@ -50,19 +51,19 @@ pub fn primary_of(keys: &[WrittenKey]) -> Option<&WrittenKey>
     keys.iter().find(|k| k.primary)
 }
 
-fn names_column(columns: &[WrittenColumn], n: &Name) -> bool
+fn names_column(columns: &Columns, n: &Name) -> bool
     ensures { result ≡ names_column columns.now n.now }
 {
-    columns.iter().any(|c| matches(n, &c.name))
+    columns.place(n).is_some()
 }
 
-fn unknown_column(columns: &[WrittenColumn], n: &Name) -> Option<usize>
+fn unknown_column(columns: &Columns, n: &Name) -> Option<usize>
     ensures { result ≡ unknown_column columns.now n.now }
 {
     place_if(!names_column(columns, n), n.at)
 }
 
-pub fn unknown_columns(columns: &[WrittenColumn], names: &[Name]) -> Option<usize>
+pub fn unknown_columns(columns: &Columns, names: &[Name]) -> Option<usize>
     ensures { result ≡ least_of (unknown_column columns.now) names.now }
 {
     names
@@ -87,20 +88,20 @@ fn is_place(found: Option<usize>, place: usize) -> bool
 }
 
 // Whether a name means the column at this place. That column is tried first, since most names mean another.
-fn is_at(columns: &[WrittenColumn], place: usize, n: &Name) -> bool
+fn is_at(columns: &Columns, place: usize, n: &Name) -> bool
     ensures { result ≡ both_pass nat_eq (Some place) (column_place columns.now n.now) }
 {
-    match at(columns, place) {
+    match at(columns.as_slice(), place) {
         None => false,
-        Some(c) => matches(n, &c.name) && is_place(column_place(columns, n), place),
+        Some(c) => matches(n, &c.name) && is_place(columns.place(n), place),
     }
 }
 
 /// Whether one of these names means the same column. The column is found once.
-pub fn any_one_column(columns: &[WrittenColumn], n: &Name, seen: &[Name]) -> bool
+pub fn any_one_column(columns: &Columns, n: &Name, seen: &[Name]) -> bool
     ensures { result ≡ list_any (one_column columns.now n.now) seen.now }
 {
-    match column_place(columns, n) {
+    match columns.place(n) {
         None => false,
         Some(place) => seen.iter().any(|b| is_at(columns, place, b)),
     }

@@ -9,4 +9,4 @@ use Rattle.vkg_ddl.proofs.matching.any_one_column.Goals as goal
 pub returns-in-None : goal.returns-in-None
 returns-in-None c =
     none_of (column_place c.args.columns.now) c.args.seen.now
-    ∙ ap (λ o. list_any (λ b. both_pass nat_eq o (column_place c.args.columns.now b)) c.args.seen.now) (sym c.in-None.is ∙ c.column_place.ensures)
+    ∙ ap (λ o. list_any (λ b. both_pass nat_eq o (column_place c.args.columns.now b)) c.args.seen.now) (sym c.in-None.is ∙ c.place.ensures)
