@@ -18,7 +18,7 @@ fn columns_for<'a>(t: &'a WrittenTable, names: usize) -> Columns<'a>
     ensures { result ≡ t.now.columns }
 {
     let columns = t.columns.as_slice();
-    if names < 16 {
+    if names < 32 {
         Columns::plain(t.columns.alloc(), columns)
     } else {
         Columns::new(t.columns.alloc(), columns)
@@ -102,7 +102,7 @@ fn is_any(columns: &Columns, names: &[Name], keys: &[WrittenKey]) -> bool
 fn are_key(t: &WrittenTable, names: &[Name]) -> bool
     ensures { result ≡ are_key t.now names.now }
 {
-    let columns = Columns::new(t.columns.alloc(), t.columns.as_slice());
+    let columns = columns_for(t, names.len().saturating_mul(t.keys.len()));
     is_any(&columns, names, t.keys.as_slice())
 }
 
