@@ -18,9 +18,9 @@ use Rattle.vkg_plan.specs.Plan.{Plan}
 use Rattle.vkg_plan.specs.Rows.{rows_of}
 use Rattle.vkg_row_rules.specs.RowRules.{row_rules}
 use Rattle.vkg_row_rules.proofs.Bridge.{gives_dataset}
-use Rattle.vkg_unfold.specs.FineRows.{Meets}
+use Rattle.vkg_unfolded.specs.FineRows.{Meets}
 use Rattle.vkg_fine_rules.proofs.FineRows.{has_fine_rows}
-use Rattle.vkg_unfold.specs.Unfolded.{start_plan}
+use Rattle.vkg_unfolded.specs.Unfolded.{start_plan}
 use Rattle.vkg_answers.specs.Answering.{row_solution}
 use Rattle.vkg_answers.proofs.Start.{gives_answer, gives_solutions}
 use Rattle.vkg_rewrite.specs.Lines.{result_lines}

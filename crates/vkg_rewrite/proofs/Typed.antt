@@ -9,7 +9,7 @@ use Rattle.vkg_sparql.specs.Query.{Query}
 use Rattle.vkg_plan.specs.Kinds.{Tables, is_well_typed}
 use Rattle.vkg_plan.specs.Plan.{Plan}
 use Rattle.vkg_row_rules.specs.RowRules.{row_rules}
-use Rattle.vkg_unfold.proofs.AlgebraColumns.{start_plan_kinds}
+use Rattle.vkg_unfolded.proofs.AlgebraColumns.{start_plan_kinds}
 use Rattle.vkg_fine_rules.proofs.FittingRules.{has_fitting_rules}
 use Rattle.vkg_rewrite.specs.Rewritten.{rewritten}
 

@@ -13,7 +13,7 @@ use Rattle.vkg_plan.specs.Kinds.{Tables}
 use Rattle.vkg_plan.specs.Plan.{Plan}
 use Rattle.vkg_plan.specs.Rows.{rows_of}
 use Rattle.vkg_row_rules.specs.RowRules.{row_rules}
-use Rattle.vkg_unfold.specs.Unfolded.{start_plan}
+use Rattle.vkg_unfolded.specs.Unfolded.{start_plan}
 use Rattle.vkg_answers.specs.Answering.{row_solution}
 
 -- the plan of its algebra over the quad rules of the mapping

@@ -5,7 +5,7 @@ ghost use Rattle.vkg_plan.specs.Seen.{plan_seen};
 ghost use Rattle.vkg_sparql.specs.Seen.{query_seen};
 ghost use Rattle.vkg_row_rules.specs.RowRules.{row_rules as rules_over_rows};
 ghost use Rattle.vkg_maps.specs.Within.{IsWithin};
-ghost use Rattle.vkg_unfold.specs.Unfolded.{start_plan as plan_of_query};
+ghost use Rattle.vkg_unfolded.specs.Unfolded.{start_plan as plan_of_query};
 ghost use Rattle.vkg_rewrite.specs.Rewritten.{HasSolutions, rewritten};
 
 use std::alloc::Global;

@@ -7,10 +7,10 @@ ghost use Rattle.vkg_expr.specs.Expr.{Col};
 ghost use Rattle.vkg_expr.specs.Seen.{expr_seen};
 ghost use Rattle.vkg_plan.specs.Plan.{Plan};
 ghost use Rattle.vkg_plan.specs.Seen.{plan_seen};
-ghost use Rattle.vkg_unfold.specs.Unfolded.{bgp_plan, if_each, name_eq, numbered, pattern_names, pattern_plan, patterns_plan, repeats};
+ghost use Rattle.vkg_unfolded.specs.Unfolded.{bgp_plan, if_each, name_eq, numbered, pattern_names, pattern_plan, patterns_plan, repeats};
 
 use crate::exprs::and_of;
-use crate::mode::Mode;
+use vkg_unfolded::Mode;
 use crate::named::{numbered, pattern_names, repeats, same_name};
 use crate::pattern::{names_plan, pattern_plan};
 use std::alloc::Global;

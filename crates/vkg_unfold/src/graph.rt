@@ -5,13 +5,13 @@ ghost use Rattle.vkg_algebra.specs.Visible.{each_once, visible};
 ghost use Rattle.vkg_expr.specs.Expr.{Col};
 ghost use Rattle.vkg_expr.specs.Seen.{expr_seen};
 ghost use Rattle.vkg_plan.specs.Seen.{plan_seen};
-ghost use Rattle.vkg_unfold.specs.Unfolded.{after, column, each_graph, graph_column, in_its_graph, in_mode, is_pattern, named_graph};
+ghost use Rattle.vkg_unfolded.specs.Unfolded.{after, column, each_graph, graph_column, in_its_graph, in_mode, is_pattern, named_graph};
 ghost use Rattle.vkg_plan.specs.Plan.{Join, plans};
 ghost use Rattle.vkg_expr.specs.Logic.{truth_const};
 
 use crate::columns::{has, place};
 use crate::exprs::{or_of, truth_const};
-use crate::mode::Mode;
+use vkg_unfolded::Mode;
 use crate::pattern::{exists_plan, names_plan, same_columns};
 use crate::two::{two, unbound};
 use std::alloc::Global;

@@ -5,14 +5,14 @@ ghost use Rattle.vkg_plan.specs.Plan.{Join, Project, Scan};
 ghost use Rattle.vkg_plan.specs.Seen.{plan_seen};
 ghost use Rattle.vkg_expr.specs.Seen.{expr_seen};
 ghost use Rattle.vkg_row_rules.specs.RowDataset.{conditions};
-ghost use Rattle.vkg_unfold.specs.Unfolded.{constants, exists_member, exists_plan, graph_exprs, graph_terms, graph_test, if_each, named, names_member, names_plan, not_null, pattern_member, pattern_places, Named, pattern_plan, places, repeats, rule_member, rule_source, source_plan, union_of};
+ghost use Rattle.vkg_unfolded.specs.Unfolded.{constants, exists_member, exists_plan, graph_exprs, graph_terms, graph_test, if_each, named, names_member, names_plan, not_null, pattern_member, pattern_places, Named, pattern_plan, places, repeats, rule_member, rule_source, source_plan, union_of};
 ghost use Rattle.vkg_expr.specs.Expr.{Not, Same, IsNull, Col};
 ghost use Rattle.vkg_expr.specs.TermExprs.{term_expr};
 ghost use Rattle.vkg_maps.specs.Within.{kinds_at};
 
 use crate::exprs::{and_of, known, term_expr};
 use crate::graph_test::graph_test;
-use crate::mode::Mode;
+use vkg_unfolded::Mode;
 use crate::named::{constant_places, first_places, named_places, pattern_names, repeats};
 use std::alloc::Global;
 use vkg_base::{Box, Items, Memory, Text, at};

@@ -6,13 +6,13 @@ ghost use Rattle.vkg_algebra.specs.Translation.{algebra_of};
 ghost use Rattle.vkg_algebra.specs.Visible.{visible};
 ghost use Rattle.vkg_plan.specs.Plan.{Distinct, Select};
 ghost use Rattle.vkg_plan.specs.Seen.{plan_seen};
-ghost use Rattle.vkg_unfold.specs.Conditions.{truth_expr};
-ghost use Rattle.vkg_unfold.specs.Unfolded.{bgp_plan, start_plan, unfolded, visible_column};
+ghost use Rattle.vkg_unfolded.specs.Conditions.{truth_expr};
+ghost use Rattle.vkg_unfolded.specs.Unfolded.{bgp_plan, start_plan, unfolded, visible_column};
 
 use crate::bgp::bgp_plan;
 use crate::conditions::filter_expr;
 use crate::graph::{graph_of_each, graph_of_name};
-use crate::mode::Mode;
+use vkg_unfolded::Mode;
 use crate::two::{join_plan, left_plan, union_plan, visible_columns};
 use std::alloc::Global;
 use vkg_algebra::{Algebra, selected_variables, visible};

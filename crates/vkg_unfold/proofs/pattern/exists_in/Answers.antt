@@ -1,7 +1,7 @@
 use Rattle.std.proofs.Common.{◌<◌, length, map, arith}
 use Rattle.vkg_lists.proofs.Walks.{filter_map-take_more}
 use Rattle.vkg_plan.specs.Seen.{plan_seen}
-use Rattle.vkg_unfold.specs.Unfolded.{exists_member}
+use Rattle.vkg_unfolded.specs.Unfolded.{exists_member}
 use Rattle.vkg_unfold.proofs.pattern.exists_in.Goals as goal
 
 pub loop-rule-preserved : goal.loop-rule-preserved

@@ -15,8 +15,8 @@ use Rattle.vkg_expr.specs.declared.term_expr.TermExpr.TheVariants.{Fixed, Made, 
 use Rattle.vkg_expr.specs.Typing.{equality_kind, same_kind}
 use Rattle.vkg_plan.specs.Kinds.{Kinds, Tables, plan_kinds}
 use Rattle.vkg_row_rules.specs.declared.row_rule.RowRule.{RowRule}
-use Rattle.vkg_unfold.specs.declared.mode.Mode.{Mode}
-use Rattle.vkg_unfold.specs.Unfolded.{columns_in, start_plan, unfolded}
+use Rattle.vkg_unfolded.specs.declared.mode.Mode.{Mode}
+use Rattle.vkg_unfolded.specs.Unfolded.{columns_in, start_plan, unfolded}
 use Rattle.vkg_maps.specs.Within.{kinds_at}
 
 -- a hole is a column of its kind, which holds no terms
