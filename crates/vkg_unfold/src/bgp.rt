@@ -10,7 +10,6 @@ ghost use Rattle.vkg_plan.specs.Seen.{plan_seen};
 ghost use Rattle.vkg_unfolded.specs.Unfolded.{bgp_plan, if_each, name_eq, numbered, pattern_names, pattern_plan, patterns_plan, repeats};
 
 use crate::exprs::and_of;
-use vkg_unfolded::Mode;
 use crate::named::{numbered, pattern_names, repeats, same_name};
 use crate::pattern::{names_plan, pattern_plan};
 use std::alloc::Global;
@@ -21,6 +20,7 @@ use vkg_plan::Plan;
 use vkg_row_rules::RowRule;
 use vkg_schema::Table;
 use vkg_sparql::TriplePattern;
+use vkg_unfolded::Mode;
 
 /// The plan of a basic graph pattern. The empty one has one solution, in mode each one in each graph.
 pub(crate) fn bgp_plan(

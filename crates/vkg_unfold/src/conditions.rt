@@ -10,13 +10,13 @@ ghost use Rattle.vkg_unfolded.specs.Unfolded.{merged, visible_column};
 
 use crate::columns::merged;
 use crate::exprs::{known, term_const};
-use vkg_unfolded::Mode;
 use std::alloc::Global;
 use vkg_algebra::Var;
 use vkg_base::{Box, Items, Memory};
 use vkg_cells::{SqlType, natural};
 use vkg_expr::{Expr, Operator};
 use vkg_sparql::Condition;
+use vkg_unfolded::Mode;
 use vkg_values::{Compare, Take, Test};
 
 /// Whether an expression gives a truth; else it gives a term.

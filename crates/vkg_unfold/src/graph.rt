@@ -11,7 +11,6 @@ ghost use Rattle.vkg_expr.specs.Logic.{truth_const};
 
 use crate::columns::{has, place};
 use crate::exprs::{or_of, truth_const};
-use vkg_unfolded::Mode;
 use crate::pattern::{exists_plan, names_plan, same_columns};
 use crate::two::{two, unbound};
 use std::alloc::Global;
@@ -21,6 +20,7 @@ use vkg_expr::Expr;
 use vkg_plan::Plan;
 use vkg_row_rules::RowRule;
 use vkg_schema::Table;
+use vkg_unfolded::Mode;
 
 /// GRAPH with an IRI, of the plan in that graph.
 pub(crate) fn graph_of_name(

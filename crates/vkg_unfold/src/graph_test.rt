@@ -8,12 +8,12 @@ ghost use Rattle.vkg_unfolded.specs.declared.mode.Mode.TheVariants.{Each, InGrap
 ghost use Rattle.vkg_unfolded.specs.Unfolded.{default_graph, graph_test};
 
 use crate::exprs::{default_graph, term_const, term_expr};
-use vkg_unfolded::Mode;
 use std::alloc::Global;
 use vkg_base::{Box, Items, Memory, Text};
 use vkg_expr::{Expr, TermExpr};
 use vkg_match::{Verdict, verdict};
 use vkg_terms::Term;
+use vkg_unfolded::Mode;
 
 /// The conditions under which a quad of the graph is in the mode; none where no quad is.
 pub(crate) fn graph_test(

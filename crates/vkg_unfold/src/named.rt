@@ -11,12 +11,12 @@ ghost use Rattle.std.specs.List.{list_any};
 ghost use Rattle.std.specs.Option.{option_copied};
 
 use crate::exprs::{term_const, term_expr};
-use vkg_unfolded::Mode;
 use std::alloc::Global;
 use vkg_base::{Box, Items, Memory};
 use vkg_expr::{Expr, TermExpr};
 use vkg_row_rules::RowRule;
 use vkg_sparql::{Node, TriplePattern};
+use vkg_unfolded::Mode;
 
 /// A column's name, which is a variable's or label's number or none for the graph, and its expression.
 #[derive(Drop)]

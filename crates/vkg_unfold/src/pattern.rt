@@ -12,7 +12,6 @@ ghost use Rattle.vkg_maps.specs.Within.{kinds_at};
 
 use crate::exprs::{and_of, known, term_expr};
 use crate::graph_test::graph_test;
-use vkg_unfolded::Mode;
 use crate::named::{constant_places, first_places, named_places, pattern_names, repeats};
 use std::alloc::Global;
 use vkg_base::{Box, Items, Memory, Text, at};
@@ -23,6 +22,7 @@ use vkg_plan::Plan;
 use vkg_row_rules::RowRule;
 use vkg_schema::Table;
 use vkg_sparql::TriplePattern;
+use vkg_unfolded::Mode;
 
 /// The plan of a triple pattern.
 pub(crate) fn pattern_plan(

@@ -11,7 +11,6 @@ ghost use Rattle.vkg_unfolded.specs.Unfolded.{agreement, column, columns_in, if_
 use crate::columns::{columns_in, has, merged, place, right_place, visible_column};
 use crate::conditions::truth_expr;
 use crate::exprs::{and_of, or_of};
-use vkg_unfolded::Mode;
 use crate::pattern::same_columns;
 use std::alloc::Global;
 use vkg_algebra::{Algebra, Var, each_once, visible};
@@ -19,6 +18,7 @@ use vkg_base::{Box, Items, Memory};
 use vkg_expr::Expr;
 use vkg_plan::Plan;
 use vkg_sparql::Condition;
+use vkg_unfolded::Mode;
 
 /// The pairs that agree.
 pub(crate) fn join_plan(
