@@ -5,6 +5,7 @@ ghost use Rattle.vkg_plan.specs.Seen.{plan_seen};
 ghost use Rattle.vkg_sparql.specs.Seen.{query_seen};
 ghost use Rattle.vkg_row_rules.specs.RowRules.{row_rules as rules_over_rows};
 ghost use Rattle.vkg_maps.specs.Within.{IsWithin};
+ghost use Rattle.vkg_unfolded.specs.FittingRules.{FitJoins};
 ghost use Rattle.vkg_unfolded.specs.Unfolded.{start_plan as plan_of_query};
 ghost use Rattle.vkg_rewrite.specs.Rewritten.{HasSolutions, rewritten};
 
@@ -40,6 +41,7 @@ pub fn rewrite(
 
 /// The rules of the mapping over rows.
 fn rules_of(alloc: Global, schema: &Schema, mapping: &Mapping) -> Result<Items<RowRule>, Memory>
+    requires { IsWithin schema.now mapping.now }
     ensures { IfOk result (λ rs. rs ≡ rules_over_rows schema.now mapping.now) }
 {
     let rules = rules(alloc, mapping)?;
@@ -47,6 +49,7 @@ fn rules_of(alloc: Global, schema: &Schema, mapping: &Mapping) -> Result<Items<R
 }
 
 fn plan_of(alloc: Global, schema: &Schema, rules: &[RowRule], query: &Query) -> Result<Plan, Memory>
+    requires { FitJoins schema.now rules.now }
     ensures { IfOk result (λ p. plan_seen p ≡ plan_of_query schema.now rules.now (query_seen query.now)) }
 {
     let algebra = translate(alloc, query)?;

@@ -1,3 +1,4 @@
 pub mod Chains
+pub mod Joins
 pub mod Stands
 pub mod Steps

@@ -10,6 +10,7 @@ ghost use Rattle.vkg_plan.specs.Plan.{Distinct, Select};
 ghost use Rattle.vkg_plan.specs.Seen.{plan_seen};
 ghost use Rattle.vkg_unfolded.specs.Conditions.{truth_expr};
 ghost use Rattle.vkg_unfolded.specs.FineRows.{Meets};
+ghost use Rattle.vkg_unfolded.specs.FittingRules.{FitJoins};
 ghost use Rattle.vkg_unfolded.specs.StandsFor.{StandsFor};
 ghost use Rattle.vkg_unfolded.specs.Unfolded.{bgp_plan, start_plan, unfolded, visible_column};
 ghost use Rattle.vkg_answers.specs.Answering.{GivesSolutions};
@@ -29,7 +30,8 @@ use vkg_unfolded::Mode;
 
 /// The plan of an algebra in a mode. Its rows have a column for each visible variable, in the order in which they first appear, and in
 /// mode each the graph's name behind them. Over every database whose rows are fine they are the solutions of a lawful algebra over
-/// the dataset of the rules, in each graph of the mode (SPARQL 1.1, 18.6).
+/// the dataset of the rules, in each graph of the mode (SPARQL 1.1, 18.6). The rules' joins have to fit the tables, so that the
+/// parent's columns have places behind the child's.
 pub fn unfold(
     alloc: Global,
     schema: &[Table],
@@ -37,6 +39,7 @@ pub fn unfold(
     algebra: &Algebra,
     mode: &Mode,
 ) -> Result<Plan, Memory>
+    requires { FitJoins schema.now rules.now }
     ensures plan { IfOk result (λ p. plan_seen p ≡ unfolded schema.now rules.now (algebra_seen algebra.now) mode.now) }
     ensures stands { IfOk result (λ p. (n : ℕ) → IsLawfulAlgebra n (algebra_seen algebra.now) → StandsFor (Meets schema.now rules.now) schema.now rules.now n mode.now (plan_seen p) (algebra_seen algebra.now)) }
 {
@@ -51,6 +54,7 @@ fn plan_of(
     algebra: &Algebra,
     mode: &Mode,
 ) -> Result<Box<Plan>, Memory>
+    requires { FitJoins schema.now rules.now }
     ensures { IfOk result (λ p. plan_seen p ≡ unfolded schema.now rules.now (algebra_seen algebra.now) mode.now) }
 {
     match algebra {
@@ -90,6 +94,7 @@ fn of_patterns(
     mode: &Mode,
     patterns: &[TriplePattern],
 ) -> Result<Box<Plan>, Memory>
+    requires { FitJoins schema.now rules.now }
     ensures { IfOk result (λ p. plan_seen p ≡ bgp_plan schema.now rules.now mode.now patterns.now) }
 {
     let plan = bgp_plan(alloc, schema, rules, mode, patterns)?;
@@ -105,6 +110,7 @@ fn in_graph(
     a: &Algebra,
     iri: &Text,
 ) -> Result<Box<Plan>, Memory>
+    requires { FitJoins schema.now rules.now }
     ensures { IfOk result (λ p. plan_seen p ≡ unfolded schema.now rules.now (algebra_seen a.now) (Mode.InGraph iri.now)) }
 {
     let mode = Mode::InGraph(iri.copy()?);
@@ -127,7 +133,8 @@ fn filtered(
 }
 
 /// The plan of a query's algebra before any rewriting: its rows over the selected variables, each once under DISTINCT. Over every
-/// database whose rows are fine they are the solutions of a lawful query over the dataset of the rules (SPARQL 1.1, 18.2.5).
+/// database whose rows are fine they are the solutions of a lawful query over the dataset of the rules (SPARQL 1.1, 18.2.5). The
+/// rules' joins have to fit the tables.
 pub fn start_plan(
     alloc: Global,
     schema: &[Table],
@@ -135,7 +142,8 @@ pub fn start_plan(
     query: &Query,
     algebra: &Algebra,
 ) -> Result<Plan, Memory>
-    requires { algebra_seen algebra.now ≡ algebra_of (query_seen query.now) }
+    requires algebra { algebra_seen algebra.now ≡ algebra_of (query_seen query.now) }
+    requires joins { FitJoins schema.now rules.now }
     ensures plan { IfOk result (λ p. plan_seen p ≡ start_plan schema.now rules.now (query_seen query.now)) }
     ensures solutions { IfOk result (λ p. IsLawfulQuery (query_seen query.now) → GivesSolutions (Meets schema.now rules.now) schema.now rules.now (plan_seen p) (query_seen query.now)) }
 {

@@ -44,6 +44,10 @@ abbrev pub FitsJoin : Tables → ℕ → Option Join → Type 0
 FitsJoin schema child o =
     IfSome o (λ (join : Join). IsTable schema join.table × AllByRecursion (FitsCondition (kinds_at schema child) (kinds_at schema join.table)) join.conditions)
 
+-- each rule's join fits
+abbrev pub FitJoins : Tables → List RowRule → Type 0
+FitJoins schema rules = AllByRecursion (λ (rule : RowRule). FitsJoin schema rule.table rule.join) rules
+
 -- the kinds of a rule's rows: the parent's columns stand behind the child's
 abbrev pub rule_kinds : Tables → ℕ → Option Join → Kinds
 rule_kinds schema child None = kinds_at schema child

@@ -3,8 +3,12 @@ use Rattle.vkg_sparql.specs.Seen.{query_seen}
 use Rattle.vkg_plan.specs.Seen.{plan_seen}
 use Rattle.vkg_rewrite.specs.Rewritten.{rewritten}
 use Rattle.vkg_rewrite.proofs.Answered.{solutions_as}
-use Rattle.vkg_rewrite.proofs.Typed.{typed_as}
+use Rattle.vkg_rewrite.proofs.Typed.{joins_fit, typed_as}
 use Rattle.vkg_rewrite.proofs.rewriting.rewrite.Goals as goal
+
+pub plan_of-requires : goal.plan_of-requires
+plan_of-requires c =
+    rw (c.as_slice.ensures, c.in_ok-rules.ensures) (joins_fit c.args.schema.now c.args.mapping.now (query_seen c.args.query.now) c.tables-tables.ensures.form c.requires)
 
 pub new-requires : goal.new-requires
 unfolding rewritten
