@@ -6,8 +6,8 @@ use Rattle.vkg_cells.specs.declared.cell.Cell.TheVariants as cell
 use Rattle.vkg_schema.specs.Company.{company}
 use Rattle.vkg_algebra.proofs.Data.{e, plain}
 use Rattle.vkg_plan.specs.Rows.{rows_of}
-use Rattle.vkg_unfold.specs.Unfolded.{start_plan}
-use Rattle.vkg_unfold.proofs.Data.{rules}
+use Rattle.vkg_unfolded.specs.Unfolded.{start_plan}
+use Rattle.vkg_unfolded.proofs.Data.{rules}
 use Rattle.vkg_algebra.proofs.Rows.{name_query, optional_query}
 use Rattle.vkg_maps.proofs.Company.{db}
 

@@ -8,7 +8,7 @@ use Rattle.vkg_plan.specs.Kinds.{Tables}
 use Rattle.vkg_match.specs.Verdict.{Never, verdict_of}
 use Rattle.vkg_row_rules.specs.declared.row_rule.RowRule.{RowRule}
 use Rattle.vkg_row_rules.specs.RowDataset.{rule_rows, term_at}
-use Rattle.vkg_unfold.specs.Unfolded.{default_graph}
+use Rattle.vkg_unfolded.specs.Unfolded.{default_graph}
 use Rattle.vkg_cells.specs.WellTyped.{is_wide_number}
 
 -- a term that is no number of too many digits, or none

@@ -20,7 +20,7 @@ use Rattle.vkg_expr.specs.TermExprs.{made, piece_expr, pieces_expr, term_expr}
 use Rattle.vkg_expr.specs.Typing.{are_all, equality_kind, is_column, is_one, kind_of, kinds_of, lexical_kind, no_column, same_kind, common}
 use Rattle.vkg_expr.proofs.KindLists.{itself}
 use Rattle.vkg_plan.specs.Kinds.{Kinds}
-use Rattle.vkg_unfold.specs.FittingRules.{FitsPiece, FitsTerm}
+use Rattle.vkg_unfolded.specs.FittingRules.{FitsPiece, FitsTerm}
 
 abbrev pub IsTerm : Kinds → Expr → Type 0
 IsTerm ks e = kind_of e ks ≡ Some kind.Term

@@ -32,11 +32,11 @@ use Rattle.vkg_plan.proofs.KindLists.{themselves}
 use Rattle.vkg_match.specs.Verdict.{Verdict, Never, All, verdict_of}
 use Rattle.vkg_row_rules.specs.declared.row_rule.RowRule.{RowRule}
 use Rattle.vkg_row_rules.specs.RowDataset.{conditions}
-use Rattle.vkg_unfold.specs.declared.mode.Mode.{Mode}
-use Rattle.vkg_unfold.specs.declared.mode.Mode.TheVariants.{Default, InGraph, Each}
-use Rattle.vkg_unfold.specs.FittingRules.{AreFitting, FitsCondition, FitsGraph, FitsJoin, FitsTerm, IsFitting, IsTable, rule_kinds}
-use Rattle.vkg_unfold.specs.Unfolded.{Name, Named, again, constants, default_graph, exists_plan, graph_exprs, graph_terms, graph_test, if_each, name_eq, named, names_plan, node_names, not_null, pattern_member, pattern_names, pattern_places, pattern_plan, places, repeats, rule_member, rule_source, same_name, source_plan, union_of, unless_never, names_member, exists_member}
-use Rattle.vkg_unfold.proofs.TermKinds.{IsTerm, IsTruth, and_truth, kinds_each, known_truth, not_truth, rule_term, same_truth, wider_term, get_wider}
+use Rattle.vkg_unfolded.specs.declared.mode.Mode.{Mode}
+use Rattle.vkg_unfolded.specs.declared.mode.Mode.TheVariants.{Default, InGraph, Each}
+use Rattle.vkg_unfolded.specs.FittingRules.{AreFitting, FitsCondition, FitsGraph, FitsJoin, FitsTerm, IsFitting, IsTable, rule_kinds}
+use Rattle.vkg_unfolded.specs.Unfolded.{Name, Named, again, constants, default_graph, exists_plan, graph_exprs, graph_terms, graph_test, if_each, name_eq, named, names_plan, node_names, not_null, pattern_member, pattern_names, pattern_places, pattern_plan, places, repeats, rule_member, rule_source, same_name, source_plan, union_of, unless_never, names_member, exists_member}
+use Rattle.vkg_unfolded.proofs.TermKinds.{IsTerm, IsTruth, and_truth, kinds_each, known_truth, not_truth, rule_term, same_truth, wider_term, get_wider}
 use Rattle.vkg_maps.specs.Within.{kinds_at}
 
 -- ---- the rows of a rule

@@ -19,9 +19,9 @@ use Rattle.vkg_plan.specs.Rows.{rows_of}
 use Rattle.vkg_row_rules.specs.declared.row_rule.RowRule.{RowRule}
 use Rattle.vkg_row_rules.specs.RowDataset.{dataset_of}
 use Rattle.std.specs.List.Sorted.{IsPermutation}
-use Rattle.vkg_unfold.specs.declared.mode.Mode.{Mode}
-use Rattle.vkg_unfold.specs.declared.mode.Mode.TheVariants.{Default, InGraph, Each}
-use Rattle.vkg_unfold.specs.Unfolded.{visible_column}
+use Rattle.vkg_unfolded.specs.declared.mode.Mode.{Mode}
+use Rattle.vkg_unfolded.specs.declared.mode.Mode.TheVariants.{Default, InGraph, Each}
+use Rattle.vkg_unfolded.specs.Unfolded.{visible_column}
 
 -- a row over these variables as a solution of n variables: each variable's column, unbound where it is NULL or not visible
 abbrev pub term_in : (ℕ → Expr) → Row → ℕ → Option Term

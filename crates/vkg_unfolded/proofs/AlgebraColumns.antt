@@ -32,13 +32,13 @@ use Rattle.vkg_expr.specs.Typing.{are_all, is_one, kind_of, lexical_kind}
 use Rattle.vkg_plan.specs.Kinds.{Kinds, Tables, beside_all, checked, side_by_side, kinds_of_each, plan_kinds}
 use Rattle.vkg_plan.specs.Plan.{Plan, Select, Project, Join, Left, plans, Distinct}
 use Rattle.vkg_row_rules.specs.declared.row_rule.RowRule.{RowRule}
-use Rattle.vkg_unfold.specs.declared.mode.Mode.{Mode}
-use Rattle.vkg_unfold.specs.declared.mode.Mode.TheVariants.{Default, InGraph, Each}
-use Rattle.vkg_unfold.specs.Conditions.{condition_of, expr_of, gives_truth, to_term, to_truth, truth_expr}
-use Rattle.vkg_unfold.specs.FittingRules.{AreFitting, HasTermColumns, HasAnswerColumns}
-use Rattle.vkg_unfold.specs.Unfolded.{Name, Named, after, agreement, bgp_plan, column, columns_in, each_graph, exists_plan, graph_column, if_each, in_its_graph, in_mode, is_pattern, join_plan, left_column, left_plan, merged, merged_columns, name_eq, named_graph, names_plan, node_names, null_term, numbered, or_null, pattern_names, pattern_plan, patterns_plan, repeats, right_column, union_member, union_plan, unfolded, visible_column}
-use Rattle.vkg_unfold.proofs.TermKinds.{IsTerm, IsTruth, and_truth, first_term, not_truth, null_truth, or_truth, same_truth, term_at}
-use Rattle.vkg_unfold.proofs.PlanColumns.{HasTermKinds, checked_truth, exists_plan_kinds, names_plan_kinds, pattern_plan_kinds, project_kinds, repeats_truth, union_kinds}
+use Rattle.vkg_unfolded.specs.declared.mode.Mode.{Mode}
+use Rattle.vkg_unfolded.specs.declared.mode.Mode.TheVariants.{Default, InGraph, Each}
+use Rattle.vkg_unfolded.specs.Conditions.{condition_of, expr_of, gives_truth, to_term, to_truth, truth_expr}
+use Rattle.vkg_unfolded.specs.FittingRules.{AreFitting, HasTermColumns, HasAnswerColumns}
+use Rattle.vkg_unfolded.specs.Unfolded.{Name, Named, after, agreement, bgp_plan, column, columns_in, each_graph, exists_plan, graph_column, if_each, in_its_graph, in_mode, is_pattern, join_plan, left_column, left_plan, merged, merged_columns, name_eq, named_graph, names_plan, node_names, null_term, numbered, or_null, pattern_names, pattern_plan, patterns_plan, repeats, right_column, union_member, union_plan, unfolded, visible_column}
+use Rattle.vkg_unfolded.proofs.TermKinds.{IsTerm, IsTruth, and_truth, first_term, not_truth, null_truth, or_truth, same_truth, term_at}
+use Rattle.vkg_unfolded.proofs.PlanColumns.{HasTermKinds, checked_truth, exists_plan_kinds, names_plan_kinds, pattern_plan_kinds, project_kinds, repeats_truth, union_kinds}
 use Rattle.vkg_algebra.specs.Translation.{algebra_of}
 use Rattle.vkg_algebra.specs.Answer.{selected_variables}
 

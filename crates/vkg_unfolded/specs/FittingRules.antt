@@ -15,8 +15,8 @@ use Rattle.vkg_expr.specs.declared.term_expr.TermExpr.TheVariants.{Fixed, Made, 
 use Rattle.vkg_expr.specs.Typing.{equality_kind, same_kind}
 use Rattle.vkg_plan.specs.Kinds.{Kinds, Tables, plan_kinds}
 use Rattle.vkg_row_rules.specs.declared.row_rule.RowRule.{RowRule}
-use Rattle.vkg_unfold.specs.declared.mode.Mode.{Mode}
-use Rattle.vkg_unfold.specs.Unfolded.{columns_in, start_plan, unfolded}
+use Rattle.vkg_unfolded.specs.declared.mode.Mode.{Mode}
+use Rattle.vkg_unfolded.specs.Unfolded.{columns_in, start_plan, unfolded}
 use Rattle.vkg_maps.specs.Within.{kinds_at}
 
 -- a hole is a column of its kind, which holds no terms
@@ -43,6 +43,10 @@ FitsCondition ks ls c = equality_kind (slice_get ks c.0) (slice_get ls c.1) ≡ 
 abbrev pub FitsJoin : Tables → ℕ → Option Join → Type 0
 FitsJoin schema child o =
     IfSome o (λ (join : Join). IsTable schema join.table × AllByRecursion (FitsCondition (kinds_at schema child) (kinds_at schema join.table)) join.conditions)
+
+-- each rule's join fits
+abbrev pub FitJoins : Tables → List RowRule → Type 0
+FitJoins schema rules = AllByRecursion (λ (rule : RowRule). FitsJoin schema rule.table rule.join) rules
 
 -- the kinds of a rule's rows: the parent's columns stand behind the child's
 abbrev pub rule_kinds : Tables → ℕ → Option Join → Kinds

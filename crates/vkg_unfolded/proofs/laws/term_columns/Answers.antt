@@ -1,5 +1,5 @@
-use Rattle.vkg_unfold.proofs.AlgebraColumns.{start_plan_kinds, unfolded_kinds}
-use Rattle.vkg_unfold.proofs.laws.term_columns.Goals as goal
+use Rattle.vkg_unfolded.proofs.AlgebraColumns.{start_plan_kinds, unfolded_kinds}
+use Rattle.vkg_unfolded.proofs.laws.term_columns.Goals as goal
 
 pub returns-clause-plans : goal.returns-clause-plans
 returns-clause-plans c = λ schema rules fit. unfolded_kinds schema rules fit

@@ -30,9 +30,9 @@ use Rattle.vkg_maps.specs.declared.quad_rule.Join.{Join as ParentJoin}
 use Rattle.vkg_row_rules.specs.declared.row_rule.RowRule.{RowRule}
 use Rattle.vkg_row_rules.specs.RowDataset.{conditions}
 use Rattle.vkg_expr.specs.Logic.{truth_const, and_of, or_of}
-use Rattle.vkg_unfold.specs.declared.mode.Mode.{Mode}
-use Rattle.vkg_unfold.specs.declared.mode.Mode.TheVariants.{Default, InGraph, Each}
-use Rattle.vkg_unfold.specs.Conditions.{truth_expr, condition_of}
+use Rattle.vkg_unfolded.specs.declared.mode.Mode.{Mode}
+use Rattle.vkg_unfolded.specs.declared.mode.Mode.TheVariants.{Default, InGraph, Each}
+use Rattle.vkg_unfolded.specs.Conditions.{truth_expr, condition_of}
 
 -- what stands in mode each alone
 abbrev pub if_each : {X : Type 0} → Mode → X → List X

@@ -2,7 +2,7 @@
 ghost use Rattle.std.specs.Prelude.{List};
 ghost use Rattle.vkg_plan.specs.Kinds.{Tables};
 ghost use Rattle.vkg_row_rules.specs.declared.row_rule.RowRule.{RowRule};
-ghost use Rattle.vkg_unfold.specs.FittingRules.{AreFitting, HasAnswerColumns, HasTermColumns};
+ghost use Rattle.vkg_unfolded.specs.FittingRules.{AreFitting, HasAnswerColumns, HasTermColumns};
 
 /// Over rules that fit the tables every plan is well typed: it has a column of terms for each variable, in mode each one for the
 /// graph, and a query's plan has one for each selected variable.
