@@ -1,19 +1,16 @@
 -- What the loops of a lawful rule reach is the end: no subplan is changed there, and it has the rows of the start.
-use Rattle.std.proofs.Common.{◌≡◌, [], ◌∷◌, length, Option, Some, None, refl, ap, ◌∙◌}
+use Rattle.std.proofs.Common.{◌≡◌, length, Option, Some, None, refl, ap, ◌∙◌}
 use Rattle.std.specs.Prelude.{option_and_then, option_map}
-use Rattle.std.specs.Option.{MatchOption, option_or}
+use Rattle.std.specs.Option.{option_or}
 use Rattle.vkg_lists.proofs.Onto.{map_lacking}
 use Rattle.vkg_schema.specs.Meets.{IsWellFormed}
-use Rattle.vkg_plan.specs.declared.plan.Plan.{Plan as PlanValue}
 use Rattle.vkg_plan.specs.Kinds.{Tables}
 use Rattle.vkg_plan.specs.Plan.{Plan, Plans, Unit, Empty, Scan, Select, Project, Join, Left, UnionAll, Distinct, Nil, More}
-use Rattle.vkg_plan.specs.Seen.{plan_seen}
-use Rattle.vkg_rules.specs.declared.rewrite.Fell.{Fell}
 use Rattle.vkg_rules.specs.Chains.{Chain, ended, after}
 use Rattle.vkg_rules.specs.Ends.{IsEndOf, Settled, SettledEach, changed_times, end_of}
 use Rattle.vkg_rules.specs.Everywhere.{among, anywhere, around, everywhere, first_of_list, in_members, later_in_list}
 use Rattle.vkg_rules.specs.EverywhereLaw.{anywhere-falls, anywhere-keeps}
-use Rattle.vkg_rules.specs.Fix.{Run, fixed_by, run}
+use Rattle.vkg_rules.specs.Fix.{Run, run}
 use Rattle.vkg_rules.specs.FixLaw.{chain_keeps, run-chain, run-end}
 use Rattle.vkg_rules.specs.Steps.{FallsAll, IsTyped, Keeps, KeepsAll, Rule, Step}
 
