@@ -147,6 +147,21 @@ pub fn start_plan(
     ensures plan { IfOk result (λ p. plan_seen p ≡ start_plan schema.now rules.now (query_seen query.now)) }
     ensures solutions { IfOk result (λ p. IsLawfulQuery (query_seen query.now) → GivesSolutions (Meets schema.now rules.now) schema.now rules.now (plan_seen p) (query_seen query.now)) }
 {
+    selected_plan(alloc, schema, rules, query, algebra)
+}
+
+/// The rows of a query's algebra over the selected variables, each once under DISTINCT.
+fn selected_plan(
+    alloc: Global,
+    schema: &[Table],
+    rules: &[RowRule],
+    query: &Query,
+    algebra: &Algebra,
+) -> Result<Plan, Memory>
+    requires algebra { algebra_seen algebra.now ≡ algebra_of (query_seen query.now) }
+    requires joins { FitJoins schema.now rules.now }
+    ensures { IfOk result (λ p. plan_seen p ≡ start_plan schema.now rules.now (query_seen query.now)) }
+{
     let variables = visible(alloc, algebra)?;
     let wanted = selected_variables(alloc, query, algebra)?;
     let columns = visible_columns(alloc, variables.as_slice(), wanted.as_slice())?;
