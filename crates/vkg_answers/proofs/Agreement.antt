@@ -21,10 +21,10 @@ use Rattle.vkg_expr.specs.Expr.{Expr, exprs, IsNull, Same}
 use Rattle.vkg_expr.specs.Logic.{or_of}
 use Rattle.vkg_expr.specs.Value.{value_of, term_of, term_cell, truth_of, truth_cell, holds}
 use Rattle.vkg_expr.proofs.Conjuncts.{holds-Or}
-use Rattle.vkg_unfold.specs.declared.mode.Mode.{Mode}
+use Rattle.vkg_unfolded.specs.declared.mode.Mode.{Mode}
 use Rattle.vkg_algebra.specs.Visible.{has}
-use Rattle.vkg_unfold.specs.Unfolded.{left_column, right_column, visible_column, columns_in, or_null}
-use Rattle.vkg_unfold.specs.StandsFor.{term_in, solution_of}
+use Rattle.vkg_unfolded.specs.Unfolded.{left_column, right_column, visible_column, columns_in, or_null}
+use Rattle.vkg_unfolded.specs.StandsFor.{term_in, solution_of}
 use Rattle.vkg_answers.proofs.Joins.{agree}
 use Rattle.vkg_answers.proofs.Reading.{AreTermCells, AreBelow, read, read_left, read_right, read_typed, read_none, has-filter}
 

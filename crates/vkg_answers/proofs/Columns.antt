@@ -23,11 +23,11 @@ use Rattle.vkg_algebra.specs.Evaluation.{Dataset, graph_names, graph_of}
 use Rattle.vkg_algebra.specs.Patterns.{pattern_solutions}
 use Rattle.vkg_expr.specs.Value.{term_of}
 use Rattle.vkg_plan.specs.Rows.{product}
-use Rattle.vkg_unfold.specs.Unfolded.{Name, name_eq, numbered, pattern_names}
-use Rattle.vkg_unfold.specs.declared.mode.Mode.{Mode}
-use Rattle.vkg_unfold.specs.declared.mode.Mode.TheVariants.{Each}
-use Rattle.vkg_unfold.specs.StandsFor.{IsIn}
-use Rattle.vkg_unfold.specs.FineRows.{IsNarrow}
+use Rattle.vkg_unfolded.specs.Unfolded.{Name, name_eq, numbered, pattern_names}
+use Rattle.vkg_unfolded.specs.declared.mode.Mode.{Mode}
+use Rattle.vkg_unfolded.specs.declared.mode.Mode.TheVariants.{Each}
+use Rattle.vkg_unfolded.specs.StandsFor.{IsIn}
+use Rattle.vkg_unfolded.specs.FineRows.{IsNarrow}
 use Rattle.vkg_answers.proofs.Joins.{agree, join_rows, bag_join}
 use Rattle.vkg_answers.proofs.Splits.{pairs_split}
 use Rattle.vkg_answers.proofs.Entries.{Entry, entry, first, alike, named_solution, AreTerms}

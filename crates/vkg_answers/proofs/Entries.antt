@@ -18,8 +18,8 @@ use Rattle.vkg_cells.specs.declared.cell.Cell.TheVariants as cell
 use Rattle.vkg_schema.specs.Rows.{Row}
 use Rattle.vkg_algebra.specs.Solutions.{Solution}
 use Rattle.vkg_expr.specs.Value.{value_of, term_of, truth_of, truth_cell, holds}
-use Rattle.vkg_unfold.specs.Unfolded.{Name, name_eq, Named, same_name, again, repeats}
-use Rattle.vkg_unfold.proofs.AlgebraColumns.{name_test}
+use Rattle.vkg_unfolded.specs.Unfolded.{Name, name_eq, Named, same_name, again, repeats}
+use Rattle.vkg_unfolded.proofs.AlgebraColumns.{name_test}
 
 -- a name and its cell
 abbrev pub Entry : Type 0

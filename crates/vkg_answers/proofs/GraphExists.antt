@@ -35,11 +35,11 @@ use Rattle.vkg_plan.specs.Kinds.{Tables}
 use Rattle.vkg_plan.specs.Rows.{rows_of, one_row}
 use Rattle.vkg_row_rules.specs.declared.row_rule.RowRule.{RowRule}
 use Rattle.vkg_row_rules.specs.RowDataset.{rule_rows, term_at, graph_at, quads_of, all_quads, dataset_of, quad_at}
-use Rattle.vkg_unfold.specs.Unfolded.{default_graph, graph_test, rule_member, not_null, names_plan, exists_plan, bgp_plan, graph_terms}
-use Rattle.vkg_unfold.specs.declared.mode.Mode.{Mode}
-use Rattle.vkg_unfold.specs.declared.mode.Mode.TheVariants.{Default, InGraph, Each}
-use Rattle.vkg_unfold.specs.FineRows.{IsNarrow, IsFineRow, IsNarrowGraph}
-use Rattle.vkg_unfold.specs.StandsFor.{IsIn, belongs, hidden_is, solution_of, solutions_of}
+use Rattle.vkg_unfolded.specs.Unfolded.{default_graph, graph_test, rule_member, not_null, names_plan, exists_plan, bgp_plan, graph_terms}
+use Rattle.vkg_unfolded.specs.declared.mode.Mode.{Mode}
+use Rattle.vkg_unfolded.specs.declared.mode.Mode.TheVariants.{Default, InGraph, Each}
+use Rattle.vkg_unfolded.specs.FineRows.{IsNarrow, IsFineRow, IsNarrowGraph}
+use Rattle.vkg_unfolded.specs.StandsFor.{IsIn, belongs, hidden_is, solution_of, solutions_of}
 use Rattle.vkg_answers.proofs.Graphs.{name_row, Plain, stands_default, stands_named}
 use Rattle.vkg_answers.proofs.Sources.{all_hold, member_rows, rows_or_none, union_rows, not_nulls, in_graph, graph_passes_is, three_fail}
 use Rattle.vkg_answers.proofs.Columns.{unbound_is}

@@ -33,9 +33,9 @@ use Rattle.vkg_plan.specs.Rows.{rows_of, one_row}
 use Rattle.vkg_match.specs.Verdict.{Verdict, Never, All, verdict_of}
 use Rattle.vkg_row_rules.specs.declared.row_rule.RowRule.{RowRule}
 use Rattle.vkg_row_rules.specs.RowDataset.{rule_rows, term_at, graph_at, quads_of, all_quads, dataset_of, quad_at}
-use Rattle.vkg_unfold.specs.Unfolded.{default_graph, graph_test, unless_never, rule_member, graph_exprs, not_null, names_plan, graph_terms}
-use Rattle.vkg_unfold.specs.declared.mode.Mode.TheVariants.{Each}
-use Rattle.vkg_unfold.specs.FineRows.{NeverDefault, IsFineRow}
+use Rattle.vkg_unfolded.specs.Unfolded.{default_graph, graph_test, unless_never, rule_member, graph_exprs, not_null, names_plan, graph_terms}
+use Rattle.vkg_unfolded.specs.declared.mode.Mode.TheVariants.{Each}
+use Rattle.vkg_unfolded.specs.FineRows.{NeverDefault, IsFineRow}
 use Rattle.vkg_answers.proofs.Graphs.{name_row}
 use Rattle.vkg_answers.proofs.Sources.{all_hold, member_rows, rows_or_none, union_rows, not_nulls, not_null_is, not_same_const_is, nulls_are}
 use Rattle.vkg_answers.proofs.Splits.{no_row}

@@ -27,9 +27,9 @@ use Rattle.vkg_algebra.specs.Visible.{each_once, has}
 use Rattle.vkg_expr.specs.Expr.{Col, Same, IsNull}
 use Rattle.vkg_expr.specs.Logic.{or_of}
 use Rattle.vkg_expr.specs.Value.{value_of, term_of, holds}
-use Rattle.vkg_unfold.specs.Unfolded.{default_graph, graph_column, left_column, visible_column}
-use Rattle.vkg_unfold.specs.declared.mode.Mode.TheVariants.{Default, Each}
-use Rattle.vkg_unfold.specs.StandsFor.{belongs, term_in, solution_of, solutions_of}
+use Rattle.vkg_unfolded.specs.Unfolded.{default_graph, graph_column, left_column, visible_column}
+use Rattle.vkg_unfolded.specs.declared.mode.Mode.TheVariants.{Default, Each}
+use Rattle.vkg_unfolded.specs.StandsFor.{belongs, term_in, solution_of, solutions_of}
 use Rattle.vkg_answers.proofs.Joins.{agree, merge-map, bag_join}
 use Rattle.vkg_answers.proofs.Reading.{IsTermCell, read_there, read_typed, read_none, read_project, has-each_once, set_at}
 use Rattle.vkg_answers.proofs.Agreement.{all_elim, all_intro, has-upto, holds-or_bound, compatible-map}

@@ -27,10 +27,10 @@ use Rattle.vkg_expr.specs.Logic.{truth_const}
 use Rattle.vkg_expr.specs.Value.{value_of, term_of, holds}
 use Rattle.vkg_plan.specs.Rows.{pairs, product}
 use Rattle.vkg_algebra.specs.Visible.{has}
-use Rattle.vkg_unfold.specs.Unfolded.{column, visible_column}
-use Rattle.vkg_unfold.specs.declared.mode.Mode.TheVariants.{Default, InGraph, Each}
-use Rattle.vkg_unfold.specs.StandsFor.{IsIn, belongs, hidden_is, term_in, solution_of, solutions_of}
-use Rattle.vkg_unfold.specs.FineRows.{IsNarrow}
+use Rattle.vkg_unfolded.specs.Unfolded.{column, visible_column}
+use Rattle.vkg_unfolded.specs.declared.mode.Mode.TheVariants.{Default, InGraph, Each}
+use Rattle.vkg_unfolded.specs.StandsFor.{IsIn, belongs, hidden_is, term_in, solution_of, solutions_of}
+use Rattle.vkg_unfolded.specs.FineRows.{IsNarrow}
 use Rattle.vkg_answers.proofs.Reading.{AreTermCells, IsTermCell, read, read_there, read_none, read_project}
 use Rattle.vkg_answers.proofs.Modes.{IsRowOf, cell_at-after, hidden_found}
 use Rattle.vkg_answers.proofs.Steps.{Stands, projected, product-two}

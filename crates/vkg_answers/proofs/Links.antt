@@ -14,8 +14,8 @@ use Rattle.vkg_terms.proofs.SameLemmas.{terms_apart}
 use Rattle.vkg_cells.specs.declared.cell.Cell.TheVariants as cell
 use Rattle.vkg_algebra.specs.Solutions.{compatible, merge}
 use Rattle.vkg_expr.specs.Value.{term_of}
-use Rattle.vkg_unfold.specs.Unfolded.{Name, name_eq}
-use Rattle.vkg_unfold.proofs.AlgebraColumns.{name_test}
+use Rattle.vkg_unfolded.specs.Unfolded.{Name, name_eq}
+use Rattle.vkg_unfolded.proofs.AlgebraColumns.{name_test}
 use Rattle.vkg_answers.proofs.Joins.{agree, merge-map}
 use Rattle.vkg_answers.proofs.Agreement.{all_elim, all_intro, has-upto, compatible-map}
 use Rattle.vkg_answers.proofs.Entries.{Entry, first, alike, named_term, named_solution, AreTerms, AreAlike, alike_onto, alike_back, AreBetween}

@@ -41,11 +41,11 @@ use Rattle.vkg_plan.specs.Rows.{rows_of, one_row}
 use Rattle.vkg_plan.proofs.CellLemmas.{rows_apart}
 use Rattle.vkg_row_rules.specs.declared.row_rule.RowRule.{RowRule}
 use Rattle.vkg_row_rules.specs.RowDataset.{rule_rows, term_at, graph_at, quads_of, dataset_of, quad_at}
-use Rattle.vkg_unfold.specs.declared.mode.Mode.{Mode}
-use Rattle.vkg_unfold.specs.declared.mode.Mode.TheVariants.{Default, InGraph, Each}
-use Rattle.vkg_unfold.specs.Unfolded.{Named, named, places, constants, repeats, graph_test, rule_member, pattern_member, pattern_places, pattern_names, pattern_plan, graph_terms}
-use Rattle.vkg_unfold.specs.StandsFor.{IsIn}
-use Rattle.vkg_unfold.specs.FineRows.{IsFineRow, IsNarrowGraph, IsNarrow, NeverDefault}
+use Rattle.vkg_unfolded.specs.declared.mode.Mode.{Mode}
+use Rattle.vkg_unfolded.specs.declared.mode.Mode.TheVariants.{Default, InGraph, Each}
+use Rattle.vkg_unfolded.specs.Unfolded.{Named, named, places, constants, repeats, graph_test, rule_member, pattern_member, pattern_places, pattern_names, pattern_plan, graph_terms}
+use Rattle.vkg_unfolded.specs.StandsFor.{IsIn}
+use Rattle.vkg_unfolded.specs.FineRows.{IsFineRow, IsNarrowGraph, IsNarrow, NeverDefault}
 use Rattle.vkg_answers.proofs.Entries.{Entry, entry, same_entry, first, alike, named_solution, AreTerms, AreAlike, AreBetween}
 use Rattle.vkg_answers.proofs.Links.{are_alike, alike_is, alike_parts, terms-append, NamesBelow}
 use Rattle.vkg_answers.proofs.Columns.{hidden_in, graphs_fit, HasGraphEntry, IsPatternRow, PatternStands}

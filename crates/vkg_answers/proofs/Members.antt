@@ -7,7 +7,7 @@ use Rattle.std.proofs.Math.Bool.{and-true}
 use Rattle.std.specs.List.{zip, range_with_len}
 use Rattle.std.proofs.lemmas.List.Folds.{list_all-append}
 use Rattle.vkg_lists.proofs.Nothing.{flat_map_nothing}
-use Rattle.vkg_unfold.proofs.PlanColumns.{names_of_places}
+use Rattle.vkg_unfolded.proofs.PlanColumns.{names_of_places}
 use Rattle.vkg_lists.proofs.Distinct.{Contains-from_distinct, distinct_map_on}
 use Rattle.vkg_lists.proofs.Walks.{filter-map, filter-filter, map-map, filter_map_is_flat_map, filter-flat_map, flat_map-flat_map, map-flat_map, map_filter_is_flat_map}
 use Rattle.vkg_lists.proofs.Members.{flat_map_agree_on, all_of_each, each_of_all}
@@ -33,12 +33,12 @@ use Rattle.vkg_expr.proofs.TermValues.{term_expr_is}
 use Rattle.vkg_plan.specs.Kinds.{Tables}
 use Rattle.vkg_row_rules.specs.declared.row_rule.RowRule.{RowRule}
 use Rattle.vkg_row_rules.specs.RowDataset.{rule_rows, term_at, graph_at, quads_of, quad_at}
-use Rattle.vkg_unfold.specs.declared.mode.Mode.{Mode}
-use Rattle.vkg_unfold.specs.declared.mode.Mode.TheVariants.{Default, InGraph, Each}
-use Rattle.vkg_unfold.specs.Unfolded.{Name, name_eq, Named, same_name, named, constants, repeats, places, if_each, graph_exprs, not_null, graph_test, rule_member, pattern_member, pattern_places, pattern_names, graph_terms}
-use Rattle.vkg_unfold.specs.StandsFor.{IsIn}
-use Rattle.vkg_unfold.specs.FineRows.{NeverDefault}
-use Rattle.vkg_unfold.proofs.AlgebraColumns.{name_test}
+use Rattle.vkg_unfolded.specs.declared.mode.Mode.{Mode}
+use Rattle.vkg_unfolded.specs.declared.mode.Mode.TheVariants.{Default, InGraph, Each}
+use Rattle.vkg_unfolded.specs.Unfolded.{Name, name_eq, Named, same_name, named, constants, repeats, places, if_each, graph_exprs, not_null, graph_test, rule_member, pattern_member, pattern_places, pattern_names, graph_terms}
+use Rattle.vkg_unfolded.specs.StandsFor.{IsIn}
+use Rattle.vkg_unfolded.specs.FineRows.{NeverDefault}
+use Rattle.vkg_unfolded.proofs.AlgebraColumns.{name_test}
 use Rattle.vkg_answers.proofs.Entries.{Entry, entry, same_entry, first, alike, named_solution, repeats_alike}
 use Rattle.vkg_answers.proofs.Columns.{hidden_in, graph_fits, graphs_fit}
 use Rattle.vkg_answers.proofs.Sources.{all_hold, member_rows, rows_or_none, not_nulls, graph_is, in_graph, graph_passes_is, nulls_are, three_fail}

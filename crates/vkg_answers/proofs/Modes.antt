@@ -19,10 +19,10 @@ use Rattle.vkg_expr.specs.Expr.{Expr, Col, Same}
 use Rattle.vkg_expr.specs.Value.{value_of, term_of, truth_of, truth_cell, holds}
 use Rattle.vkg_expr.specs.Logic.{and_of}
 use Rattle.vkg_expr.proofs.Conjuncts.{holds-and_of}
-use Rattle.vkg_unfold.specs.declared.mode.Mode.{Mode}
-use Rattle.vkg_unfold.specs.declared.mode.Mode.TheVariants.{Default, InGraph, Each}
-use Rattle.vkg_unfold.specs.Unfolded.{merged, merged_columns, agreement, columns_in, if_each}
-use Rattle.vkg_unfold.specs.StandsFor.{IsIn, belongs, hidden_is, HasGraph}
+use Rattle.vkg_unfolded.specs.declared.mode.Mode.{Mode}
+use Rattle.vkg_unfolded.specs.declared.mode.Mode.TheVariants.{Default, InGraph, Each}
+use Rattle.vkg_unfolded.specs.Unfolded.{merged, merged_columns, agreement, columns_in, if_each}
+use Rattle.vkg_unfolded.specs.StandsFor.{IsIn, belongs, hidden_is, HasGraph}
 use Rattle.vkg_answers.proofs.Reading.{AreTermCells}
 use Rattle.vkg_answers.proofs.Agreement.{agreements}
 

@@ -19,13 +19,13 @@ use Rattle.vkg_algebra.specs.Evaluation.{Dataset}
 use Rattle.vkg_algebra.specs.Values as algebra
 use Rattle.vkg_expr.specs.Expr.{Col}
 use Rattle.vkg_expr.specs.Value.{value_of, term_of, term_cell, holds}
-use Rattle.vkg_unfold.specs.Conditions.{truth_expr}
-use Rattle.vkg_unfold.specs.declared.mode.Mode.{Mode}
-use Rattle.vkg_unfold.specs.declared.mode.Mode.TheVariants.{Default, InGraph, Each}
+use Rattle.vkg_unfolded.specs.Conditions.{truth_expr}
+use Rattle.vkg_unfolded.specs.declared.mode.Mode.{Mode}
+use Rattle.vkg_unfolded.specs.declared.mode.Mode.TheVariants.{Default, InGraph, Each}
 use Rattle.vkg_algebra.specs.Visible.{has}
-use Rattle.vkg_unfold.specs.Unfolded.{if_each, visible_column}
-use Rattle.vkg_unfold.specs.StandsFor.{belongs, term_in, solution_of, solutions_of}
-use Rattle.vkg_unfold.specs.FineRows.{IsNarrow}
+use Rattle.vkg_unfolded.specs.Unfolded.{if_each, visible_column}
+use Rattle.vkg_unfolded.specs.StandsFor.{belongs, term_in, solution_of, solutions_of}
+use Rattle.vkg_unfolded.specs.FineRows.{IsNarrow}
 use Rattle.vkg_answers.proofs.Values.{IsNarrowCondition}
 use Rattle.vkg_answers.proofs.Reading.{AreBelow, read_typed, read_none, read_project, lookup-solution}
 use Rattle.vkg_answers.proofs.Modes.{IsRowOf, cell_at-after}

@@ -37,12 +37,12 @@ use Rattle.vkg_plan.specs.Kinds.{Tables}
 use Rattle.vkg_plan.specs.Plan.{Join, Project, plans}
 use Rattle.vkg_plan.specs.Rows.{rows_of, rows_of_each, product}
 use Rattle.vkg_row_rules.specs.declared.row_rule.RowRule.{RowRule}
-use Rattle.vkg_unfold.specs.Unfolded.{if_each, Name, name_eq, node_names, pattern_names, pattern_plan, numbered, repeats, bgp_plan, visible_column}
-use Rattle.vkg_unfold.specs.declared.mode.Mode.{Mode}
-use Rattle.vkg_unfold.specs.declared.mode.Mode.TheVariants.{Default, InGraph, Each}
-use Rattle.vkg_unfold.specs.StandsFor.{IsIn, belongs, hidden_is, solution_of, solutions_of, term_in}
-use Rattle.vkg_unfold.specs.FineRows.{IsNarrow}
-use Rattle.vkg_unfold.proofs.AlgebraColumns.{name_test}
+use Rattle.vkg_unfolded.specs.Unfolded.{if_each, Name, name_eq, node_names, pattern_names, pattern_plan, numbered, repeats, bgp_plan, visible_column}
+use Rattle.vkg_unfolded.specs.declared.mode.Mode.{Mode}
+use Rattle.vkg_unfolded.specs.declared.mode.Mode.TheVariants.{Default, InGraph, Each}
+use Rattle.vkg_unfolded.specs.StandsFor.{IsIn, belongs, hidden_is, solution_of, solutions_of, term_in}
+use Rattle.vkg_unfolded.specs.FineRows.{IsNarrow}
+use Rattle.vkg_unfolded.proofs.AlgebraColumns.{name_test}
 use Rattle.vkg_answers.proofs.Reading.{AreBelow, IsTermCell, is_term_cell, read_project, has-each_once, set_at}
 use Rattle.vkg_answers.proofs.Modes.{IsRowOf, cell_at-after, hidden_found}
 use Rattle.vkg_answers.proofs.Steps.{Stands, projected, project_rows, IsGraphCell}

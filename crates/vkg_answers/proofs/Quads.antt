@@ -22,7 +22,7 @@ use Rattle.vkg_algebra.specs.Solutions.{compatible, merge, join, only}
 use Rattle.vkg_algebra.specs.Patterns.{node_solutions, triple_solutions}
 use Rattle.vkg_expr.specs.Expr.{Expr}
 use Rattle.vkg_expr.specs.Value.{value_of, term_of, term_cell}
-use Rattle.vkg_unfold.specs.Unfolded.{named, constants}
+use Rattle.vkg_unfolded.specs.Unfolded.{named, constants}
 use Rattle.vkg_answers.proofs.GraphVariable.{only-map}
 use Rattle.vkg_answers.proofs.Entries.{Entry, entry, alike, is_same, named_solution, AreTerms}
 use Rattle.vkg_answers.proofs.Links.{NamesBelow, names_agree, alike-append, solution-append, terms-append}

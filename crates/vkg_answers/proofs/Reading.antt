@@ -23,11 +23,11 @@ use Rattle.vkg_algebra.specs.Visible.{each_once, has}
 use Rattle.vkg_expr.specs.Expr.{Expr, Coalesce, exprs}
 use Rattle.vkg_expr.specs.Value.{value_of, term_of, term_cell, coalesced}
 use Rattle.vkg_expr.proofs.ReadBack.{term_back}
-use Rattle.vkg_unfold.specs.Unfolded.{merged, left_column, right_column, visible_column, null_term, columns_in}
-use Rattle.vkg_unfold.specs.declared.mode.Mode.{Mode}
-use Rattle.vkg_unfold.specs.StandsFor.{term_in, solution_of}
-use Rattle.vkg_unfold.specs.FineRows.{IsNarrow}
-use Rattle.vkg_unfold.proofs.AlgebraColumns.{has_place}
+use Rattle.vkg_unfolded.specs.Unfolded.{merged, left_column, right_column, visible_column, null_term, columns_in}
+use Rattle.vkg_unfolded.specs.declared.mode.Mode.{Mode}
+use Rattle.vkg_unfolded.specs.StandsFor.{term_in, solution_of}
+use Rattle.vkg_unfolded.specs.FineRows.{IsNarrow}
+use Rattle.vkg_unfolded.proofs.AlgebraColumns.{has_place}
 use Rattle.vkg_answers.proofs.Joins.{merge-map}
 
 -- a cell that is NULL, or a term that is no number of too many digits

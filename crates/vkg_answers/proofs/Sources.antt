@@ -34,11 +34,11 @@ use Rattle.vkg_plan.specs.Rows.{rows_of, rows_of_each, pairs, one_row}
 use Rattle.vkg_match.specs.Verdict.{Verdict, Never, All, verdict_of}
 use Rattle.vkg_row_rules.specs.declared.row_rule.RowRule.{RowRule}
 use Rattle.vkg_row_rules.specs.RowDataset.{rule_rows, conditions, term_at, graph_at}
-use Rattle.vkg_unfold.specs.Unfolded.{default_graph, graph_test, unless_never, rule_source, union_of, graph_terms, not_null}
-use Rattle.vkg_unfold.specs.declared.mode.Mode.{Mode}
-use Rattle.vkg_unfold.specs.declared.mode.Mode.TheVariants.{Default, InGraph, Each}
-use Rattle.vkg_unfold.specs.FineRows.{NeverDefault}
-use Rattle.vkg_unfold.specs.StandsFor.{IsIn}
+use Rattle.vkg_unfolded.specs.Unfolded.{default_graph, graph_test, unless_never, rule_source, union_of, graph_terms, not_null}
+use Rattle.vkg_unfolded.specs.declared.mode.Mode.{Mode}
+use Rattle.vkg_unfolded.specs.declared.mode.Mode.TheVariants.{Default, InGraph, Each}
+use Rattle.vkg_unfolded.specs.FineRows.{NeverDefault}
+use Rattle.vkg_unfolded.specs.StandsFor.{IsIn}
 use Rattle.vkg_answers.proofs.Steps.{product-two, project_rows}
 use Rattle.vkg_answers.proofs.Entries.{is_same}
 use Rattle.vkg_answers.proofs.Values.{bound_means}

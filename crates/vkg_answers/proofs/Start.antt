@@ -31,10 +31,10 @@ use Rattle.vkg_plan.specs.Plan.{Plan, Project, Distinct}
 use Rattle.vkg_plan.specs.Rows.{one_cell, one_row, rows_of}
 use Rattle.vkg_row_rules.specs.declared.row_rule.RowRule.{RowRule}
 use Rattle.vkg_row_rules.specs.RowDataset.{dataset_of}
-use Rattle.vkg_unfold.specs.declared.mode.Mode.TheVariants.{Default}
-use Rattle.vkg_unfold.specs.Unfolded.{start_plan, unfolded, visible_column}
-use Rattle.vkg_unfold.specs.StandsFor.{belongs, solution_of}
-use Rattle.vkg_unfold.specs.FineRows.{Meets}
+use Rattle.vkg_unfolded.specs.declared.mode.Mode.TheVariants.{Default}
+use Rattle.vkg_unfolded.specs.Unfolded.{start_plan, unfolded, visible_column}
+use Rattle.vkg_unfolded.specs.StandsFor.{belongs, solution_of}
+use Rattle.vkg_unfolded.specs.FineRows.{Meets}
 use Rattle.vkg_answers.specs.Answering.{GivesAnswer, GivesSolutions, row_line, row_solution}
 use Rattle.vkg_answers.proofs.Reading.{AreBelow, AreTermCells, cells-cons, cells-nil, lookup-solution, read_typed}
 use Rattle.vkg_answers.proofs.Steps.{project_rows}

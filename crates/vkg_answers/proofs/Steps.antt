@@ -30,12 +30,12 @@ use Rattle.vkg_plan.specs.Kinds.{Tables}
 use Rattle.vkg_plan.specs.Plan.{Plan, Project}
 use Rattle.vkg_plan.specs.Rows.{is_alone, pairs, product, left_pairs, rows_of}
 use Rattle.vkg_plan.proofs.Pairs.{pairs-unit}
-use Rattle.vkg_unfold.specs.Conditions.{truth_expr, expr_of, gives_truth, condition_of}
-use Rattle.vkg_unfold.specs.declared.mode.Mode.{Mode}
-use Rattle.vkg_unfold.specs.declared.mode.Mode.TheVariants.{Default, InGraph, Each}
-use Rattle.vkg_unfold.specs.Unfolded.{merged, agreement, if_each, visible_column}
-use Rattle.vkg_unfold.specs.StandsFor.{IsIn, belongs, term_in, solution_of, solutions_of}
-use Rattle.vkg_unfold.specs.FineRows.{IsNarrow}
+use Rattle.vkg_unfolded.specs.Conditions.{truth_expr, expr_of, gives_truth, condition_of}
+use Rattle.vkg_unfolded.specs.declared.mode.Mode.{Mode}
+use Rattle.vkg_unfolded.specs.declared.mode.Mode.TheVariants.{Default, InGraph, Each}
+use Rattle.vkg_unfolded.specs.Unfolded.{merged, agreement, if_each, visible_column}
+use Rattle.vkg_unfolded.specs.StandsFor.{IsIn, belongs, term_in, solution_of, solutions_of}
+use Rattle.vkg_unfolded.specs.FineRows.{IsNarrow}
 use Rattle.vkg_answers.proofs.Joins.{bag_join, join_rows, left_rows, merge-map}
 use Rattle.vkg_answers.proofs.Values.{IsNarrowCondition, IsNarrowIfAny, means, truth_meant}
 use Rattle.vkg_answers.proofs.Reading.{AreBelow, AreTermCells, IsTermCell, read_typed, has_union, term_merged, read_merged, solution-merged, merged_typed, nulls_typed, nulls_none, lookup-solution, cells-map, cells-cons, cells-nil, length-project, narrow_or}

@@ -36,11 +36,11 @@ use Rattle.vkg_plan.specs.Plan.{Plan, Select, Project, Left, plans}
 use Rattle.vkg_plan.specs.Plan as plan
 use Rattle.vkg_plan.specs.Rows.{rows_of}
 use Rattle.vkg_row_rules.specs.declared.row_rule.RowRule.{RowRule}
-use Rattle.vkg_unfold.specs.declared.mode.Mode.{Mode}
-use Rattle.vkg_unfold.specs.declared.mode.Mode.TheVariants.{Default, InGraph, Each}
-use Rattle.vkg_unfold.specs.Unfolded.{column, graph_column, in_its_graph, visible_column, merged, merged_columns, agreement, if_each, unfolded, bgp_plan, names_plan, exists_plan, in_mode, named_graph, each_graph, after, is_pattern}
-use Rattle.vkg_unfold.specs.Conditions.{condition_of}
-use Rattle.vkg_unfold.specs.FineRows.{IsNarrow}
+use Rattle.vkg_unfolded.specs.declared.mode.Mode.{Mode}
+use Rattle.vkg_unfolded.specs.declared.mode.Mode.TheVariants.{Default, InGraph, Each}
+use Rattle.vkg_unfolded.specs.Unfolded.{column, graph_column, in_its_graph, visible_column, merged, merged_columns, agreement, if_each, unfolded, bgp_plan, names_plan, exists_plan, in_mode, named_graph, each_graph, after, is_pattern}
+use Rattle.vkg_unfolded.specs.Conditions.{condition_of}
+use Rattle.vkg_unfolded.specs.FineRows.{IsNarrow}
 use Rattle.vkg_answers.proofs.Lawful.{lawful_left, lawful_right, lawful_tail, narrow_if_any, variables_below}
 use Rattle.vkg_answers.proofs.Reading.{AreBelow, has-each_once, has_union}
 use Rattle.vkg_answers.proofs.Steps.{Stands, join_stands, left_stands, below_union, project_rows}

@@ -24,9 +24,9 @@ use Rattle.vkg_algebra.specs.Laws.{node_numbers, pattern_numbers}
 use Rattle.vkg_expr.specs.Value.{term_of, term_cell}
 use Rattle.vkg_plan.specs.Rows.{one_row}
 use Rattle.vkg_plan.proofs.CellLemmas.{rows_apart}
-use Rattle.vkg_unfold.specs.declared.mode.Mode.{Mode}
-use Rattle.vkg_unfold.specs.Unfolded.{Name}
-use Rattle.vkg_unfold.specs.StandsFor.{IsIn}
+use Rattle.vkg_unfolded.specs.declared.mode.Mode.{Mode}
+use Rattle.vkg_unfolded.specs.Unfolded.{Name}
+use Rattle.vkg_unfolded.specs.StandsFor.{IsIn}
 use Rattle.vkg_answers.proofs.Reading.{lookup-upto}
 use Rattle.vkg_answers.proofs.Entries.{Entry, first, alike, named_term, named_solution, AreTerms, AreAlike}
 use Rattle.vkg_answers.proofs.Links.{first_there, first_alike, are_alike}

@@ -29,8 +29,8 @@ use Rattle.vkg_algebra.specs.Lawful.{condition_nodes_if_any}
 use Rattle.vkg_expr.specs.Expr.{Expr, Const}
 use Rattle.vkg_expr.specs.Value.{truth_of, term_of, truth_cell, term_cell, value_of}
 use Rattle.vkg_expr.proofs.ReadBack.{truth_back}
-use Rattle.vkg_unfold.specs.FineRows.{IsNarrow}
-use Rattle.vkg_unfold.specs.Conditions.{gives_truth, to_term, to_truth, expr_of}
+use Rattle.vkg_unfolded.specs.FineRows.{IsNarrow}
+use Rattle.vkg_unfolded.specs.Conditions.{gives_truth, to_term, to_truth, expr_of}
 
 not_wide : (t : Term) → IsNarrow (Some t) → is_wide_number t ≡ false
 not_wide t h = not_true (is_wide_number t) h

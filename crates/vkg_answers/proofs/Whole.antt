@@ -10,10 +10,10 @@ use Rattle.vkg_plan.specs.Kinds.{Tables}
 use Rattle.vkg_plan.specs.Rows.{rows_of}
 use Rattle.vkg_row_rules.specs.declared.row_rule.RowRule.{RowRule}
 use Rattle.vkg_row_rules.specs.RowDataset.{dataset_of}
-use Rattle.vkg_unfold.specs.declared.mode.Mode.{Mode}
-use Rattle.vkg_unfold.specs.Unfolded.{bgp_plan, unfolded}
-use Rattle.vkg_unfold.specs.StandsFor.{StandsFor}
-use Rattle.vkg_unfold.specs.FineRows.{Meets}
+use Rattle.vkg_unfolded.specs.declared.mode.Mode.{Mode}
+use Rattle.vkg_unfolded.specs.Unfolded.{bgp_plan, unfolded}
+use Rattle.vkg_unfolded.specs.StandsFor.{StandsFor}
+use Rattle.vkg_unfolded.specs.FineRows.{Meets}
 use Rattle.vkg_answers.proofs.Lawful.{nodes_below, numbers_apart, variables_below}
 use Rattle.vkg_answers.proofs.Steps.{Stands}
 use Rattle.vkg_answers.proofs.Patterns.{patterns_stand}

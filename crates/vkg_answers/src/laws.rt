@@ -6,10 +6,10 @@ ghost use Rattle.vkg_sparql.specs.Query.{Query};
 ghost use Rattle.vkg_algebra.specs.Algebra.{Algebra};
 ghost use Rattle.vkg_algebra.specs.Lawful.{IsLawfulAlgebra};
 ghost use Rattle.vkg_row_rules.specs.declared.row_rule.RowRule.{RowRule};
-ghost use Rattle.vkg_unfold.specs.FineRows.{Meets};
-ghost use Rattle.vkg_unfold.specs.StandsFor.{StandsFor};
-ghost use Rattle.vkg_unfold.specs.Unfolded.{start_plan, unfolded};
-ghost use Rattle.vkg_unfold.specs.declared.mode.Mode.{Mode};
+ghost use Rattle.vkg_unfolded.specs.FineRows.{Meets};
+ghost use Rattle.vkg_unfolded.specs.StandsFor.{StandsFor};
+ghost use Rattle.vkg_unfolded.specs.Unfolded.{start_plan, unfolded};
+ghost use Rattle.vkg_unfolded.specs.declared.mode.Mode.{Mode};
 ghost use Rattle.vkg_answers.specs.Answering.{GivesAnswer, GivesSolutions};
 
 /// The unfolded plan of a lawful algebra, in each mode: over every database whose rows are fine it has the solutions of the algebra over

@@ -4,7 +4,7 @@
 //! nothing; what they ensure is that the unfolded plan of an algebra stands for it over every dataset that rules make, and that the plan
 //! of a query gives its solutions, so that its rows as lines are the answer.
 //!
-//! Stands on `vkg_unfold` (plans of algebras), `vkg_row_rules` (rules over rows), `vkg_algebra` (what a query means) and `vkg_plan` (rows).
+//! Stands on `vkg_unfolded` (plans of algebras), `vkg_row_rules` (rules over rows), `vkg_algebra` (what a query means) and `vkg_plan` (rows).
 #![tactic(auto)]
 
 pub mod laws;

@@ -1,5 +1,5 @@
 -- The answer of a command, by its work and what became of it.
-use Rattle.std.proofs.Common.{◌≡◌, inl, inr, ℕ, List, [], ◌∷◌, ◌++◌, length, take, refl, sym, ◌∙◌, ap, subst, Ok, Err, Some}
+use Rattle.std.proofs.Common.{◌≡◌, inl, inr, ℕ, List, [], ◌∷◌, ◌++◌, length, take, refl, sym, ◌∙◌, ap, arith, subst, Ok, Err, Some}
 use Rattle.std.proofs.Math.Seq.{take-length}
 use Rattle.std.proofs.lemmas.List.{append-nil}
 use Rattle.std.specs.Prelude.{Result, Bool, true, false, codes, IfErr, IfOk, Option, None, if◌then◌else◌, IsTrue, IsOk, option_and_then, option_map}
@@ -20,9 +20,11 @@ use Rattle.vkg_terms.specs.Iri.{is_absolute}
 use Rattle.clap.specs.Words.{Kinds, Row, Text, fault_of, first_of, subcommand_of}
 use Rattle.vkg_cli.specs.CommandLine.{vkg_app}
 use Rattle.vkg_cli.specs.Words.{Asked, Command, asked_of, asked_or, base_of, command_unless, dump_words, gen, gen_words, help, is_help, named_words, query_words, refused, run, sql_words, taken_command, with_base}
-use Rattle.vkg_cli.specs.Work.{MayStop, Works}
-use Rattle.vkg_cli.specs.Stages.{Stage, Asks, AsksSome, IsDetermined, Matches, Ran}
+use Rattle.vkg_cli.specs.Headline.{IsTextOf}
+use Rattle.vkg_cli.specs.Work.{AsksFirst, IsNumbered, MayStop, Works}
+use Rattle.vkg_cli.specs.Stages.{Stage, Asks, AsksSome, IsDetermined, Matches, Ran, Where}
 use Rattle.vkg_cli.specs.Answer.{World, IsAnswer, IsCommandAnswer, IsRefused, Ends, Delivers, Reports, Tells, TellsStop}
+use Rattle.vkg_cli.proofs.Names.{first_none}
 use Rattle.vkg_cli.proofs.Whole.{determined_work}
 
 whole : {A : Type 0} (stage : Stage A) (before now : List (List ℕ)) (made : Result A Stop) → IsDetermined stage → Asks stage before now made → AsksSome stage before now
@@ -45,31 +47,37 @@ module _ (command : Command) (old new : World) where
   refusal (Data check map row term) is = is
   refusal (Query check at) is = is
 
-  ended : (made : Result (List (List ℕ)) Stop) (status : Status) → IfErr made (MayStop command) → Ran (Works command) old.store new.store made → Delivers made old.out new.out old.err new.err status
-      → Ends command old new status
-  ended (Ok lines) status may ran (inl (is, took, quiet)) =
+  ended : (made : Result (List (List ℕ)) Stop) (status : Status) → IfErr made (MayStop command) → IfErr made IsNumbered
+      → IfOk made (λ lines. Where old.store.files (λ files. IsTextOf command files lines))
+      → Ran (Works command) old.store new.store made → Delivers made old.out new.out old.err new.err status → Ends command old new status
+  ended (Ok lines) status may numbered text ran (inl (is, took, quiet)) =
       subst (Ends command old new) (sym is)
-      (record { lines = lines; defined = λ files known. let all = ran.over files known in (all.0, all.1); taken = took; store = ran.counts; err = quiet })
-  ended (Ok lines) status may ran (inr (is, broke, told)) =
+      (record { lines = lines; defined = λ files known. let all = ran.over files known in (all.0, all.1); text_of = text; taken = took; store = ran.counts; err = quiet })
+  ended (Ok lines) status may numbered text ran (inr (is, broke, told)) =
       subst (Ends command old new) (sym is)
-      (record { lines = lines; defined = λ files known. let all = ran.over files known in (all.0, all.1); taken = broke; store = ran.counts; told = told })
-  ended (Err (stop.Refused fault)) status may ran (same, (is, told)) =
+      (record { lines = lines; defined = λ files known. let all = ran.over files known in (all.0, all.1); text_of = text; taken = broke; store = ran.counts; told = told })
+  ended (Err (stop.Refused fault)) status may numbered text ran (same, (is, told)) =
       subst (Ends command old new) (sym is)
       (refusal fault
-      (record { fault = fault; status_is = refl; may = may; defined = λ files known. let all = ran.over files known in (all.0, all.1); out = same; store = ran.counts; told = told }))
-  ended (Err stop.Read) status may ran (same, (is, told)) = subst (Ends command old new) (sym is) (record { rose = ran.counts; out = same; told = told })
-  ended (Err stop.Memory) status may ran (same, (is, told)) = subst (Ends command old new) (sym is) (record { out = same; told = told })
+      (record { fault = fault; status_is = refl; of_table = numbered; may = may; defined = λ files known. let all = ran.over files known in (all.0, all.1); out = same; store = ran.counts; told = told }))
+  ended (Err stop.Read) status may numbered text ran (same, (is, told)) = subst (Ends command old new) (sym is) (record { rose = ran.counts; out = same; told = told })
+  ended (Err stop.Memory) status may numbered text ran (same, (is, told)) = subst (Ends command old new) (sym is) (record { out = same; store = ran.counts; told = told })
 
-  answers : (made : Result (List (List ℕ)) Stop) (status : Status) → IfErr made (MayStop command) → Ran (Works command) old.store new.store made → Delivers made old.out new.out old.err new.err status
-      → IsCommandAnswer command old new status
-  answers made status may ran delivers = record {
+  answers : (made : Result (List (List ℕ)) Stop) (status : Status) → IfErr made (MayStop command) → IfErr made IsNumbered
+      → IfOk made (λ lines. Where old.store.files (λ files. IsTextOf command files lines)) → AsksFirst command old.store.asked new.store.asked
+      → Ran (Works command) old.store new.store made → Delivers made old.out new.out old.err new.err status → IsCommandAnswer command old new status
+  answers made status may numbered text first ran delivers = record {
+    files = ran.files;
+    first = first;
     asked = λ files told. some_names (Works command files) old.store.asked new.store.asked made (determined_work command files) (ran.over files told);
-    ends = ended made status may ran delivers;
+    ends = ended made status may numbered text ran delivers;
   }
 
 pub answers_to : (asked : Asked) (command : Command) (old new : World) (made : Result (List (List ℕ)) Stop) (status : Status)
-    → run command ≡ asked → IfErr made (MayStop command) → Ran (Works command) old.store new.store made → Delivers made old.out new.out old.err new.err status → IsAnswer asked old new status
-answers_to asked command old new made status is may ran delivers = subst (λ a. IsAnswer a old new status) is (answers command old new made status may ran delivers)
+    → run command ≡ asked → IfErr made (MayStop command) → IfErr made IsNumbered → IfOk made (λ lines. Where old.store.files (λ files. IsTextOf command files lines))
+    → AsksFirst command old.store.asked new.store.asked → Ran (Works command) old.store new.store made → Delivers made old.out new.out old.err new.err status → IsAnswer asked old new status
+answers_to asked command old new made status is may numbered text first ran delivers =
+    subst (λ a. IsAnswer a old new status) is (answers command old new made status may numbered text first ran delivers)
 
 -- why there is no text was told, and nothing was written
 pub stopped : (made : Result (List (List ℕ)) Stop) (why : Stop) (out err after : SinkState) (status : Status) → made ≡ Err why → TellsStop why err after status → Delivers made out out err after status
@@ -143,12 +151,14 @@ short_words words store out err after asks told =
   where
     by : (asked : Asked) → (asked ≡ help → ⊥) → IsAnswer asked (record { store = store; out = out; err = err }) (record { store = store; out = out; err = after }) Memory
     by help never = absurd (never refl)
-    by (refused usage) never = (refl, inr (refl, record { out = refl; told = told }))
+    by (refused usage) never = (refl, inr (refl, record { out = refl; store = omega arith; told = told }))
     by (run command) never = record {
+      files = refl;
+      first = first_none command store.asked;
       asked = λ files known names outcome other. (0, sym (append-nil _));
-      ends = record { out = refl; told = told };
+      ends = record { out = refl; store = omega arith; told = told };
     }
-    by (gen n) never = (refl, inr (inr (refl, record { out = refl; told = told })))
+    by (gen n) never = (refl, inr (inr (refl, record { out = refl; store = omega arith; told = told })))
 
 -- the report on a company, by what became of its lines
 pub reports : (n : ℕ) (made : Result (List (List ℕ)) Stop) (store : StoreState) (out out' err err' : SinkState) (status : Status)
@@ -158,7 +168,7 @@ reports n (Ok lines) store out out' err err' status is may (inl (done, took, qui
 reports n (Ok lines) store out out' err err' status is may (inr (ended, broke, told)) = (refl, inr (inl (ended, record { lines = lines; report = is; taken = broke; told = told })))
 reports n (Err (stop.Refused fault)) store out out' err err' status is may ends = cc may
 reports n (Err stop.Read) store out out' err err' status is may ends = cc may
-reports n (Err stop.Memory) store out out' err err' status is may (same, (short, told)) = (refl, inr (inr (short, record { out = same; told = told })))
+reports n (Err stop.Memory) store out out' err err' status is may (same, (short, told)) = (refl, inr (inr (short, record { out = same; store = omega arith; told = told })))
 
 pub reports_to : (asked : Asked) (n : ℕ) (old new : World) (status : Status) → gen n ≡ asked → Reports n old new status → IsAnswer asked old new status
 reports_to asked n old new status is reports = subst (λ a. IsAnswer a old new status) is reports

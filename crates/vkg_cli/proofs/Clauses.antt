@@ -1,8 +1,8 @@
 -- What follows from the answer, status by status.
-use Rattle.std.proofs.Common.{◌≡◌, ◌⊎◌, inl, inr, ℕ, List, refl, sym, ◌∙◌, ap, subst, Err, Some}
+use Rattle.std.proofs.Common.{◌≡◌, ◌⊎◌, ◌≤◌, inl, inr, ℕ, List, refl, sym, ◌∙◌, ap, arith, subst, Err, Some}
 use Rattle.std.specs.Prelude.{Result}
 use Rattle.vkg_lists.proofs.Results.{ok_same, ok_err}
-use Rattle.vkg_base.specs.Outside.{Files, Rose, Took}
+use Rattle.vkg_base.specs.Outside.{Files, Rose, SinkState, StoreState, Took}
 use Rattle.vkg_base.specs.Written.{written}
 use Rattle.vkg_base.specs.declared.status.Status.{Status}
 use Rattle.vkg_base.specs.declared.status.Status.TheVariants.{Done, Usage as BadWords, BadSchema, BadTable, BadMapping, BadData, BadQuery, ReadFault, WriteFault, Memory}
@@ -14,9 +14,8 @@ use Rattle.vkg_cli.specs.declared.stops.Usage.{Usage}
 use Rattle.vkg_cli.specs.FaultLine.{status_of}
 use Rattle.vkg_cli.specs.Words.{Asked, Command, DumpWords, SqlWords, dump, gen, help, query, refused, run, sql}
 use Rattle.vkg_cli.specs.Work.{MayStop}
-use Rattle.vkg_cli.specs.Answer.{Ends, HasFault, HasText, IsAnswer, IsDone, IsRefused, Reports, World, WritesReport}
-use Rattle.vkg_cli.specs.Clauses.{AsksInOrder, HelpIsGiven, IsComplete, IsDoneOnly, IsMemoryTold, IsNoOther, IsReadFaultOnly, IsRefusedExactly, IsReported, IsUntouched, IsUsageExactly, IsWriteFaultOnly, Writes}
-use Rattle.vkg_cli.proofs.Headline.{headline}
+use Rattle.vkg_cli.specs.Answer.{Ends, HasFault, HasText, IsAnswer, IsDone, IsRefused, IsShort, Reports, World, WritesReport}
+use Rattle.vkg_cli.specs.Clauses.{AsksByWords, AsksInOrder, HasNoneFallen, HelpIsGiven, IsComplete, IsDoneOnly, IsMemoryTold, IsNoOther, IsNoOtherText, IsReadFaultOnly, IsRefusedExactly, IsReported, IsUntouched, IsUsageExactly, IsWriteFaultOnly, KeepsFiles, Writes}
 use Rattle.vkg_cli.proofs.Whole.{determined_work}
 
 abbrev Lines : Type 0
@@ -36,6 +35,9 @@ module _ (command : Command) (files : Files) where
   same_text lines others text also = ok_same lines others ((determined_work command files).one_outcome text.0 also.0 _ _ text.1 also.1)
 
 module _ (command : Command) (old new : World) where
+  writes : IsDone command old new → Writes command old new
+  writes is = record { lines = is.lines; text_of = is.text_of; taken = is.taken; store = is.store; err = is.err }
+
   untouched_by : (status : Status) → Ends command old new status → IsUntouched old new status
   untouched_by Done ends a b = absurd (a refl)
   untouched_by BadWords ends a b = absurd ends
@@ -66,18 +68,31 @@ module _ (command : Command) (old new : World) where
       refused_by WriteFault ends = absurd (text_or_fault command files ends.lines fault (ends.defined files told) has)
       refused_by Memory ends = inr (inr refl)
 
-    module _ (lines : Lines) (text : HasText command files lines) (read : ¬ (Rose old.store.faults new.store.faults)) (write : ¬ (Rose old.out.faults new.out.faults)) where
-      complete_by : (status : Status) → Ends command old new status → ((status ≡ Done) × Took old.out new.out (written lines)) ⊎ (status ≡ Memory)
-      complete_by Done ends = inl (refl, subst (λ l. Took old.out new.out (written l)) (same_text command files ends.lines lines (ends.defined files told) text) ends.taken)
+    module _ (none : (fault : Fault) → ¬ (HasFault command files fault)) (read : ¬ (Rose old.store.faults new.store.faults)) (write : ¬ (Rose old.out.faults new.out.faults)) where
+      complete_by : (status : Status) → Ends command old new status → ((status ≡ Done) × Writes command old new) ⊎ (status ≡ Memory)
+      complete_by Done ends = inl (refl, writes ends)
       complete_by BadWords ends = absurd ends
-      complete_by BadSchema ends = absurd (text_or_fault command files lines ends.fault text (ends.defined files told))
-      complete_by BadTable ends = absurd (text_or_fault command files lines ends.fault text (ends.defined files told))
-      complete_by BadMapping ends = absurd (text_or_fault command files lines ends.fault text (ends.defined files told))
-      complete_by BadData ends = absurd (text_or_fault command files lines ends.fault text (ends.defined files told))
-      complete_by BadQuery ends = absurd (text_or_fault command files lines ends.fault text (ends.defined files told))
+      complete_by BadSchema ends = absurd (none ends.fault (ends.defined files told))
+      complete_by BadTable ends = absurd (none ends.fault (ends.defined files told))
+      complete_by BadMapping ends = absurd (none ends.fault (ends.defined files told))
+      complete_by BadData ends = absurd (none ends.fault (ends.defined files told))
+      complete_by BadQuery ends = absurd (none ends.fault (ends.defined files told))
       complete_by ReadFault ends = absurd (read ends.rose)
       complete_by WriteFault ends = absurd (write ends.taken.faults)
       complete_by Memory ends = inr refl
+
+    module _ (lines : Lines) (text : HasText command files lines) (read : ¬ (Rose old.store.faults new.store.faults)) (write : ¬ (Rose old.out.faults new.out.faults)) where
+      written_by : (status : Status) → Ends command old new status → ((status ≡ Done) × Took old.out new.out (written lines)) ⊎ (status ≡ Memory)
+      written_by Done ends = inl (refl, subst (λ l. Took old.out new.out (written l)) (same_text command files ends.lines lines (ends.defined files told) text) ends.taken)
+      written_by BadWords ends = absurd ends
+      written_by BadSchema ends = absurd (text_or_fault command files lines ends.fault text (ends.defined files told))
+      written_by BadTable ends = absurd (text_or_fault command files lines ends.fault text (ends.defined files told))
+      written_by BadMapping ends = absurd (text_or_fault command files lines ends.fault text (ends.defined files told))
+      written_by BadData ends = absurd (text_or_fault command files lines ends.fault text (ends.defined files told))
+      written_by BadQuery ends = absurd (text_or_fault command files lines ends.fault text (ends.defined files told))
+      written_by ReadFault ends = absurd (read ends.rose)
+      written_by WriteFault ends = absurd (write ends.taken.faults)
+      written_by Memory ends = inr refl
 
 same_command : (command other : Command) → run command ≡ run other → command ≡ other
 same_command command other e = cc
@@ -146,15 +161,6 @@ module _ (old new : World) where
       by (Query check at) e may = cc e
 
 module _ (old new : World) (status : Status) where
-  writes : (command : Command) → IsDone command old new → Writes command old new
-  writes command is = record {
-    lines = is.lines;
-    text_of = λ files told. headline command files is.lines (is.defined files told);
-    taken = is.taken;
-    store = is.store;
-    err = is.err;
-  }
-
   -- `gen` ends with no other status
   gen_ends : (n : ℕ) (other : Status) → Reports n old new status → status ≡ other → ¬ (other ≡ Done) → ¬ (other ≡ WriteFault) → ¬ (other ≡ Memory) → ⊥
   gen_ends n other (same, inl (is, whole)) e a b c = a (sym e ∙ is)
@@ -166,7 +172,7 @@ module _ (old new : World) (status : Status) where
   done_only help (same, inr (is, broke, told)) done = absurd (not_twice status Done WriteFault done is done_written)
   done_only (refused usage) (same, inl (is, why)) done = absurd (not_twice status Done BadWords done is (λ e. cc e))
   done_only (refused usage) (same, inr (is, why)) done = absurd (not_twice status Done Memory done is (λ e. cc e))
-  done_only (run command) is done = inr (inl (command, refl, writes command (subst (Ends command old new) done is.ends)))
+  done_only (run command) is done = inr (inl (command, refl, writes command old new (subst (Ends command old new) done is.ends)))
   done_only (gen n) (same, inl (is, whole)) done = inr (inr (n, refl, same, whole))
   done_only (gen n) (same, inr (inl (is, broken))) done = absurd (not_twice status Done WriteFault done is done_written)
   done_only (gen n) (same, inr (inr (is, short))) done = absurd (not_twice status Done Memory done is (λ e. cc e))
@@ -243,12 +249,49 @@ module _ (old new : World) (status : Status) where
   reported (gen m) (same, inr (inr (is, short))) n e quiet = inr is
 
   pub complete : (asked : Asked) → IsAnswer asked old new status → IsComplete asked old new status
-  complete help is command e files told lines text read write = absurd (no_command_help command (sym e))
-  complete (refused usage) is command e files told lines text read write = absurd (no_command_refused command usage (sym e))
-  complete (gen n) is command e files told lines text read write = absurd (no_command_gen command n (sym e))
-  complete (run asked) is command e files told lines text read write =
+  unfolding IsComplete
+  complete help is command e files told none read write = absurd (no_command_help command (sym e))
+  complete (refused usage) is command e files told none read write = absurd (no_command_refused command usage (sym e))
+  complete (gen n) is command e files told none read write = absurd (no_command_gen command n (sym e))
+  complete (run asked) is command e files told none read write =
+      subst (λ o. ((status ≡ Done) × Writes o old new) ⊎ (status ≡ Memory)) (same_command asked command e)
+      (complete_by asked old new files told (subst (λ o. (fault : Fault) → ¬ (HasFault o files fault)) (sym (same_command asked command e)) none) read write status is.ends)
+
+  pub no_other_text : (asked : Asked) → IsAnswer asked old new status → IsNoOtherText asked old new status
+  unfolding IsNoOtherText
+  no_other_text help is command e files told lines text read write = absurd (no_command_help command (sym e))
+  no_other_text (refused usage) is command e files told lines text read write = absurd (no_command_refused command usage (sym e))
+  no_other_text (gen n) is command e files told lines text read write = absurd (no_command_gen command n (sym e))
+  no_other_text (run asked) is command e files told lines text read write =
       let same = same_command asked command e in
-      complete_by asked old new files told lines (subst (λ o. HasText o files lines) (sym same) text) read write status is.ends
+      written_by asked old new files told lines (subst (λ o. HasText o files lines) (sym same) text) read write status is.ends
+
+  pub by_words : (asked : Asked) → IsAnswer asked old new status → AsksByWords asked old new
+  unfolding AsksByWords
+  by_words help is = ap (λ (s : StoreState). s.asked) is.0
+  by_words (refused usage) is = ap (λ (s : StoreState). s.asked) is.0
+  by_words (gen n) is = ap (λ (s : StoreState). s.asked) is.0
+  by_words (run command) is = is.first
+
+  pub keeps_files : (asked : Asked) → IsAnswer asked old new status → KeepsFiles old new
+  keeps_files help is = ap (λ (s : StoreState). s.files) is.0
+  keeps_files (refused usage) is = ap (λ (s : StoreState). s.files) is.0
+  keeps_files (gen n) is = ap (λ (s : StoreState). s.files) is.0
+  keeps_files (run command) is = is.files
+
+  -- where memory was short, no count fell
+  kept : IsShort old new → (old.store.faults ≤ new.store.faults) × (old.out.faults ≤ new.out.faults)
+  kept short = let same = ap (λ (s : SinkState). s.faults) short.out in (short.store, omega (arith, same))
+
+  pub none_fallen : (asked : Asked) → IsAnswer asked old new status → HasNoneFallen old new status
+  none_fallen help (same, inl (is, took, quiet)) short = absurd (not_twice status Memory Done short is (λ e. cc e))
+  none_fallen help (same, inr (is, broke, told)) short = absurd (not_twice status Memory WriteFault short is (λ e. cc e))
+  none_fallen (refused usage) (same, inl (is, why)) short = absurd (not_twice status Memory BadWords short is (λ e. cc e))
+  none_fallen (refused usage) (same, inr (is, why)) short = kept why
+  none_fallen (gen n) (same, inl (is, whole)) short = absurd (not_twice status Memory Done short is (λ e. cc e))
+  none_fallen (gen n) (same, inr (inl (is, broken))) short = absurd (not_twice status Memory WriteFault short is (λ e. cc e))
+  none_fallen (gen n) (same, inr (inr (is, why))) short = kept why
+  none_fallen (run command) is short = kept (subst (Ends command old new) short is.ends)
 
   pub in_order : (asked : Asked) → IsAnswer asked old new status → AsksInOrder asked old new
   in_order help is = is.0
@@ -259,6 +302,7 @@ module _ (old new : World) (status : Status) where
   -- how one of the statuses of faults follows from the answer
   refused_exactly : (bad : Status) → ((command : Command) → Ends command old new bad → IsRefused command old new bad) → ¬ (bad ≡ Done) → ¬ (bad ≡ WriteFault) → ¬ (bad ≡ BadWords) → ¬ (bad ≡ Memory)
       → (asked : Asked) → IsAnswer asked old new status → IsRefusedExactly bad asked old new status
+  unfolding IsRefusedExactly
   refused_exactly bad by a b c d help (same, inl (is, took, quiet)) = (λ e. absurd (a (sym e ∙ is)), λ command e. absurd (no_command_help command (sym e)))
   refused_exactly bad by a b c d help (same, inr (is, broke, told)) = (λ e. absurd (b (sym e ∙ is)), λ command e. absurd (no_command_help command (sym e)))
   refused_exactly bad by a b c d (refused usage) (same, inl (is, why)) = (λ e. absurd (c (sym e ∙ is)), λ command e. absurd (no_command_refused command usage (sym e)))

@@ -4,13 +4,13 @@ use Rattle.std.proofs.lemmas.List.{length-map, length-take, take_all}
 use Rattle.std.proofs.lemmas.Bool.{ltb-false}
 use Rattle.std.proofs.Math.Seq.{set-append_seam}
 use Rattle.std.specs.List.{AllZip, slice_get, slice_set}
-use Rattle.std.specs.Prelude.{Option, None, Result, option_map}
+use Rattle.std.specs.Prelude.{IfOk, Option, None, Result, option_map}
 use Rattle.std.specs.Result.{result_map_both}
 use Rattle.vkg_lists.specs.Results.{unless}
 use Rattle.vkg_lists.proofs.Heads.{at_seam}
 use Rattle.vkg_lists.proofs.Results.{ok_same, ok_err, unless_given}
 use Rattle.vkg_lists.proofs.Onto.{map_lacking}
-use Rattle.vkg_base.specs.Outside.{Files, held}
+use Rattle.vkg_base.specs.Outside.{Files, StoreState, held}
 use Rattle.vkg_schema.specs.declared.table.Table.{Table}
 use Rattle.vkg_schema.specs.declared.table.Column.{Column}
 use Rattle.vkg_schema.specs.Rows.{Row}
@@ -18,9 +18,16 @@ use Rattle.vkg_schema.specs.Meets.{MeetsSchema}
 use Rattle.vkg_maps.specs.declared.mapping.Mapping.{Mapping}
 use Rattle.vkg_maps.specs.declared.data_fault.DataFault.{DataFault}
 use Rattle.vkg_maps.specs.DataFaults.{data_faults, least_data_fault}
+use Rattle.vkg_maps.specs.Dataset.{dataset}
 use Rattle.vkg_direct.specs.DirectMapping.{direct_result}
+use Rattle.vkg_direct.specs.Laws.{GivesDirectGraph}
+use Rattle.vkg_quads.specs.Dump.{IsDump as IsLinesOf}
+use Rattle.vkg_plan.specs.Rows.{rows_of}
+use Rattle.vkg_rewrite.specs.Lines.{result_lines}
+use Rattle.vkg_rewrite.specs.Rewritten.{rewritten}
 use Rattle.vkg_sparql.specs.declared.query.Query.{Query}
 use Rattle.vkg_sparql.specs.Reading.{IsQuery}
+use Rattle.vkg_sparql.specs.Seen.{query_seen}
 use Rattle.vkg_turtle.specs.declared.triple.Triple.{Triple}
 use Rattle.vkg_turtle.specs.Reading.{IsDocumentOf}
 use Rattle.vkg_r2rml.specs.Mapping.{mapping_of}
@@ -33,12 +40,11 @@ use Rattle.vkg_schema.specs.Reading.{IsSchemaOf}
 use Rattle.vkg_tables.specs.Checks.{key_fault, reference_fault}
 use Rattle.vkg_tables.specs.Seen.{Seen, columns_at, columns_of, with_read, with_rows, without_rows}
 use Rattle.vkg_tables.specs.TableFile.{table_of_bytes}
-use Rattle.vkg_cli.specs.Stages.{Loads, Settles, Then, found, goes_on, stops}
-use Rattle.vkg_cli.specs.Words.{Command, DumpWords, QueryWords, SqlWords, dump, query, sql}
-use Rattle.vkg_cli.specs.Work.{Checks, Dumps, GivesAnswer, GivesText, LoadsDatabase, LoadsFaultless, LoadsMapping, LoadsQuery, LoadsSchema, LoadsTable, LoadsTables, LoadsText, MapsDirectly, MapsTriples, Reads, ReadsQuery, ReadsSchema, ReadsTriples, SaysQuery, SaysTriples, UnlessLong, Works, checks, loaded_or, table_file, unless_data, data_stop, direct_stop, mapping_stop, table_stop}
+use Rattle.vkg_cli.specs.Stages.{Answers, Loads, Ran, Settles, Then, Where, found, goes_on, stops}
+use Rattle.vkg_cli.specs.Words.{dump, query, sql}
+use Rattle.vkg_cli.specs.Work.{Checks, GivesAnswer, GivesText, LoadsDatabase, LoadsFaultless, LoadsMapping, LoadsQuery, LoadsSchema, LoadsTable, LoadsTables, LoadsText, MapsDirectly, MapsTriples, Reads, ReadsQuery, ReadsSchema, ReadsTriples, SaysQuery, SaysTriples, UnlessLong, checks, loaded_or, table_file, unless_data, data_stop, direct_stop, mapping_stop, table_stop}
 use Rattle.vkg_cli.specs.Work.{unless_fault as unless_table}
-use Rattle.vkg_cli.specs.Answer.{HasText}
-use Rattle.vkg_cli.specs.Headline.{HoldDatabase, HoldDataset, HoldsMapping, HoldsQuery, HoldsSchema, HoldsTable, HoldsText, IsAnswered, IsDump, IsSql, IsTextOf}
+use Rattle.vkg_cli.specs.Headline.{HoldDatabase, HoldDataset, HoldsMapping, HoldsQuery, HoldsSchema, HoldsTable, HoldsText, IsTextOf}
 use Rattle.vkg_cli.proofs.LoadLemmas.{faultless_of}
 
 -- a file within a limit is not cut
@@ -146,10 +152,11 @@ module _ (files : Files) (schema : List Table) (base : List ℕ) (mapping : Mapp
       record { bytes = file.0; file = file.1; triples = read.1.0; says = subst (λ b. IsDocumentOf b base read.1.0) (file.2 ∙ whole) read.1.1; reads = read.1.2 }
   text_holds name names (stops stop load is) = absurd (ok_err mapping stop is)
 
-  mapping_holds : (file : Option (List ℕ)) (names : List (List ℕ)) → LoadsMapping files file schema base names (Ok mapping) → HoldsMapping files file schema base mapping
+  mapping_holds : (file : Option (List ℕ)) (names : List (List ℕ)) → (file ≡ None → GivesDirectGraph schema base mapping) → LoadsMapping files file schema base names (Ok mapping)
+      → HoldsMapping files file schema base mapping
   unfolding MapsDirectly Settles
-  mapping_holds None names is = (given_made direct_stop (direct_result schema base) mapping (is.1.0), is.1.1.0)
-  mapping_holds (Some name) names is = text_holds name names is
+  mapping_holds None names graph is = (given_made direct_stop (direct_result schema base) mapping (is.1), graph refl)
+  mapping_holds (Some name) names graph is = text_holds name names is
 
 module _ (files : Files) where
   schema_holds : (name : List ℕ) (schema : List Table) (names : List (List ℕ)) → LoadsSchema files name names (Ok schema) → HoldsSchema files name schema
@@ -174,97 +181,88 @@ module _ (files : Files) where
   checked_is : (db met : Seen) → (let one : Result Seen Stop = Ok met in one ≡ checks db) → met ≡ db
   checked_is db met e = ok_same met db (unless_key (reference_fault db.schema db.tables) met (Ok db) (unless_key (key_fault db.schema db.tables) met _ e))
 
-  tables_hold : (name folder : List ℕ) (schema : List Table) (met : Seen) (names : List (List ℕ)) → HoldsSchema files name schema
-      → Then (LoadsTables files folder (without_rows schema) 0 schema) (λ db. Settles (Checks db)) names (Ok met) → (met.schema ≡ schema) × HoldDatabase files name folder schema met.tables
+  tables_hold : (name folder : List ℕ) (schema : List Table) (met : Seen) (names : List (List ℕ)) → HoldsSchema files name schema → MeetsSchema met.schema met.tables
+      → Then (LoadsTables files folder (without_rows schema) 0 schema) (λ db. Settles (Checks db)) names (Ok met) → HoldDatabase files name folder met.schema met.tables
   unfolding Checks Settles
-  tables_hold name folder schema met names says (goes_on db head tail tables checked is) =
+  tables_hold name folder schema met names says meets (goes_on db head tail tables checked is) =
       let all = all_tables files folder schema (without_rows schema) db 0 head [] [] (map (λ t. []) schema) tables refl refl refl refl (length-map schema _) in
-      let same : met ≡ with_tables schema all.0 = checked_is db met (checked.1.0) ∙ all.1 in
-      let meets : MeetsSchema schema met.tables = subst (λ s. MeetsSchema s met.tables) (ap (λ (d : Seen). d.schema) same) (checked.1.1) in
+      let same : met ≡ with_tables schema all.0 = checked_is db met (checked.1) ∙ all.1 in
+      let one : schema ≡ met.schema = sym (ap (λ (d : Seen). d.schema) same) in
       let hold : AllZip (HoldsTable files folder) schema met.tables = subst (λ (t : List (List Row)). AllZip (HoldsTable files folder) schema t) (sym (ap (λ (d : Seen). d.tables) same)) all.2 in
-      (ap (λ (d : Seen). d.schema) same, record { says = says; tables = hold; meets = meets })
-  tables_hold name folder schema met names says (stops stop tables is) = absurd (ok_err met stop is)
+      record {
+        says = subst (λ (l : List Table). HoldsSchema files name l) one says;
+        tables = subst (λ (l : List Table). AllZip (HoldsTable files folder) l met.tables) one hold;
+        meets = meets;
+      }
+  tables_hold name folder schema met names says meets (stops stop tables is) = absurd (ok_err met stop is)
 
-  database_holds : (name folder : List ℕ) (db : Seen) (names : List (List ℕ)) → LoadsDatabase files name folder names (Ok db) → HoldDatabase files name folder db.schema db.tables
-  database_holds name folder db names (goes_on schema head tail load later is) =
-      let hold = tables_hold name folder schema db tail (schema_holds name schema head load) later in
-      subst (λ s. HoldDatabase files name folder s db.tables) (sym hold.0) hold.1
-  database_holds name folder db names (stops stop load is) = absurd (ok_err db stop is)
+  database_holds : (name folder : List ℕ) (db : Seen) (names : List (List ℕ)) → MeetsSchema db.schema db.tables → LoadsDatabase files name folder names (Ok db) → HoldDatabase files name folder db.schema db.tables
+  database_holds name folder db names meets (goes_on schema head tail load later is) = tables_hold name folder schema db tail (schema_holds name schema head load) meets later
+  database_holds name folder db names meets (stops stop load is) = absurd (ok_err db stop is)
 
   -- a mapping without a data error over a database that meets its schema
   dataset_holds : (name folder base : List ℕ) (file : Option (List ℕ)) (db : Seen) (mapping : Mapping) (names : List (List ℕ))
-      → HoldDatabase files name folder db.schema db.tables → LoadsFaultless files file db base names (Ok mapping) → HoldDataset files name folder base file db.schema db.tables mapping
+      → HoldDatabase files name folder db.schema db.tables → (file ≡ None → GivesDirectGraph db.schema base mapping) → LoadsFaultless files file db base names (Ok mapping)
+      → HoldDataset files name folder base file db.schema db.tables mapping
   unfolding Settles
-  dataset_holds name folder base file db mapping names hold (goes_on first head tail load scanned is) =
+  dataset_holds name folder base file db mapping names hold graph (goes_on first head tail load scanned is) =
       let none = no_data (least_data_fault first db.tables) mapping first (scanned.1) in
-      let mapped = subst (λ m. HoldsMapping files file db.schema base m) (sym none.1) (mapping_holds files db.schema base first file head load) in
+      let mapped = mapping_holds files db.schema base mapping file head graph (subst (λ (m : Mapping). LoadsMapping files file db.schema base head (Ok m)) (sym none.1) load) in
       let faultless = subst (λ m. data_faults m db.tables ≡ []) (sym none.1) (faultless_of db.tables first none.0) in
       record { hold = hold; mapped = mapped; faultless = faultless }
-  dataset_holds name folder base file db mapping names hold (stops stop load is) = absurd (ok_err mapping stop is)
+  dataset_holds name folder base file db mapping names hold graph (stops stop load is) = absurd (ok_err mapping stop is)
 
-  module _ (lines : List (List ℕ)) where
-    dump_is : (words : DumpWords) (names : List (List ℕ)) → Works (dump words) files names (Ok lines) → IsDump words files lines
-    unfolding Dumps Settles
-    dump_is words names (goes_on db head tail load later is) = by (database_holds words.schema words.folder db head load) later
-      where
-        by : {rest : List (List ℕ)} → HoldDatabase files words.schema words.folder db.schema db.tables
-            → Then (LoadsFaultless files words.mapping db words.base) (λ mapping. Settles (Dumps db.tables mapping)) rest (Ok lines) → IsDump words files lines
-        by hold (goes_on mapping first last maps dumps same) =
-            record { schema = db.schema; db = db.tables; mapping = mapping; hold = dataset_holds words.schema words.folder words.base words.mapping db mapping first hold maps; lines_are = dumps.1.1 }
-        by hold (stops stop maps same) = absurd (ok_err lines stop same)
-    dump_is words names (stops stop load is) = absurd (ok_err lines stop is)
+-- The lines of each command are those that its files define.
 
-    answer_is : (words : QueryWords) (db : Seen) (mapping : Mapping) (names : List (List ℕ)) → HoldDataset files words.schema words.folder words.base words.mapping db.schema db.tables mapping
-        → Then (LoadsQuery files words.query words.base) (λ asked. Settles (GivesAnswer db mapping asked)) names (Ok lines) → IsAnswered words files lines
-    unfolding GivesAnswer Settles
-    answer_is words db mapping names hold (goes_on asked head tail load answers is) = record {
-      schema = db.schema;
-      db = db.tables;
-      mapping = mapping;
-      hold = hold;
-      asked = asked;
-      says = query_holds words.query words.base asked head load;
-      lines_are = ok_same lines _ (answers.1.0);
-      rows_are = answers.1.1;
-    }
-    answer_is words db mapping names hold (stops stop load is) = absurd (ok_err lines stop is)
+module _ (schema_file folder base : List ℕ) (file : Option (List ℕ)) (db : Seen) (mapping : Mapping) (old mid late : StoreState)
+    (first : Ran (λ files. LoadsDatabase files schema_file folder) old mid (Ok db)) (meets : MeetsSchema db.schema db.tables)
+    (second : Ran (λ files. LoadsFaultless files file db base) mid late (Ok mapping)) (graph : file ≡ None → GivesDirectGraph db.schema base mapping) where
+  -- the dataset of what was loaded
+  dataset_of : (files : Files) → old.files ≡ Some files → HoldDataset files schema_file folder base file db.schema db.tables mapping
+  dataset_of files told =
+      let loaded_db = first.over files told in
+      let loaded_mapping = second.over files (first.files ∙ told) in
+      dataset_holds files schema_file folder base file db mapping loaded_mapping.0 (database_holds files schema_file folder db loaded_db.0 meets loaded_db.1) graph loaded_mapping.1
 
-    query_is : (words : QueryWords) (names : List (List ℕ)) → Works (query words) files names (Ok lines) → IsAnswered words files lines
-    query_is words names (goes_on db head tail load later is) = by (database_holds words.schema words.folder db head load) later
-      where
-        by : {rest : List (List ℕ)} → HoldDatabase files words.schema words.folder db.schema db.tables
-            → Then (LoadsFaultless files words.mapping db words.base) (λ mapping. Then (LoadsQuery files words.query words.base) (λ asked. Settles (GivesAnswer db mapping asked))) rest (Ok lines)
-            → IsAnswered words files lines
-        by hold (goes_on mapping first last maps asks same) =
-            answer_is words db mapping last (dataset_holds words.schema words.folder words.base words.mapping db mapping first hold maps) asks
-        by hold (stops stop maps same) = absurd (ok_err lines stop same)
-    query_is words names (stops stop load is) = absurd (ok_err lines stop is)
+  pub dump_text : (result : Result (List (List ℕ)) Stop) → IfOk result (λ lines. IsLinesOf lines (dataset mapping db.tables))
+      → IfOk result (λ lines. Where old.files (λ files. IsTextOf (dump (record { schema = schema_file; folder = folder; base = base; mapping = file })) files lines))
+  dump_text (Ok lines) are = λ files told. record { schema = db.schema; db = db.tables; mapping = mapping; hold = dataset_of files told; lines_are = are }
+  dump_text (Err why) are = tt
 
-    sql_is : (words : SqlWords) (names : List (List ℕ)) → Works (sql words) files names (Ok lines) → IsSql words files lines
-    unfolding Settles
-    sql_is words names (goes_on schema head tail load later is) = by (schema_holds words.schema schema head load) later
-      where
-        last_is : (mapping : Mapping) {rest : List (List ℕ)} → HoldsSchema files words.schema schema → HoldsMapping files words.mapping schema words.base mapping
-            → Then (LoadsQuery files words.query words.base) (λ asked. Settles (GivesText schema mapping asked)) rest (Ok lines) → IsSql words files lines
-        last_is mapping says mapped (goes_on asked first last asks text same) = record {
-          schema = schema;
-          says_schema = says;
-          mapping = mapping;
-          mapped = mapped;
-          asked = asked;
-          says = query_holds words.query words.base asked first asks;
-          lines_are = ok_same lines _ (text.1);
-        }
-        last_is mapping says mapped (stops stop asks same) = absurd (ok_err lines stop same)
+  pub query_text : (query_file : List ℕ) (asked : Query) (new : StoreState) (result : Result (List (List ℕ)) Stop) → Ran (λ files. LoadsQuery files query_file base) late new (Ok asked)
+      → Answers (GivesAnswer db mapping asked) result
+      → IfOk result (λ lines. lines ≡ result_lines (query_seen asked) (rows_of db.schema (rewritten db.schema mapping (query_seen asked)) db.tables))
+      → IfOk result (λ lines. Where old.files (λ files. IsTextOf (query (record { schema = schema_file; folder = folder; base = base; query = query_file; mapping = file })) files lines))
+  unfolding GivesAnswer
+  query_text query_file asked new (Ok lines) third answers rows = λ files told.
+      let loaded_query = third.over files (second.files ∙ first.files ∙ told) in record {
+        schema = db.schema;
+        db = db.tables;
+        mapping = mapping;
+        hold = dataset_of files told;
+        asked = asked;
+        says = query_holds files query_file base asked loaded_query.0 loaded_query.1;
+        lines_are = ok_same lines _ answers;
+        rows_are = rows;
+      }
+  query_text query_file asked new (Err why) third answers rows = tt
 
-        by : {rest : List (List ℕ)} → HoldsSchema files words.schema schema
-            → Then (LoadsMapping files words.mapping schema words.base) (λ mapping. Then (LoadsQuery files words.query words.base) (λ asked. Settles (GivesText schema mapping asked))) rest (Ok lines)
-            → IsSql words files lines
-        by says (goes_on mapping first last maps asks same) = last_is mapping says (mapping_holds files schema words.base mapping words.mapping first maps) asks
-        by says (stops stop maps same) = absurd (ok_err lines stop same)
-    sql_is words names (stops stop load is) = absurd (ok_err lines stop is)
-
-pub headline : (command : Command) (files : Files) (lines : List (List ℕ)) → HasText command files lines → IsTextOf command files lines
-headline (dump words) files lines (names, works) = dump_is files lines words names works
-headline (query words) files lines (names, works) = query_is files lines words names works
-headline (sql words) files lines (names, works) = sql_is files lines words names works
+module _ (schema_file base : List ℕ) (file : Option (List ℕ)) (query_file : List ℕ) (schema : List Table) (mapping : Mapping) (asked : Query) (old mid late new : StoreState)
+    (first : Ran (λ files. LoadsSchema files schema_file) old mid (Ok schema))
+    (second : Ran (λ files. LoadsMapping files file schema base) mid late (Ok mapping)) (graph : file ≡ None → GivesDirectGraph schema base mapping)
+    (third : Ran (λ files. LoadsQuery files query_file base) late new (Ok asked)) where
+  pub sql_text_is : (result : Result (List (List ℕ)) Stop) → Answers (GivesText schema mapping asked) result
+      → IfOk result (λ lines. Where old.files (λ files. IsTextOf (sql (record { schema = schema_file; base = base; query = query_file; mapping = file })) files lines))
+  sql_text_is (Ok lines) is = λ files told.
+      let loaded_schema = first.over files told in
+      let loaded_mapping = second.over files (first.files ∙ told) in
+      let loaded_query = third.over files (second.files ∙ first.files ∙ told) in record {
+        schema = schema;
+        says_schema = schema_holds files schema_file schema loaded_schema.0 loaded_schema.1;
+        mapping = mapping;
+        mapped = mapping_holds files schema base mapping file loaded_mapping.0 graph loaded_mapping.1;
+        asked = asked;
+        says = query_holds files query_file base asked loaded_query.0 loaded_query.1;
+        lines_are = ok_same lines _ is;
+      }
+  sql_text_is (Err why) is = tt

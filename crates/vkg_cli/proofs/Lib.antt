@@ -5,6 +5,9 @@ pub mod FilledLemmas
 pub mod Headline
 pub mod HelpLemmas
 pub mod LoadLemmas
+pub mod MapNumbers
+pub mod Names
+pub mod Numbers
 pub mod Ran
 pub mod Tables
 pub mod TakenLemmas

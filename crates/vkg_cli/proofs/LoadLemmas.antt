@@ -1,8 +1,7 @@
 -- Checks of a loaded database, and of a mapping over it.
 use Rattle.std.proofs.Common.{◌≡◌, [], ap, sym, Ok, Err, refl}
-use Rattle.std.specs.Prelude.{OnOk, Result, Option, Some, None, option_map}
+use Rattle.std.specs.Prelude.{Result, Option, Some, None, option_map}
 use Rattle.vkg_lists.proofs.Nothing.{first_nothing}
-use Rattle.vkg_schema.specs.Meets.{MeetsSchema}
 use Rattle.vkg_schema.specs.Rows.{Database}
 use Rattle.vkg_maps.specs.declared.mapping.Mapping.{Mapping}
 use Rattle.vkg_maps.specs.declared.data_fault.DataFault.{DataFault}
@@ -31,19 +30,18 @@ module _ (db : Seen) where
   -- a repeated key, or want of memory
   pub checks_keys : (stop : Stop) → Answers {A = Unit {0}} (λ outcome. outcome ≡ checked (key_fault db.schema db.tables)) (Err stop) → Answers {A = Seen} (Checks db) (Err stop)
   unfolding Checks
-  checks_keys (Refused fault) is = (refused_by (key_fault db.schema db.tables) (Refused fault) _ is, tt)
+  checks_keys (Refused fault) is = refused_by (key_fault db.schema db.tables) (Refused fault) _ is
   checks_keys Read is = absurd is
   checks_keys Memory is = tt
 
   -- a reference without a target, or none
   pub checks_references : {B : Type 0} (result : Result B Stop) → key_fault db.schema db.tables ≡ None
-      → Answers {A = Unit {0}} (λ outcome. outcome ≡ checked (reference_fault db.schema db.tables)) (done_or result) → OnOk result (MeetsSchema db.schema db.tables)
-      → Answers (Checks db) (carried db result)
+      → Answers {A = Unit {0}} (λ outcome. outcome ≡ checked (reference_fault db.schema db.tables)) (done_or result) → Answers (Checks db) (carried db result)
   unfolding Checks
-  checks_references (Ok v) keys is meets = (rw (keys, none_found (reference_fault db.schema db.tables) is) refl, meets)
-  checks_references (Err (Refused fault)) keys is meets = (rw keys (refused_by (reference_fault db.schema db.tables) (Refused fault) (Ok db) is), tt)
-  checks_references (Err Read) keys is meets = absurd is
-  checks_references (Err Memory) keys is meets = tt
+  checks_references (Ok v) keys is = rw (keys, none_found (reference_fault db.schema db.tables) is) refl
+  checks_references (Err (Refused fault)) keys is = rw keys (refused_by (reference_fault db.schema db.tables) (Refused fault) (Ok db) is)
+  checks_references (Err Read) keys is = absurd is
+  checks_references (Err Memory) keys is = tt
 
 module _ (db : Database) (mapping : Mapping) where
   pub scans_fault : (fault : DataFault) → least_data_fault mapping db ≡ Some fault → Answers {A = Mapping} (Scans db mapping) (Err (data_stop fault))

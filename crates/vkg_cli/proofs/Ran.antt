@@ -9,7 +9,7 @@ use Rattle.vkg_lists.proofs.Results.{ok_same, ok_err}
 use Rattle.vkg_base.specs.Outside.{Files, StoreState, Rose, held, Gives}
 use Rattle.vkg_cli.specs.declared.stops.Stop.{Stop}
 use Rattle.vkg_cli.specs.declared.stops.Stop.TheVariants.{Refused, Read, Memory}
-use Rattle.vkg_cli.specs.Stages.{Stage, Settles, Loads, Then, goes_on, stops, IsDetermined, IsOneOutcome, Answers, Asks, AsksSome, CountsFaults, Matches, Ran, found}
+use Rattle.vkg_cli.specs.Stages.{Stage, Settles, Loads, Then, goes_on, stops, IsDetermined, IsOneOutcome, Answers, Asks, AsksMore, AsksSome, CountsFaults, Matches, Ran, found}
 use Rattle.vkg_cli.proofs.LoadLemmas.{same_error}
 
 -- Each stage is determined by its files, where its parts are.
@@ -70,6 +70,7 @@ pub ran_settle : {A : Type 0} (comes : Result A Stop → Type 0) (store : StoreS
 ran_settle comes store result is = record {
   files = refl;
   counts = settled_counts comes store.faults result is;
+  more = ([], sym (append-nil store.asked));
   over = λ files told. settled comes store.asked result is;
 }
 
@@ -102,17 +103,21 @@ module _ {A B : Type 0} (stage : Stage A) (rest : A → Stage B) (v : A) (before
   on_value one (Err Read) second = some_of one second
   on_value one (Err Memory) second = some_of one second
 
+more_then : (before mid now : List (List ℕ)) → AsksMore before mid → AsksMore mid now → AsksMore before now
+more_then before mid now (xs, first) (ys, second) = (xs ++ ys, second ∙ ap (λ (l : List (List ℕ)). l ++ ys) first ∙ append_assoc before xs ys)
+
 pub ran_then : {A B : Type 0} (stage : Files → Stage A) (rest : Files → A → Stage B) (v : A) (old mid new : StoreState) (result : Result B Stop)
     → ((files : Files) → IsDetermined (stage files)) → Ran stage old mid (Ok v) → Ran (λ files. rest files v) mid new result → Ran (λ files. Then (stage files) (rest files)) old new result
 ran_then stage rest v old mid new result one first second = record {
   files = second.files ∙ first.files;
   counts = subst (λ n. CountsFaults result n new.faults) first.counts second.counts;
+  more = more_then old.asked mid.asked new.asked first.more second.more;
   over = λ files told. on_value (stage files) (rest files) v old.asked mid.asked new.asked (first.over files told) (one files) result (second.over files (first.files ∙ told));
 }
 
 -- Where a stage stops, all of it stops.
 
-fewer : (before now head tail names : List (List ℕ)) (n : ℕ) → now ≡ before ++ take n head → names ≡ head ++ tail → (m : ℕ) × (now ≡ before ++ take m names)
+pub fewer : (before now head tail names : List (List ℕ)) (n : ℕ) → now ≡ before ++ take n head → names ≡ head ++ tail → (m : ℕ) × (now ≡ before ++ take m names)
 fewer before now head tail names n asked is = (
   min n (length head),
   asked ∙ ap (λ (l : List (List ℕ)). before ++ l) (sym (take-append-le (min n (length head)) head tail (omega arith) ∙ take_min n head) ∙ ap (take (min n (length head))) (sym is)),
@@ -140,12 +145,13 @@ pub ran_stop : {A B : Type 0} (stage : Files → Stage A) (rest : Files → A �
 ran_stop {A} {B} stage rest old new stop ran = record {
   files = ran.files;
   counts = stop_counts A B stop old.faults new.faults ran.counts;
+  more = ran.more;
   over = λ files told. at_stop (stage files) (rest files) old.asked new.asked stop (ran.over files told);
 }
 
 -- want of memory, before any file
 pub ran_short : {A : Type 0} (stage : Files → Stage A) (store : StoreState) → Ran {A = A} stage store store (Err Memory)
-ran_short stage store = record { files = refl; counts = omega arith; over = λ files told names outcome all. (0, sym (append-nil store.asked)) }
+ran_short stage store = record { files = refl; counts = omega arith; more = ([], sym (append-nil store.asked)); over = λ files told names outcome all. (0, sym (append-nil store.asked)) }
 
 -- One file.
 
@@ -159,6 +165,7 @@ unfolding Loads
 ran_load limit name old new bytes files asked faults gives = record {
   files = files;
   counts = faults;
+  more = (name ∷ [], asked);
   over = λ files' told. (name ∷ [], (refl, given limit (held files' name) bytes (gives files' told)), asked);
 }
 
@@ -168,6 +175,7 @@ unfolding Loads
 ran_unread limit name old new files asked rose = record {
   files = files;
   counts = rose;
+  more = (name ∷ [], asked);
   over = λ files' told names outcome all. (1, rw (all.0) asked);
 }
 
@@ -177,10 +185,12 @@ unfolding Loads
 ran_load_short limit name old new files (inl asked) later = record {
   files = files;
   counts = later;
+  more = ([], asked ∙ sym (append-nil old.asked));
   over = λ files' told names outcome all. (0, asked ∙ sym (append-nil old.asked));
 }
 ran_load_short limit name old new files (inr asked) later = record {
   files = files;
   counts = later;
+  more = (name ∷ [], asked);
   over = λ files' told names outcome all. (1, rw (all.0) asked);
 }

@@ -97,7 +97,7 @@ one_document bytes base = one_unless (Mapping 22 2147483647) (SaysTriples bytes 
 
 one_direct : (schema : List Table) (base : List ℕ) → IsOneOutcome (MapsDirectly schema base)
 unfolding MapsDirectly
-one_direct schema base o p first second = first.0 ∙ sym second.0
+one_direct schema base o p first second = first ∙ sym second
 
 one_asking : (bytes base : List ℕ) → IsOneOutcome (SaysQuery bytes base)
 one_asking bytes base (Ok v) (Ok w) first second = ap (λ (q : Query). Ok q) (determined_query.one_value bytes base v w first second)
@@ -134,15 +134,15 @@ one_query bytes base = one_unless (AtQuery 9 2147483647) (SaysQuery bytes base) 
 
 pub one_check : (db : Seen) → IsOneOutcome (Checks db)
 unfolding Checks
-one_check db o p first second = first.0 ∙ sym second.0
+one_check db o p first second = first ∙ sym second
 
 pub one_dump : (db : Database) (mapping : Maps) → IsOneOutcome (Dumps db mapping)
 unfolding Dumps
-one_dump db mapping o p first second = first.0 ∙ sym second.0
+one_dump db mapping o p first second = first ∙ sym second
 
 pub one_answer : (db : Seen) (mapping : Maps) (asked : Query) → IsOneOutcome (GivesAnswer db mapping asked)
 unfolding GivesAnswer
-one_answer db mapping asked o p first second = first.0 ∙ sym second.0
+one_answer db mapping asked o p first second = first ∙ sym second
 
 pub determined_text : (files : Files) (name : List ℕ) (schema : List Table) (base : List ℕ) → IsDetermined (LoadsText files name schema base)
 determined_text files name schema base =

@@ -1,5 +1,5 @@
 -- How a call ends: the status with its cause, the bytes of the output and the line of the standard error.
-use Rattle.std.specs.Prelude.{◌≡◌, ◌⊎◌, ℕ, List, [], ◌∷◌, codes, Some, Result, Ok, Err}
+use Rattle.std.specs.Prelude.{◌≡◌, ◌⊎◌, ◌≤◌, ℕ, List, [], ◌∷◌, codes, Result, Ok, Err}
 use Rattle.vkg_base.specs.Outside.{Files, StoreState, SinkState, Rose, Took, Broke}
 use Rattle.vkg_base.specs.Written.{written}
 use Rattle.vkg_base.specs.declared.status.Status.{Status}
@@ -10,9 +10,10 @@ use Rattle.vkg_cli.specs.declared.stops.Usage.{Usage}
 use Rattle.vkg_cli.specs.declared.stops.Stop.{Stop}
 use Rattle.vkg_cli.specs.declared.stops.Stop.TheVariants as stop
 use Rattle.vkg_cli.specs.FaultLine.{fault_line, status_of, usage_line}
-use Rattle.vkg_cli.specs.Stages.{AsksSome}
+use Rattle.vkg_cli.specs.Headline.{IsTextOf}
+use Rattle.vkg_cli.specs.Stages.{AsksSome, Where}
 use Rattle.vkg_cli.specs.Words.{Asked, Command, gen, help, refused, run}
-use Rattle.vkg_cli.specs.Work.{MayStop, Works}
+use Rattle.vkg_cli.specs.Work.{AsksFirst, IsOfTable, MayStop, Works}
 
 -- the store of files, the output and the standard error
 pub record World : Type 0 where
@@ -22,7 +23,7 @@ pub record World : Type 0 where
 
 -- a fact on the store's files, where it tells them
 abbrev pub WhereTold : World → (Files → Type 0) → Type 0
-WhereTold world fact = (files : Files) → world.store.files ≡ Some files → fact files
+WhereTold world fact = Where world.store.files fact
 
 -- one line for the standard error: it took all of it, or its count rose and it took a prefix
 abbrev pub Tells : SinkState → SinkState → List ℕ → Type 0
@@ -40,14 +41,16 @@ HasFault command files fault = (names : List (List ℕ)) × Works command files 
 pub record IsDone (command : Command) (old new : World) : Type 0 where
   pub lines : List (List ℕ)
   pub defined : WhereTold old (λ files. HasText command files lines)
+  pub text_of : WhereTold old (λ files. IsTextOf command files lines)
   pub taken : Took old.out new.out (written lines)
   pub store : new.store.faults ≡ old.store.faults
   pub err : new.err ≡ old.err
 
--- the first fault stands, and is told
+-- the first fault stands, by a check of its table, and is told
 pub record IsRefused (command : Command) (old new : World) (status : Status) : Type 0 where
   pub fault : Fault
   pub status_is : status ≡ status_of fault
+  pub of_table : IsOfTable fault
   pub may : MayStop command (stop.Refused fault)
   pub defined : WhereTold old (λ files. HasFault command files fault)
   pub out : new.out ≡ old.out
@@ -64,6 +67,7 @@ pub record IsUnread (old new : World) : Type 0 where
 pub record IsUnwritten (command : Command) (old new : World) : Type 0 where
   pub lines : List (List ℕ)
   pub defined : WhereTold old (λ files. HasText command files lines)
+  pub text_of : WhereTold old (λ files. IsTextOf command files lines)
   pub taken : Broke old.out new.out (written lines)
   pub store : new.store.faults ≡ old.store.faults
   pub told : Tells old.err new.err (codes "vkg: write fault\n")
@@ -71,6 +75,7 @@ pub record IsUnwritten (command : Command) (old new : World) : Type 0 where
 -- an allocation was refused
 pub record IsShort (old new : World) : Type 0 where
   pub out : new.out ≡ old.out
+  pub store : old.store.faults ≤ new.store.faults
   pub told : Tells old.err new.err (codes "vkg: want of memory\n")
 
 -- why a command may end with a status, and what it leaves
@@ -88,6 +93,8 @@ Ends command old new Memory = IsShort old new
 
 -- the words ask for a command
 pub record IsCommandAnswer (command : Command) (old new : World) (status : Status) : Type 0 where
+  pub files : new.store.files ≡ old.store.files
+  pub first : AsksFirst command old.store.asked new.store.asked
   pub asked : WhereTold old (λ files. AsksSome (Works command files) old.store.asked new.store.asked)
   pub ends : Ends command old new status
 

@@ -1,5 +1,5 @@
 -- The clauses of the top call, one for each answer, over the worlds before and after it.
-use Rattle.std.specs.Prelude.{◌≡◌, ◌⊎◌, ℕ, List, codes, Some}
+use Rattle.std.specs.Prelude.{◌≡◌, ◌⊎◌, ◌≤◌, ℕ, List, codes, Some}
 use Rattle.vkg_base.specs.Outside.{Files, Rose, Took, Broke}
 use Rattle.vkg_base.specs.Written.{written}
 use Rattle.vkg_base.specs.declared.status.Status.{Status}
@@ -10,7 +10,7 @@ use Rattle.vkg_cli.specs.FaultLine.{status_of, usage_line}
 use Rattle.vkg_cli.specs.Headline.{IsTextOf}
 use Rattle.vkg_cli.specs.Stages.{AsksSome}
 use Rattle.vkg_cli.specs.Words.{Asked, Command, dump, gen, help, refused, run, sql}
-use Rattle.vkg_cli.specs.Work.{Works}
+use Rattle.vkg_cli.specs.Work.{AsksFirst, Works}
 use Rattle.vkg_cli.specs.Answer.{BreaksReport, HasFault, HasText, IsRefused, IsUnwritten, Tells, WhereTold, World, WritesReport, help_text}
 
 -- A command is done: the output took the lines, each with its line feed; no fault was counted, and nothing was told.
@@ -35,8 +35,8 @@ IsUsageExactly asked old new status =
     × ((usage : Usage) → asked ≡ refused usage → (status ≡ BadWords) ⊎ (status ≡ Memory))
 
 -- A status of faults: exactly where the first fault has this status, but for a load that failed and want of memory; the
--- fault is told.
-abbrev pub IsRefusedExactly : Status → Asked → World → World → Status → Type 0
+-- fault is told, with the number of a check of its table.
+unfoldable pub IsRefusedExactly : Status → Asked → World → World → Status → Type 0
 IsRefusedExactly bad asked old new status =
     (status ≡ bad → (command : Command) × (asked ≡ run command) × IsRefused command old new bad)
     × ((command : Command) → asked ≡ run command → (files : Files) → old.store.files ≡ Some files → (fault : Fault) → HasFault command files fault → status_of fault ≡ bad
@@ -68,9 +68,16 @@ IsMemoryTold old new status = status ≡ Memory → Tells old.err new.err (codes
 abbrev pub IsReported : Asked → World → World → Status → Type 0
 IsReported asked old new status = (n : ℕ) → asked ≡ gen n → ¬ (Rose old.out.faults new.out.faults) → ((status ≡ Done) × WritesReport n old new) ⊎ (status ≡ Memory)
 
--- Where there is a text, it is written, but for counted faults and want of memory.
-abbrev pub IsComplete : Asked → World → World → Status → Type 0
+-- Where no first fault stands, the whole text of the command is written, but for counted faults and want of memory.
+unfoldable pub IsComplete : Asked → World → World → Status → Type 0
 IsComplete asked old new status = (command : Command) → asked ≡ run command → (files : Files) → old.store.files ≡ Some files
+    → ((fault : Fault) → ¬ (HasFault command files fault))
+    → ¬ (Rose old.store.faults new.store.faults) → ¬ (Rose old.out.faults new.out.faults)
+    → ((status ≡ Done) × Writes command old new) ⊎ (status ≡ Memory)
+
+-- Where there is a text, this very one is written, but for counted faults and want of memory.
+unfoldable pub IsNoOtherText : Asked → World → World → Status → Type 0
+IsNoOtherText asked old new status = (command : Command) → asked ≡ run command → (files : Files) → old.store.files ≡ Some files
     → (lines : List (List ℕ)) → HasText command files lines
     → ¬ (Rose old.store.faults new.store.faults) → ¬ (Rose old.out.faults new.out.faults)
     → ((status ≡ Done) × Took old.out new.out (written lines)) ⊎ (status ≡ Memory)
@@ -89,3 +96,19 @@ AsksInOrder help old new = new.store ≡ old.store
 AsksInOrder (refused usage) old new = new.store ≡ old.store
 AsksInOrder (gen n) old new = new.store ≡ old.store
 AsksInOrder (run command) old new = WhereTold old (λ files. AsksSome (Works command files) old.store.asked new.store.asked)
+
+-- Whatever the store tells, `sql` asks for the first names of the schema, the mapping and the query, each other command for the schema
+-- first; without a command over files there are none.
+unfoldable pub AsksByWords : Asked → World → World → Type 0
+AsksByWords help old new = new.store.asked ≡ old.store.asked
+AsksByWords (refused usage) old new = new.store.asked ≡ old.store.asked
+AsksByWords (gen n) old new = new.store.asked ≡ old.store.asked
+AsksByWords (run command) old new = AsksFirst command old.store.asked new.store.asked
+
+-- The files of the store are as they were.
+abbrev pub KeepsFiles : World → World → Type 0
+KeepsFiles old new = new.store.files ≡ old.store.files
+
+-- At Memory neither the store's count of faults fell nor the output's.
+abbrev pub HasNoneFallen : World → World → Status → Type 0
+HasNoneFallen old new status = status ≡ Memory → (old.store.faults ≤ new.store.faults) × (old.out.faults ≤ new.out.faults)

@@ -54,10 +54,37 @@ Matches stage before now (Err (Refused fault)) = Asks stage before now (Err (Ref
 Matches stage before now (Err Read) = AsksSome stage before now
 Matches stage before now (Err Memory) = AsksSome stage before now
 
+-- some of the first of these names were asked for
+abbrev pub AsksUpTo : List (List ℕ) → List (List ℕ) → List (List ℕ) → Type 0
+AsksUpTo names before now = (n : ℕ) × (now ≡ before ++ take n names)
+
+-- these names were asked for, or where the work was broken off the first of them
+abbrev pub AsksThese : {A : Type 0} → List (List ℕ) → List (List ℕ) → List (List ℕ) → Result A Stop → Type 0
+AsksThese names before now (Ok v) = now ≡ before ++ names
+AsksThese names before now (Err why) = AsksUpTo names before now
+
+-- this name was asked for first, and others behind it
+abbrev pub AsksFrom : {A : Type 0} → List ℕ → List (List ℕ) → List (List ℕ) → Result A Stop → Type 0
+AsksFrom name before now outcome = (others : List (List ℕ)) × AsksThese (name ∷ others) before now outcome
+
+-- names are asked for behind those that were, and none is forgotten
+abbrev pub AsksMore : List (List ℕ) → List (List ℕ) → Type 0
+AsksMore before now = (names : List (List ℕ)) × (now ≡ before ++ names)
+
+-- the name of a file, where there is one
+abbrev pub listed : Option (List ℕ) → List (List ℕ)
+listed None = []
+listed (Some name) = name ∷ []
+
+-- a fact on the files, where a store tells them
+abbrev pub Where : Option Files → (Files → Type 0) → Type 0
+Where told fact = (files : Files) → told ≡ Some files → fact files
+
 -- the work was done over a store, with this result
 pub record Ran {A : Type 0} (stage : Files → Stage A) (old new : StoreState) (result : Result A Stop) : Type 0 where
   pub files : new.files ≡ old.files
   pub counts : CountsFaults result old.faults new.faults
+  pub more : AsksMore old.asked new.asked
   pub over : (files' : Files) → old.files ≡ Some files' → Matches (stage files') old.asked new.asked result
 
 -- what a call without a store answers, against what is defined: want of memory alone is free

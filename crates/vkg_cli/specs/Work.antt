@@ -1,11 +1,10 @@
 -- What the program does for a command, over known files.
-use Rattle.std.specs.Prelude.{◌≡◌, ℕ, ◌+◌, Bool, true, false, List, ◌∷◌, [], ◌++◌, codes, length, nat_lt, Option, Some, None, Result, Ok, Err, IfOk, option_map}
+use Rattle.std.specs.Prelude.{◌≡◌, ◌≤◌, ℕ, ◌+◌, Bool, true, false, List, ◌∷◌, [], ◌++◌, codes, length, nat_lt, Option, Some, None, Result, Ok, Err, option_map}
 use Rattle.std.specs.Result.{result_map_both}
 use Rattle.vkg_lists.specs.Results.{unless}
 use Rattle.vkg_base.specs.Outside.{Files}
 use Rattle.vkg_terms.specs.Safe.{safe}
 use Rattle.vkg_schema.specs.declared.table.Table.{Table}
-use Rattle.vkg_schema.specs.Meets.{MeetsSchema}
 use Rattle.vkg_schema.specs.Rows.{Database}
 use Rattle.vkg_cli.specs.declared.stops.Fault.{Fault}
 use Rattle.vkg_cli.specs.declared.stops.Fault.TheVariants as fault
@@ -16,7 +15,6 @@ use Rattle.vkg_tables.specs.declared.fault.TableFault.{TableFault}
 use Rattle.vkg_direct.specs.declared.direct_error.DirectError.{DirectError}
 use Rattle.vkg_direct.specs.declared.direct_error.DirectError.TheVariants as direct_error
 use Rattle.vkg_direct.specs.DirectMapping.{direct_result}
-use Rattle.vkg_direct.specs.Laws.{GivesDirectGraph, MakesEachTerm}
 use Rattle.vkg_maps.specs.declared.mapping.Mapping.{Mapping}
 use Rattle.vkg_maps.specs.declared.data_fault.DataFault.{DataFault}
 use Rattle.vkg_maps.specs.DataFaults.{check_of, least_data_fault}
@@ -28,16 +26,14 @@ use Rattle.vkg_turtle.specs.declared.triple.Triple.{Triple}
 use Rattle.vkg_turtle.specs.Reading.{IsDocumentOf, IsFirstFault as IsTurtleFault}
 use Rattle.vkg_r2rml.specs.declared.map_error.MapFault.{MapFault}
 use Rattle.vkg_r2rml.specs.Mapping.{mapping_of}
-use Rattle.vkg_quads.specs.Dump.{IsDump, dump as dump_of}
+use Rattle.vkg_quads.specs.Dump.{dump as dump_of}
 use Rattle.vkg_sparql.specs.declared.query.Query.{Query}
 use Rattle.vkg_sparql.specs.Reading.{IsQuery, IsFirstFault as IsQueryFault}
 use Rattle.vkg_sparql.specs.Seen.{query_seen}
 use Rattle.vkg_algebra.specs.Answer.{answer}
-use Rattle.vkg_plan.specs.Rows.{rows_of}
 use Rattle.vkg_sqltext.specs.Text.{sql_text}
-use Rattle.vkg_rewrite.specs.Lines.{result_lines}
 use Rattle.vkg_rewrite.specs.Rewritten.{rewritten}
-use Rattle.vkg_cli.specs.Stages.{Stage, Settles, Loads, Then}
+use Rattle.vkg_cli.specs.Stages.{AsksUpTo, Stage, Settles, Loads, Then, listed}
 use Rattle.vkg_cli.specs.Words.{Command, dump, query, sql}
 
 -- a file that is too long is past its limit, before any other fault of it
@@ -91,9 +87,9 @@ checked found = unless_fault {A = Unit {0}} found (Ok tt)
 abbrev pub checks : Seen → Result Seen Stop
 checks db = unless_fault (key_fault db.schema db.tables) (unless_fault (reference_fault db.schema db.tables) (Ok db))
 
--- where neither stands, the database meets its schema
+-- the database, where neither stands
 unfoldable pub Checks : Seen → Result Seen Stop → Type 0
-Checks db outcome = (outcome ≡ checks db) × IfOk outcome (λ db. MeetsSchema db.schema db.tables)
+Checks db outcome = outcome ≡ checks db
 
 abbrev pub direct_stop : DirectError → Stop
 direct_stop (direct_error.NoPrimaryKey table) = stop.Refused (fault.Keyless table)
@@ -103,10 +99,9 @@ direct_stop direct_error.Memory = stop.Memory
 abbrev pub direct_or : Result Mapping DirectError → Result Mapping Stop
 direct_or r = result_map_both (λ (mapping : Mapping). mapping) direct_stop r
 
--- the direct mapping of the schema, which makes each of its terms and whose dataset is the direct graph, or why there is none
+-- the direct mapping of the schema, or why there is none
 unfoldable pub MapsDirectly : List Table → List ℕ → Result Mapping Stop → Type 0
-MapsDirectly schema base outcome =
-    (outcome ≡ direct_or (direct_result schema base)) × IfOk outcome (λ mapping. GivesDirectGraph schema base mapping × MakesEachTerm schema mapping)
+MapsDirectly schema base outcome = outcome ≡ direct_or (direct_result schema base)
 
 -- the bytes are triples, or their first fault stands
 abbrev pub SaysTriples : List ℕ → List ℕ → Result (List Triple) Stop → Type 0
@@ -187,15 +182,13 @@ LoadsDatabase files name folder =
 abbrev pub LoadsFaultless : Files → Option (List ℕ) → Seen → List ℕ → Stage Mapping
 LoadsFaultless files file db base = Then (LoadsMapping files file db.schema base) (λ mapping. Settles (Scans db.tables mapping))
 
--- the lines of the dataset: they ascend and stand once each
+-- the lines of the dataset
 unfoldable pub Dumps : Database → Mapping → Result (List (List ℕ)) Stop → Type 0
-Dumps db mapping outcome = (outcome ≡ Ok (dump_of (dataset mapping db))) × IfOk outcome (λ lines. IsDump lines (dataset mapping db))
+Dumps db mapping outcome = outcome ≡ Ok (dump_of (dataset mapping db))
 
--- the answer to a query over the dataset: its lines are those of the rows of its plan, too
+-- the answer to a query over the dataset
 unfoldable pub GivesAnswer : Seen → Mapping → Query → Result (List (List ℕ)) Stop → Type 0
-GivesAnswer db mapping asked outcome =
-    (outcome ≡ Ok (answer (query_seen asked) (dataset mapping db.tables)))
-    × IfOk outcome (λ lines. lines ≡ result_lines (query_seen asked) (rows_of db.schema (rewritten db.schema mapping (query_seen asked)) db.tables))
+GivesAnswer db mapping asked outcome = outcome ≡ Ok (answer (query_seen asked) (dataset mapping db.tables))
 
 -- the text of the query's plan
 abbrev pub GivesText : List Table → Mapping → Query → Result (List (List ℕ)) Stop → Type 0
@@ -230,3 +223,29 @@ abbrev pub MayStop : Command → Stop → Type 0
 MayStop (dump words) why = is_of_query why ≡ false
 MayStop (query words) why = Unit {0}
 MayStop (sql words) why = is_of_tables why ≡ false
+
+-- a number of one of the checks from the first to the last
+abbrev pub IsCheck : ℕ → ℕ → ℕ → Type 0
+IsCheck first last check = (first ≤ check) × (check ≤ last)
+
+-- the number of a fault's check is one of its table: S01 to S15, T01 to T11, M01 to M22, X01 to X03, Q01 to Q09
+abbrev pub IsOfTable : Fault → Type 0
+IsOfTable (fault.Schema check at) = IsCheck 1 15 check
+IsOfTable (fault.Table check table row column) = IsCheck 1 11 check
+IsOfTable (fault.Keyless table) = Unit {0}
+IsOfTable (fault.Mapping check at) = IsCheck 1 22 check
+IsOfTable (fault.Data check map row term) = IsCheck 1 3 check
+IsOfTable (fault.Query check at) = IsCheck 1 9 check
+
+-- why there is none: a fault of its table, a load that failed, or want of memory
+abbrev pub IsNumbered : Stop → Type 0
+IsNumbered (stop.Refused fault) = IsOfTable fault
+IsNumbered stop.Read = Unit {0}
+IsNumbered stop.Memory = Unit {0}
+
+-- The names that a command asks for, whatever the store tells: `sql` for the first of the schema, the mapping and the query, each
+-- other command for the schema first.
+abbrev pub AsksFirst : Command → List (List ℕ) → List (List ℕ) → Type 0
+AsksFirst (dump words) before now = (others : List (List ℕ)) × AsksUpTo (words.schema ∷ others) before now
+AsksFirst (query words) before now = (others : List (List ℕ)) × AsksUpTo (words.schema ∷ others) before now
+AsksFirst (sql words) before now = AsksUpTo (words.schema ∷ (listed words.mapping ++ words.query ∷ [])) before now

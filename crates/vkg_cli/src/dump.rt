@@ -1,10 +1,13 @@
 // The text of `dump`.
-ghost use Rattle.std.specs.Prelude.{◌≡◌, IfErr, false, true};
+ghost use Rattle.std.specs.Prelude.{◌≡◌, IfErr, IfOk, false, true};
 ghost use Rattle.vkg_terms.specs.Iri.{is_absolute};
-ghost use Rattle.vkg_cli.specs.Stages.{Answers, Ran};
+ghost use Rattle.vkg_maps.specs.Dataset.{dataset};
+ghost use Rattle.vkg_quads.specs.Dump.{IsDump};
+ghost use Rattle.vkg_cli.specs.Headline.{IsTextOf};
+ghost use Rattle.vkg_cli.specs.Stages.{Answers, Ran, Where};
 ghost use Rattle.vkg_cli.specs.Words.{command_seen};
 ghost use Rattle.vkg_cli.specs.declared.words.Command.TheVariants.{Dump};
-ghost use Rattle.vkg_cli.specs.Work.{Dumps, Works, is_of_query};
+ghost use Rattle.vkg_cli.specs.Work.{AsksFirst, Dumps, IsNumbered, Works, is_of_query};
 
 use crate::Stop;
 use crate::database::load_database;
@@ -20,7 +23,9 @@ use vkg_tables::Database;
 #[tactic(auto, unfolding(crate::specs::Work::Dumps))]
 fn lines(alloc: Global, mapping: &Mapping, db: &Database) -> Result<Lines, Stop>
     ensures value { Answers (Dumps db.now.tables mapping.now) result }
+    ensures order { IfOk result (λ lines. IsDump lines (dataset mapping.now db.now.tables)) }
     ensures kind { IfErr result (λ why. is_of_query why ≡ false) }
+    ensures numbered { IfErr result IsNumbered }
 {
     match dump_lines(alloc, mapping, db) {
         Ok(lines) => Ok(lines),
@@ -36,7 +41,10 @@ pub fn text_of_dump<S: Store>(
 ) -> Result<Lines, Stop>
     requires { is_absolute options.now.base.now ≡ true }
     ensures ran { Ran (Works (command_seen (Dump options.now))) (S.state store.old) (S.state store.new) result }
+    ensures text { IfOk result (λ lines. Where (S.state store.old).files (λ files. IsTextOf (command_seen (Dump options.now)) files lines)) }
+    ensures asked { AsksFirst (command_seen (Dump options.now)) (S.state store.old).asked (S.state store.new).asked }
     ensures kind { IfErr result (λ why. is_of_query why ≡ false) }
+    ensures numbered { IfErr result IsNumbered }
 {
     let db = match load_database(alloc, store, options.schema, options.data) {
         Ok(db) => db,

@@ -7,8 +7,8 @@
 //! tables; `gen` writes the report on a generated company, and asks for no file. Each file has at most 2147483647 bytes.
 //!
 //! It promises (`vkg`): done, the output took the defined text (`specs/Headline`); each status of a fault comes exactly where
-//! the first fault has it, but for counted faults of the store and want of memory; the output is as it was after all statuses
-//! but Done and WriteFault; files are asked for in order.
+//! the first fault has it, but for counted faults of the store and want of memory; where no fault stands the text is written; the
+//! output is as it was after all statuses but Done and WriteFault; files are asked for in order.
 //!
 //! Stands on every other library of the repository, through their public contracts, and on `clap` for the words.
 #![tactic(auto)]
@@ -29,6 +29,6 @@ mod words;
 mod work;
 
 pub use stops::{Fault, Stop, Usage};
-pub use top::vkg;
+pub use top::{give_up, refuse, vkg};
 pub use vkg_rewrite::{result_lines, rewrite};
 pub use words::{Command, DumpOptions, QueryOptions, Request, SqlOptions, read_request};

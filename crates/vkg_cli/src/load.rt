@@ -1,9 +1,9 @@
 // Files loaded from a store, and read.
-ghost use Rattle.std.specs.Prelude.{◌≡◌, ◌≤◌, ◌<◌, length, string_bytes, IfErr, IfOk, false};
+ghost use Rattle.std.specs.Prelude.{◌≡◌, ◌≤◌, ◌<◌, [], ◌∷◌, length, string_bytes, IfErr, IfOk, false};
 ghost use Rattle.vkg_lists.specs.Results.{mapped};
-ghost use Rattle.vkg_cli.specs.Stages.{Answers, Loads, Ran, carried};
+ghost use Rattle.vkg_cli.specs.Stages.{Answers, AsksThese, Loads, Ran, carried};
 ghost use Rattle.vkg_tables.specs.Seen.{loaded, without_rows};
-ghost use Rattle.vkg_cli.specs.Work.{LoadsSchema, LoadsTable, LoadsTables, ReadsSchema, is_of_query, is_of_tables, loaded_or, table_file, table_stop as stop_at};
+ghost use Rattle.vkg_cli.specs.Work.{IsNumbered, LoadsSchema, LoadsTable, LoadsTables, ReadsSchema, is_of_query, is_of_tables, loaded_or, table_file, table_stop as stop_at};
 
 use crate::{Fault, Stop};
 use std::alloc::Global;
@@ -17,7 +17,9 @@ pub const LIMIT: u64 = 2147483648;
 
 pub fn load_file<S: Store>(alloc: Global, store: &mut S, name: &str) -> Result<Vec<u8>, Stop>
     ensures ran { Ran (λ files. Loads LIMIT files name.now) (S.state store.old) (S.state store.new) (mapped (λ v. v.items) result) }
+    ensures asked { AsksThese (name.now ∷ []) (S.state store.old).asked (S.state store.new).asked result }
     ensures kind { IfErr result (λ why. (is_of_query why ≡ false) × (is_of_tables why ≡ false)) }
+    ensures numbered { IfErr result IsNumbered }
 {
     match store.load(alloc, name, LIMIT) {
         Ok(bytes) => Ok(bytes),
@@ -27,10 +29,11 @@ pub fn load_file<S: Store>(alloc: Global, store: &mut S, name: &str) -> Result<V
 }
 
 /// The schema of a file's bytes.
-#[tactic(auto, unfolding(crate::specs::Work::ReadsSchema))]
+#[tactic(auto, unfolding(crate::specs::Work::ReadsSchema), using(crate::proofs::Numbers::schema_number))]
 fn schema_of(alloc: Global, bytes: &[u8]) -> Result<Schema, Stop>
     ensures value { Answers (ReadsSchema bytes.now) result }
     ensures kind { IfErr result (λ why. (is_of_query why ≡ false) × (is_of_tables why ≡ false)) }
+    ensures numbered { IfErr result IsNumbered }
 {
     if bytes.len() > 2147483647 {
         return Err(Stop::Refused(Fault::Schema {
@@ -51,7 +54,9 @@ fn schema_of(alloc: Global, bytes: &[u8]) -> Result<Schema, Stop>
 /// The schema of a file.
 pub fn load_schema<S: Store>(alloc: Global, store: &mut S, name: &str) -> Result<Schema, Stop>
     ensures ran { Ran (λ files. LoadsSchema files name.now) (S.state store.old) (S.state store.new) result }
+    ensures asked { AsksThese (name.now ∷ []) (S.state store.old).asked (S.state store.new).asked result }
     ensures kind { IfErr result (λ why. (is_of_query why ≡ false) × (is_of_tables why ≡ false)) }
+    ensures numbered { IfErr result IsNumbered }
 {
     let bytes = match load_file(alloc, store, name) {
         Ok(bytes) => bytes,
@@ -82,11 +87,13 @@ pub fn table_stop(fault: TableFault) -> Stop
     })
 }
 
+#[tactic(auto, using(crate::proofs::Numbers::loaded_number))]
 fn read_table(alloc: Global, db: &mut Database, k: usize, bytes: &[u8]) -> Result<(), Stop>
     requires { k < length db.old.schema }
     ensures read { Answers (λ outcome. outcome ≡ loaded_or (loaded db.old k bytes.now)) (carried db.new result) }
     ensures schema { db.new.schema ≡ db.old.schema }
     ensures kind { IfErr result (λ why. is_of_query why ≡ false) }
+    ensures numbered { IfErr result IsNumbered }
 {
     match db.load_table(alloc, k, bytes) {
         Ok(()) => Ok(()),
@@ -108,6 +115,7 @@ fn load_table<S: Store>(
     ensures ran { Ran (λ files. LoadsTable files folder.now db.old k table.now) (S.state store.old) (S.state store.new) (carried db.new result) }
     ensures schema { db.new.schema ≡ db.old.schema }
     ensures kind { IfErr result (λ why. is_of_query why ≡ false) }
+    ensures numbered { IfErr result IsNumbered }
 {
     let path = match table_path(alloc, folder, table) {
         Ok(path) => path,
@@ -129,6 +137,7 @@ pub fn load_tables<S: Store>(
 ) -> Result<Database, Stop>
     ensures ran { Ran (λ files. LoadsTables files folder.now (without_rows schema.now) 0 schema.now) (S.state store.old) (S.state store.new) result }
     ensures kind { IfErr result (λ why. is_of_query why ≡ false) }
+    ensures numbered { IfErr result IsNumbered }
 {
     let mut db = match Database::new(alloc, schema) {
         Ok(db) => db,

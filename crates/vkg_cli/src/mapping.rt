@@ -1,10 +1,10 @@
 // The mapping: the direct one, or that of a file.
-ghost use Rattle.std.specs.Prelude.{◌≡◌, IfErr, IfOk, None, false, option_map, true};
+ghost use Rattle.std.specs.Prelude.{◌≡◌, [], ◌∷◌, IfErr, IfOk, None, false, option_map, true};
 ghost use Rattle.vkg_terms.specs.Iri.{is_absolute};
-ghost use Rattle.vkg_direct.specs.Laws.{MakesEachTerm};
+ghost use Rattle.vkg_direct.specs.Laws.{GivesDirectGraph, MakesEachTerm};
 ghost use Rattle.vkg_maps.specs.Within.{IsWithin};
-ghost use Rattle.vkg_cli.specs.Stages.{Answers, Ran};
-ghost use Rattle.vkg_cli.specs.Work.{LoadsMapping, LoadsText, MapsDirectly, MapsTriples, ReadsTriples, is_of_query, is_of_tables};
+ghost use Rattle.vkg_cli.specs.Stages.{Answers, AsksThese, Ran, listed};
+ghost use Rattle.vkg_cli.specs.Work.{IsNumbered, LoadsMapping, LoadsText, MapsDirectly, MapsTriples, ReadsTriples, is_of_query, is_of_tables};
 
 use crate::load::load_file;
 use crate::{Fault, Stop};
@@ -21,9 +21,11 @@ use vkg_turtle::{Triple, TurtleError, read_turtle};
 fn direct_mapping(alloc: Global, schema: &Schema, base: &str) -> Result<Mapping, Stop>
     requires { is_absolute base.now ≡ true }
     ensures maps { Answers (MapsDirectly schema.now base.now) result }
+    ensures graph { IfOk result (GivesDirectGraph schema.now base.now) }
     ensures faultless { IfOk result (MakesEachTerm schema.now) }
     ensures within { IfOk result (IsWithin schema.now) }
     ensures kind { IfErr result (λ why. (is_of_query why ≡ false) × (is_of_tables why ≡ false)) }
+    ensures numbered { IfErr result IsNumbered }
 {
     let _tables = schema.tables();
     match direct(alloc, schema, base) {
@@ -35,11 +37,12 @@ fn direct_mapping(alloc: Global, schema: &Schema, base: &str) -> Result<Mapping,
 }
 
 /// The triples of a file's bytes.
-#[tactic(auto, unfolding(crate::specs::Work::ReadsTriples))]
+#[tactic(auto, unfolding(crate::specs::Work::ReadsTriples), using(crate::proofs::Numbers::turtle_number))]
 fn triples_of(alloc: Global, base: &str, bytes: &[u8]) -> Result<Items<Triple>, Stop>
     requires { is_absolute base.now ≡ true }
     ensures value { Answers (ReadsTriples bytes.now base.now) result }
     ensures kind { IfErr result (λ why. (is_of_query why ≡ false) × (is_of_tables why ≡ false)) }
+    ensures numbered { IfErr result IsNumbered }
 {
     if bytes.len() > 2147483647 {
         return Err(Stop::Refused(Fault::Mapping {
@@ -58,6 +61,7 @@ fn triples_of(alloc: Global, base: &str, bytes: &[u8]) -> Result<Items<Triple>, 
 }
 
 /// The mapping that triples are.
+#[tactic(auto, using(crate::proofs::MapNumbers::mapping_number))]
 fn mapping_of(
     alloc: Global,
     triples: &[Triple],
@@ -68,6 +72,7 @@ fn mapping_of(
     ensures value { Answers (MapsTriples triples.now schema.now base.now) result }
     ensures within { IfOk result (IsWithin schema.now) }
     ensures kind { IfErr result (λ why. (is_of_query why ≡ false) × (is_of_tables why ≡ false)) }
+    ensures numbered { IfErr result IsNumbered }
 {
     match read_mapping(alloc, triples, schema, base) {
         Ok(mapping) => Ok(mapping),
@@ -89,8 +94,10 @@ fn load_text<S: Store>(
 ) -> Result<Mapping, Stop>
     requires { is_absolute base.now ≡ true }
     ensures ran { Ran (λ files. LoadsText files name.now schema.now base.now) (S.state store.old) (S.state store.new) result }
+    ensures asked { AsksThese (name.now ∷ []) (S.state store.old).asked (S.state store.new).asked result }
     ensures within { IfOk result (IsWithin schema.now) }
     ensures kind { IfErr result (λ why. (is_of_query why ≡ false) × (is_of_tables why ≡ false)) }
+    ensures numbered { IfErr result IsNumbered }
 {
     let bytes = match load_file(alloc, store, name) {
         Ok(bytes) => bytes,
@@ -113,9 +120,12 @@ pub fn load_mapping<S: Store>(
 ) -> Result<Mapping, Stop>
     requires { is_absolute base.now ≡ true }
     ensures ran { Ran (λ files. LoadsMapping files (option_map (λ s. s.now) file.entry) schema.now base.now) (S.state store.old) (S.state store.new) result }
+    ensures asked { AsksThese (listed (option_map (λ s. s.now) file.entry)) (S.state store.old).asked (S.state store.new).asked result }
+    ensures graph { file.entry ≡ None → IfOk result (GivesDirectGraph schema.now base.now) }
     ensures faultless { file.entry ≡ None → IfOk result (MakesEachTerm schema.now) }
     ensures within { IfOk result (IsWithin schema.now) }
     ensures kind { IfErr result (λ why. (is_of_query why ≡ false) × (is_of_tables why ≡ false)) }
+    ensures numbered { IfErr result IsNumbered }
 {
     match file {
         None => direct_mapping(alloc, schema, base),

@@ -1,15 +1,19 @@
 // The text of `query`.
-ghost use Rattle.std.specs.Prelude.{◌≡◌, [], IfErr, IfOk, false, true};
+ghost use Rattle.std.specs.Prelude.{◌≡◌, [], ◌∷◌, IfErr, IfOk, false, true};
 ghost use Rattle.vkg_terms.specs.Iri.{is_absolute};
 ghost use Rattle.vkg_schema.specs.Meets.{MeetsSchema};
 ghost use Rattle.vkg_maps.specs.DataFaults.{data_faults};
 ghost use Rattle.vkg_maps.specs.Within.{IsWithin};
 ghost use Rattle.vkg_sparql.specs.Lawful.{IsLawfulQuery};
 ghost use Rattle.vkg_sparql.specs.Seen.{query_seen};
-ghost use Rattle.vkg_cli.specs.Stages.{Answers, Ran};
+ghost use Rattle.vkg_plan.specs.Rows.{rows_of};
+ghost use Rattle.vkg_rewrite.specs.Lines.{result_lines};
+ghost use Rattle.vkg_rewrite.specs.Rewritten.{rewritten};
+ghost use Rattle.vkg_cli.specs.Headline.{IsTextOf};
+ghost use Rattle.vkg_cli.specs.Stages.{Answers, AsksThese, Ran, Where};
 ghost use Rattle.vkg_cli.specs.Words.{command_seen};
 ghost use Rattle.vkg_cli.specs.declared.words.Command.TheVariants.{Query as OfQuery};
-ghost use Rattle.vkg_cli.specs.Work.{GivesAnswer, LoadsQuery, ReadsQuery, Works, is_of_tables};
+ghost use Rattle.vkg_cli.specs.Work.{AsksFirst, GivesAnswer, IsNumbered, LoadsQuery, ReadsQuery, Works, is_of_tables};
 
 use crate::database::load_database;
 use crate::load::load_file;
@@ -24,11 +28,12 @@ use vkg_sparql::{Query, QueryError, read_query};
 use vkg_tables::Database;
 
 /// The query of a file's bytes.
-#[tactic(auto, unfolding(crate::specs::Work::ReadsQuery))]
+#[tactic(auto, unfolding(crate::specs::Work::ReadsQuery), using(crate::proofs::Numbers::query_number))]
 fn query_of(alloc: Global, base: &str, bytes: &[u8]) -> Result<Query, Stop>
     ensures value { Answers (ReadsQuery bytes.now base.now) result }
     ensures lawful { IfOk result (λ query. IsLawfulQuery (query_seen query)) }
     ensures kind { IfErr result (λ why. is_of_tables why ≡ false) }
+    ensures numbered { IfErr result IsNumbered }
 {
     if bytes.len() > 2147483647 {
         return Err(Stop::Refused(Fault::Query {
@@ -54,8 +59,10 @@ pub fn load_query<S: Store>(
     base: &str,
 ) -> Result<Query, Stop>
     ensures ran { Ran (λ files. LoadsQuery files name.now base.now) (S.state store.old) (S.state store.new) result }
+    ensures asked { AsksThese (name.now ∷ []) (S.state store.old).asked (S.state store.new).asked result }
     ensures lawful { IfOk result (λ query. IsLawfulQuery (query_seen query)) }
     ensures kind { IfErr result (λ why. is_of_tables why ≡ false) }
+    ensures numbered { IfErr result IsNumbered }
 {
     let bytes = match load_file(alloc, store, name) {
         Ok(bytes) => bytes,
@@ -71,7 +78,8 @@ fn answer(alloc: Global, db: &Database, mapping: &Mapping, query: &Query) -> Res
     requires within { IsWithin db.now.schema mapping.now }
     requires faultless { data_faults mapping.now db.now.tables ≡ [] }
     requires lawful { IsLawfulQuery (query_seen query.now) }
-    ensures { Answers (GivesAnswer db.now mapping.now query.now) result }
+    ensures value { Answers (GivesAnswer db.now mapping.now query.now) result }
+    ensures rows { IfOk result (λ lines. lines ≡ result_lines (query_seen query.now) (rows_of db.now.schema (rewritten db.now.schema mapping.now (query_seen query.now)) db.now.tables)) }
 {
     match answer_lines(alloc, db, mapping, query) {
         Ok(lines) => Ok(lines),
@@ -86,7 +94,10 @@ pub fn text_of_query<S: Store>(
     options: &QueryOptions<'_>,
 ) -> Result<Lines, Stop>
     requires { is_absolute options.now.base.now ≡ true }
-    ensures { Ran (Works (command_seen (OfQuery options.now))) (S.state store.old) (S.state store.new) result }
+    ensures ran { Ran (Works (command_seen (OfQuery options.now))) (S.state store.old) (S.state store.new) result }
+    ensures text { IfOk result (λ lines. Where (S.state store.old).files (λ files. IsTextOf (command_seen (OfQuery options.now)) files lines)) }
+    ensures asked { AsksFirst (command_seen (OfQuery options.now)) (S.state store.old).asked (S.state store.new).asked }
+    ensures numbered { IfErr result IsNumbered }
 {
     let db = match load_database(alloc, store, options.schema, options.data) {
         Ok(db) => db,

@@ -4,8 +4,9 @@ ghost use Rattle.vkg_terms.specs.Iri.{is_absolute};
 ghost use Rattle.vkg_schema.specs.Meets.{MeetsSchema};
 ghost use Rattle.vkg_maps.specs.DataFaults.{data_faults, least_data_fault};
 ghost use Rattle.vkg_maps.specs.Within.{IsWithin};
+ghost use Rattle.vkg_direct.specs.Laws.{GivesDirectGraph};
 ghost use Rattle.vkg_cli.specs.Stages.{Answers, Ran, carried};
-ghost use Rattle.vkg_cli.specs.Work.{LoadsFaultless, Scans, data_stop as stop_of, is_of_query};
+ghost use Rattle.vkg_cli.specs.Work.{IsNumbered, LoadsFaultless, Scans, data_stop as stop_of, is_of_query};
 
 use crate::mapping::load_mapping;
 use crate::{Fault, Stop};
@@ -27,10 +28,12 @@ fn data_stop(fault: DataFault) -> Stop
 }
 
 /// The least data error of a mapping over the tables.
+#[tactic(auto, using(crate::proofs::Numbers::data_number))]
 fn scan(alloc: Global, mapping: &Mapping, db: &Database) -> Result<(), Stop>
     ensures value { Answers (Scans db.now.tables mapping.now) (carried mapping.now result) }
     ensures none { OnOk result (least_data_fault mapping.now db.now.tables ≡ None) }
     ensures kind { IfErr result (λ why. is_of_query why ≡ false) }
+    ensures numbered { IfErr result IsNumbered }
 {
     match scan_data(alloc, mapping, db) {
         Err(Memory) => Err(Stop::Memory),
@@ -50,6 +53,7 @@ fn scan_file(
     ensures value { Answers (Scans db.now.tables mapping.now) (carried mapping.now result) }
     ensures none { OnOk result (least_data_fault mapping.now db.now.tables ≡ None) }
     ensures kind { IfErr result (λ why. is_of_query why ≡ false) }
+    ensures numbered { IfErr result IsNumbered }
 {
     match file {
         None => Ok(()),
@@ -69,8 +73,10 @@ pub fn load_faultless<S: Store>(
     requires meets { MeetsSchema db.now.schema db.now.tables }
     ensures ran { Ran (λ files. LoadsFaultless files (option_map (λ s. s.now) file.entry) db.now base.now) (S.state store.old) (S.state store.new) result }
     ensures within { IfOk result (IsWithin db.now.schema) }
+    ensures graph { file.entry ≡ None → IfOk result (GivesDirectGraph db.now.schema base.now) }
     ensures faultless { IfOk result (λ mapping. data_faults mapping db.now.tables ≡ []) }
     ensures kind { IfErr result (λ why. is_of_query why ≡ false) }
+    ensures numbered { IfErr result IsNumbered }
 {
     let mapping = match load_mapping(alloc, store, file, db.schema(), base) {
         Ok(mapping) => mapping,

@@ -5,10 +5,11 @@ ghost use Rattle.vkg_maps.specs.Within.{IsWithin};
 ghost use Rattle.vkg_sparql.specs.Seen.{query_seen};
 ghost use Rattle.vkg_sqltext.specs.Text.{sql_text as text_of_plan};
 ghost use Rattle.vkg_rewrite.specs.Rewritten.{rewritten};
-ghost use Rattle.vkg_cli.specs.Stages.{Answers, Ran};
+ghost use Rattle.vkg_cli.specs.Headline.{IsTextOf};
+ghost use Rattle.vkg_cli.specs.Stages.{Answers, Ran, Where};
 ghost use Rattle.vkg_cli.specs.Words.{command_seen};
 ghost use Rattle.vkg_cli.specs.declared.words.Command.TheVariants.{Sql};
-ghost use Rattle.vkg_cli.specs.Work.{GivesText, Works, is_of_tables};
+ghost use Rattle.vkg_cli.specs.Work.{AsksFirst, GivesText, IsNumbered, Works, is_of_tables};
 
 use crate::Stop;
 use crate::load::load_schema;
@@ -44,6 +45,7 @@ fn text(alloc: Global, schema: &Schema, mapping: &Mapping, query: &Query) -> Res
     requires { IsWithin schema.now mapping.now }
     ensures value { Answers (GivesText schema.now mapping.now query.now) result }
     ensures kind { IfErr result (λ why. is_of_tables why ≡ false) }
+    ensures numbered { IfErr result IsNumbered }
 {
     match plan_line(alloc, schema, mapping, query) {
         Ok(lines) => Ok(lines),
@@ -59,7 +61,10 @@ pub fn text_of_sql<S: Store>(
 ) -> Result<Lines, Stop>
     requires { is_absolute options.now.base.now ≡ true }
     ensures ran { Ran (Works (command_seen (Sql options.now))) (S.state store.old) (S.state store.new) result }
+    ensures text { IfOk result (λ lines. Where (S.state store.old).files (λ files. IsTextOf (command_seen (Sql options.now)) files lines)) }
+    ensures asked { AsksFirst (command_seen (Sql options.now)) (S.state store.old).asked (S.state store.new).asked }
     ensures kind { IfErr result (λ why. is_of_tables why ≡ false) }
+    ensures numbered { IfErr result IsNumbered }
 {
     let schema = match load_schema(alloc, store, options.schema) {
         Ok(schema) => schema,

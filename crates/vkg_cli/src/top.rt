@@ -1,16 +1,17 @@
 // The top call.
-ghost use Rattle.std.specs.Prelude.{◌≡◌, ◌<◌, ◌≤◌, OnErr, OnOk, map, string_bytes};
+ghost use Rattle.std.specs.Prelude.{◌≡◌, ◌<◌, ◌≤◌, OnErr, OnOk, codes, map, string_bytes};
 ghost use Rattle.std.specs.List.{flat_map};
 ghost use Rattle.vkg_base.specs.Outside.{Broke, StoreState, Took};
 ghost use Rattle.vkg_cli.specs.Answer.{Delivers, IsAnswer, Reports, Tells, TellsStop, World, WritesHelp};
-ghost use Rattle.vkg_cli.specs.Clauses.{AsksInOrder, HelpIsGiven, IsComplete, IsDoneOnly, IsMemoryTold, IsNoOther, IsReadFaultOnly, IsRefusedExactly, IsReported, IsUntouched, IsUsageExactly, IsWriteFaultOnly};
+ghost use Rattle.vkg_cli.specs.Clauses.{AsksByWords, AsksInOrder, HasNoneFallen, HelpIsGiven, IsComplete, IsDoneOnly, IsMemoryTold, IsNoOther, IsNoOtherText, IsReadFaultOnly, IsRefusedExactly, IsReported, IsUntouched, IsUsageExactly, IsWriteFaultOnly, KeepsFiles};
+ghost use Rattle.vkg_cli.specs.FaultLine.{usage_line as usage_line_of};
 ghost use Rattle.vkg_cli.specs.Words.{asked_of};
 
-use crate::Stop;
 use crate::company::text_of_gen;
 use crate::fault_line::{fault_line, fault_status, usage_line};
 use crate::words::{Request, read_request};
 use crate::work::text_of;
+use crate::{Stop, Usage};
 use std::alloc::Global;
 use vkg_base::{Lines, Memory, Sink, Status, Store, WriteFault};
 
@@ -33,6 +34,24 @@ fn tell_bytes<E: Sink>(err: &mut E, line: &[u8])
     ensures { Tells (E.state err.old) (E.state err.new) line.now }
 {
     let _ = err.write(line);
+}
+
+/// Tells why words are not taken.
+pub fn refuse<E: Sink>(usage: Usage, err: &mut E) -> Status
+    ensures status { result ≡ Status.Usage }
+    ensures told { Tells (E.state err.old) (E.state err.new) (usage_line_of usage) }
+{
+    tell(err, usage_line(usage));
+    Status::Usage
+}
+
+/// Tells that memory is short.
+pub fn give_up<E: Sink>(err: &mut E) -> Status
+    ensures status { result ≡ Status.Memory }
+    ensures told { Tells (E.state err.old) (E.state err.new) (codes "vkg: want of memory\n") }
+{
+    tell(err, "vkg: want of memory\n");
+    Status::Memory
 }
 
 /// Tells why there is no text.
@@ -139,7 +158,7 @@ fn run<S: Store, O: Sink, E: Sink>(
 
 /// Does what the words ask for, of which the first is the program's name: loads files from the store, writes to `out`, and
 /// tells one line of `err` where it stops.
-#[tactic(auto, using(crate::proofs::Clauses::done_only, crate::proofs::Clauses::usage_exactly, crate::proofs::Clauses::bad_schema, crate::proofs::Clauses::bad_table, crate::proofs::Clauses::bad_mapping, crate::proofs::Clauses::bad_data, crate::proofs::Clauses::bad_query, crate::proofs::Clauses::read_only, crate::proofs::Clauses::write_only, crate::proofs::Clauses::memory_told, crate::proofs::Clauses::no_other, crate::proofs::Clauses::complete, crate::proofs::Clauses::help_given, crate::proofs::Clauses::reported, crate::proofs::Clauses::untouched, crate::proofs::Clauses::in_order))]
+#[tactic(auto, using(crate::proofs::Clauses::done_only, crate::proofs::Clauses::usage_exactly, crate::proofs::Clauses::bad_schema, crate::proofs::Clauses::bad_table, crate::proofs::Clauses::bad_mapping, crate::proofs::Clauses::bad_data, crate::proofs::Clauses::bad_query, crate::proofs::Clauses::read_only, crate::proofs::Clauses::write_only, crate::proofs::Clauses::memory_told, crate::proofs::Clauses::no_other, crate::proofs::Clauses::complete, crate::proofs::Clauses::help_given, crate::proofs::Clauses::reported, crate::proofs::Clauses::untouched, crate::proofs::Clauses::in_order, crate::proofs::Clauses::no_other_text, crate::proofs::Clauses::by_words, crate::proofs::Clauses::keeps_files, crate::proofs::Clauses::none_fallen))]
 pub fn vkg<S: Store, O: Sink, E: Sink>(
     alloc: Global,
     words: &Vec<String>,
@@ -181,6 +200,9 @@ pub fn vkg<S: Store, O: Sink, E: Sink>(
     ensures complete { IsComplete (asked_of (map string_bytes words.now.items))
         (record { store = S.state store.old; out = O.state out.old; err = E.state err.old })
         (record { store = S.state store.new; out = O.state out.new; err = E.state err.new }) result }
+    ensures no_other_text { IsNoOtherText (asked_of (map string_bytes words.now.items))
+        (record { store = S.state store.old; out = O.state out.old; err = E.state err.old })
+        (record { store = S.state store.new; out = O.state out.new; err = E.state err.new }) result }
     ensures reported { IsReported (asked_of (map string_bytes words.now.items))
         (record { store = S.state store.old; out = O.state out.old; err = E.state err.old })
         (record { store = S.state store.new; out = O.state out.new; err = E.state err.new }) result }
@@ -191,6 +213,15 @@ pub fn vkg<S: Store, O: Sink, E: Sink>(
     ensures in_order { AsksInOrder (asked_of (map string_bytes words.now.items))
         (record { store = S.state store.old; out = O.state out.old; err = E.state err.old })
         (record { store = S.state store.new; out = O.state out.new; err = E.state err.new }) }
+    ensures by_words { AsksByWords (asked_of (map string_bytes words.now.items))
+        (record { store = S.state store.old; out = O.state out.old; err = E.state err.old })
+        (record { store = S.state store.new; out = O.state out.new; err = E.state err.new }) }
+    ensures files { KeepsFiles
+        (record { store = S.state store.old; out = O.state out.old; err = E.state err.old })
+        (record { store = S.state store.new; out = O.state out.new; err = E.state err.new }) }
+    ensures none_fallen { HasNoneFallen
+        (record { store = S.state store.old; out = O.state out.old; err = E.state err.old })
+        (record { store = S.state store.new; out = O.state out.new; err = E.state err.new }) result }
 {
     run(alloc, words, store, out, err)
 }

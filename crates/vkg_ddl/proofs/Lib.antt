@@ -1,7 +1,9 @@
 pub mod Certificate
+pub mod Ends
 pub mod Forming
+pub mod IndexLemmas
 pub mod Last
 pub mod Meaning
 pub mod Naming
-pub mod Ends
+pub mod Placing
 pub mod Words

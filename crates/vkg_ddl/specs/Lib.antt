@@ -1,5 +1,6 @@
 pub mod FirstFault
 pub mod Formed
+pub mod Index
 pub mod NameChecks
 pub mod Names
 pub mod Reading

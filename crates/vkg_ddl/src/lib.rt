@@ -7,6 +7,7 @@
 //! Stands on `vkg_tokens` and `vkg_grammar` (tokens and derivations), `vkg_cells` (kinds of columns) and `vkg_base` (texts, lists).
 #![tactic(auto)]
 
+mod columns;
 mod faults;
 mod grammar_table;
 mod limits;

@@ -1,12 +1,14 @@
-ghost use Rattle.std.specs.Prelude.{◌≡◌, find};
+ghost use Rattle.std.specs.Prelude.{◌≡◌, Some, find, nat_eq};
 ghost use Rattle.vkg_ddl.specs.NameChecks.{same_name, matches, text_matches, names_column, unknown_column, column_place, one_column};
 ghost use Rattle.std.specs.Option.{option_copied};
+ghost use Rattle.vkg_lists.specs.Options.{both_pass};
 ghost use Rattle.vkg_lists.specs.Places.{least_of};
 ghost use Rattle.std.specs.List.{list_any};
 
+use crate::columns::Columns;
 use crate::name::Name;
 use crate::written::{WrittenColumn, WrittenKey, WrittenTable};
-use vkg_base::{lesser, place_if};
+use vkg_base::{at, lesser, place_if};
 
 pub fn same_name(a: &Name, b: &Name) -> bool
     ensures { result ≡ same_name a.now b.now }
@@ -49,19 +51,19 @@ pub fn primary_of(keys: &[WrittenKey]) -> Option<&WrittenKey>
     keys.iter().find(|k| k.primary)
 }
 
-fn names_column(columns: &[WrittenColumn], n: &Name) -> bool
+fn names_column(columns: &Columns, n: &Name) -> bool
     ensures { result ≡ names_column columns.now n.now }
 {
-    columns.iter().any(|c| matches(n, &c.name))
+    columns.place(n).is_some()
 }
 
-fn unknown_column(columns: &[WrittenColumn], n: &Name) -> Option<usize>
+fn unknown_column(columns: &Columns, n: &Name) -> Option<usize>
     ensures { result ≡ unknown_column columns.now n.now }
 {
     place_if(!names_column(columns, n), n.at)
 }
 
-pub fn unknown_columns(columns: &[WrittenColumn], names: &[Name]) -> Option<usize>
+pub fn unknown_columns(columns: &Columns, names: &[Name]) -> Option<usize>
     ensures { result ≡ least_of (unknown_column columns.now) names.now }
 {
     names
@@ -76,17 +78,31 @@ pub fn column_place(columns: &[WrittenColumn], n: &Name) -> Option<usize>
     columns.iter().position(|c| matches(n, &c.name))
 }
 
-pub fn one_column(columns: &[WrittenColumn], a: &Name, b: &Name) -> bool
-    ensures { result ≡ one_column columns.now a.now b.now }
+fn is_place(found: Option<usize>, place: usize) -> bool
+    ensures { result ≡ both_pass nat_eq (Some place) found }
 {
-    match (column_place(columns, a), column_place(columns, b)) {
-        (Some(i), Some(j)) => i == j,
-        _ => false,
+    match found {
+        None => false,
+        Some(other) => place == other,
     }
 }
 
-pub fn any_one_column(columns: &[WrittenColumn], n: &Name, seen: &[Name]) -> bool
+// Whether a name means the column at this place. That column is tried first, since most names mean another.
+fn is_at(columns: &Columns, place: usize, n: &Name) -> bool
+    ensures { result ≡ both_pass nat_eq (Some place) (column_place columns.now n.now) }
+{
+    match at(columns.as_slice(), place) {
+        None => false,
+        Some(c) => matches(n, &c.name) && is_place(columns.place(n), place),
+    }
+}
+
+/// Whether one of these names means the same column. The column is found once.
+pub fn any_one_column(columns: &Columns, n: &Name, seen: &[Name]) -> bool
     ensures { result ≡ list_any (one_column columns.now n.now) seen.now }
 {
-    seen.iter().any(|b| one_column(columns, n, b))
+    match columns.place(n) {
+        None => false,
+        Some(place) => seen.iter().any(|b| is_at(columns, place, b)),
+    }
 }

@@ -10,35 +10,23 @@ use crate::grammar_table::{DDL, ROLES};
 use crate::name::{Name, names_of};
 use crate::role::Role;
 use crate::written::{WrittenTable, act};
-use std::alloc::{AllocError, AllocFailed, Global};
+use std::alloc::Global;
+use thiserror::Error;
 use vkg_base::{Items, Memory};
 use vkg_grammar::{Grammar, Note, ParseFault, Rule, parse, role_in, start_of};
 use vkg_tokens::{Lang, Token, TokensError, tokens};
 
 /// Why a text is none of the grammar.
-#[derive(Debug, Drop)]
+#[derive(Debug, Drop, Error)]
 pub enum TextFault {
+    #[error("out of memory")]
     Memory,
     /// No token begins at this byte.
+    #[error("no token begins at byte {at}")]
     Lexical { at: usize },
     /// The first token that no text goes on with begins here, or the text ends too early.
+    #[error("no text of the grammar goes on so at byte {at}")]
     Grammar { at: usize },
-}
-
-impl From<AllocError> for TextFault {
-    ghost from_gives = { λ _ e. e ≡ OutOfMemory };
-
-    fn from(_: AllocError) -> TextFault {
-        TextFault::Memory
-    }
-}
-
-impl<T: Drop> From<AllocFailed<T>> for TextFault {
-    ghost from_gives = { λ _ e. e ≡ OutOfMemory };
-
-    fn from(_: AllocFailed<T>) -> TextFault {
-        TextFault::Memory
-    }
 }
 
 impl From<Memory> for TextFault {

@@ -4,21 +4,34 @@ ghost use Rattle.vkg_ddl.specs.NameChecks.{matches, one_column};
 ghost use Rattle.vkg_lists.specs.Places.{least_of};
 ghost use Rattle.std.specs.List.{list_any, list_all};
 
+use crate::columns::Columns;
 use crate::matching::{any_one_column, column_named, primary_of, table_named, unknown_columns};
 use crate::name::Name;
 use crate::twice::name_twice;
 use crate::types::column_kind;
-use crate::written::{WrittenColumn, WrittenReference, WrittenTable};
+use crate::written::{WrittenColumn, WrittenKey, WrittenReference, WrittenTable};
 use vkg_base::{lesser, place_if};
 use vkg_cells::family;
+
+// The columns of a table, with a table of their names where many names are looked for.
+fn columns_for<'a>(t: &'a WrittenTable, names: usize) -> Columns<'a>
+    ensures { result ≡ t.now.columns }
+{
+    let columns = t.columns.as_slice();
+    if names < 32 {
+        Columns::plain(t.columns.alloc(), columns)
+    } else {
+        Columns::new(t.columns.alloc(), columns)
+    }
+}
 
 fn are_columns(t: &WrittenTable, left: &[Name], right: &[Name]) -> bool
     ensures { result ≡ are_columns t.now left.now right.now }
 {
-    let columns = t.columns.as_slice();
+    let columns = columns_for(t, right.len());
     right.len() == left.len()
-        && unknown_columns(columns, right).is_none()
-        && name_twice(columns, right).is_none()
+        && unknown_columns(&columns, right).is_none()
+        && name_twice(&columns, right).is_none()
 }
 
 fn columns_fault_of(t: &WrittenTable, r: &WrittenReference, right: &[Name]) -> Option<usize>
@@ -67,26 +80,30 @@ pub fn columns_wrong(tables: &[WrittenTable]) -> Option<usize>
     )
 }
 
-fn all_among(columns: &[WrittenColumn], xs: &[Name], ys: &[Name]) -> bool
+fn all_among(columns: &Columns, xs: &[Name], ys: &[Name]) -> bool
     ensures { result ≡ list_all (λ x. list_any (one_column columns.now x) ys.now) xs.now }
 {
     xs.iter().all(|x| any_one_column(columns, x, ys))
 }
 
-fn same_columns(columns: &[WrittenColumn], xs: &[Name], ys: &[Name]) -> bool
+fn same_columns(columns: &Columns, xs: &[Name], ys: &[Name]) -> bool
     ensures { result ≡ same_columns columns.now xs.now ys.now }
 {
     all_among(columns, xs, ys) && all_among(columns, ys, xs)
 }
 
+fn is_any(columns: &Columns, names: &[Name], keys: &[WrittenKey]) -> bool
+    ensures { result ≡ list_any (λ k. same_columns columns.now names.now k.columns) keys.now }
+{
+    keys.iter()
+        .any(|k| same_columns(columns, names, k.columns.as_slice()))
+}
+
 fn are_key(t: &WrittenTable, names: &[Name]) -> bool
     ensures { result ≡ are_key t.now names.now }
 {
-    let columns = t.columns.as_slice();
-    t.keys
-        .as_slice()
-        .iter()
-        .any(|k| same_columns(columns, names, k.columns.as_slice()))
+    let columns = columns_for(t, names.len().saturating_mul(t.keys.len()));
+    is_any(&columns, names, t.keys.as_slice())
 }
 
 fn key_fault_of(t: &WrittenTable, r: &WrittenReference, right: &[Name]) -> Option<usize>

@@ -1,7 +1,9 @@
 ghost use Rattle.std.specs.Prelude.{◌≡◌, slice_get};
 ghost use Rattle.std.specs.List.{list_any};
+ghost use Rattle.vkg_lists.specs.Places.{lesser, least_of};
 ghost use Rattle.vkg_ddl.specs.NameChecks.{same_name, table_again, table_twice, column_again, column_twice_in, column_twice, name_again, name_twice, twice_in_table, key_column_twice, primary_again, primary_twice_in, primary_twice};
 
+use crate::columns::Columns;
 use crate::matching::{any_one_column, same_name};
 use crate::name::Name;
 use crate::written::{WrittenColumn, WrittenKey, WrittenTable};
@@ -58,7 +60,7 @@ pub fn column_twice(tables: &[WrittenTable]) -> Option<usize>
     )
 }
 
-fn name_again(columns: &[WrittenColumn], names: &[Name], i: usize) -> Option<usize>
+fn name_again(columns: &Columns, names: &[Name], i: usize) -> Option<usize>
     ensures { result ≡ name_again columns.now names.now (slice_get names.now i) i }
 {
     match names.get(i) {
@@ -67,16 +69,15 @@ fn name_again(columns: &[WrittenColumn], names: &[Name], i: usize) -> Option<usi
     }
 }
 
-pub fn name_twice(columns: &[WrittenColumn], names: &[Name]) -> Option<usize>
+pub fn name_twice(columns: &Columns, names: &[Name]) -> Option<usize>
     ensures { result ≡ name_twice columns.now names.now }
 {
     (0..names.len()).fold(None, |best, i| lesser(best, name_again(columns, names, i)))
 }
 
-fn twice_in_table(t: &WrittenTable) -> Option<usize>
-    ensures { result ≡ twice_in_table t.now }
+fn twice_in(columns: &Columns, t: &WrittenTable) -> Option<usize>
+    ensures { result ≡ lesser (least_of (λ k. name_twice columns.now k.columns) t.now.keys) (least_of (λ r. name_twice columns.now r.columns) t.now.references) }
 {
-    let columns = t.columns.as_slice();
     let in_keys = t.keys.as_slice().iter().fold(None, |best, k| {
         lesser(best, name_twice(columns, k.columns.as_slice()))
     });
@@ -84,6 +85,13 @@ fn twice_in_table(t: &WrittenTable) -> Option<usize>
         lesser(best, name_twice(columns, r.columns.as_slice()))
     });
     lesser(in_keys, in_references)
+}
+
+fn twice_in_table(t: &WrittenTable) -> Option<usize>
+    ensures { result ≡ twice_in_table t.now }
+{
+    let columns = Columns::new(t.columns.alloc(), t.columns.as_slice());
+    twice_in(&columns, t)
 }
 
 pub fn key_column_twice(tables: &[WrittenTable]) -> Option<usize>

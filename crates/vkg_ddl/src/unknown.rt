@@ -1,16 +1,16 @@
 ghost use Rattle.std.specs.Prelude.{◌≡◌};
-ghost use Rattle.vkg_ddl.specs.NameChecks.{unknown_in_table, key_column_unknown, names_table, unknown_target, table_unknown};
-ghost use Rattle.vkg_lists.specs.Places.{least_of};
+ghost use Rattle.vkg_ddl.specs.NameChecks.{unknown_columns, unknown_in_table, key_column_unknown, names_table, unknown_target, table_unknown};
+ghost use Rattle.vkg_lists.specs.Places.{lesser, least_of};
 
+use crate::columns::Columns;
 use crate::matching::{matches, unknown_columns};
 use crate::name::Name;
 use crate::written::{WrittenReference, WrittenTable};
 use vkg_base::{lesser, place_if};
 
-fn unknown_in_table(t: &WrittenTable) -> Option<usize>
-    ensures { result ≡ unknown_in_table t.now }
+fn unknown_in(columns: &Columns, t: &WrittenTable) -> Option<usize>
+    ensures { result ≡ lesser (least_of (λ k. unknown_columns columns.now k.columns) t.now.keys) (least_of (λ r. unknown_columns columns.now r.columns) t.now.references) }
 {
-    let columns = t.columns.as_slice();
     let in_keys = t.keys.as_slice().iter().fold(None, |best, k| {
         lesser(best, unknown_columns(columns, k.columns.as_slice()))
     });
@@ -18,6 +18,13 @@ fn unknown_in_table(t: &WrittenTable) -> Option<usize>
         lesser(best, unknown_columns(columns, r.columns.as_slice()))
     });
     lesser(in_keys, in_references)
+}
+
+fn unknown_in_table(t: &WrittenTable) -> Option<usize>
+    ensures { result ≡ unknown_in_table t.now }
+{
+    let columns = Columns::new(t.columns.alloc(), t.columns.as_slice());
+    unknown_in(&columns, t)
 }
 
 pub fn key_column_unknown(tables: &[WrittenTable]) -> Option<usize>

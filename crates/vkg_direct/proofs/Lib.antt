@@ -9,3 +9,4 @@ pub mod Moments
 pub mod RuleCount
 mod Examples
 pub mod Within
+pub mod Writable

@@ -19,7 +19,7 @@ use Rattle.vkg_maps.specs.Within.{IsWithin, kinds_at}
 use Rattle.vkg_row_rules.proofs.Bridge.{rule_sound}
 use Rattle.vkg_row_rules.proofs.RowParts.{row_parts}
 use Rattle.vkg_row_rules.proofs.RuleQuads.{GraphIs, IsFine}
-use Rattle.vkg_unfold.specs.FineRows.{IsFineRow, IsNarrow, IsNarrowGraph, Meets, NeverDefault}
+use Rattle.vkg_unfolded.specs.FineRows.{IsFineRow, IsNarrow, IsNarrowGraph, Meets, NeverDefault}
 use Rattle.vkg_fine_rules.specs.Laws.{HasFineRows}
 use Rattle.vkg_fine_rules.proofs.Fits.{FitsKinds, fits_rows, fits_holes}
 use Rattle.vkg_fine_rules.proofs.Narrow.{narrow_term}

@@ -36,7 +36,7 @@ use Rattle.vkg_row_rules.specs.RowRules.{object_term, row_rule, row_rules}
 use Rattle.vkg_row_rules.specs.RowTerms.{kind_at, piece_of, row_term}
 use Rattle.vkg_maps.specs.Within.{IsCondition, IsOver, IsWithin, piece_columns, kinds_at}
 use Rattle.vkg_row_rules.proofs.SoundRules.{AreJoined, OfRule, object_table, rules_within}
-use Rattle.vkg_unfold.specs.FittingRules.{AreFitting, FitsCondition, FitsGraph, FitsJoin, FitsPiece, FitsTerm, IsFitting, IsTable, rule_kinds}
+use Rattle.vkg_unfolded.specs.FittingRules.{AreFitting, FitsCondition, FitsGraph, FitsJoin, FitsPiece, FitsTerm, IsFitting, IsTable, rule_kinds}
 use Rattle.vkg_fine_rules.specs.Laws.{HasFittingRules}
 
 -- ---- kinds of columns

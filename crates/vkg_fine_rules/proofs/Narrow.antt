@@ -16,7 +16,7 @@ use Rattle.vkg_maps.specs.declared.term_map.TermType.{TermType}
 use Rattle.vkg_maps.specs.declared.term_map.TermType.TheVariants as sort
 use Rattle.vkg_maps.specs.Terms.{against, term_of, term_if_any, term_from, template_value, where_value}
 use Rattle.vkg_maps.specs.Within.{is_wide_constant}
-use Rattle.vkg_unfold.specs.FineRows.{IsNarrow}
+use Rattle.vkg_unfolded.specs.FineRows.{IsNarrow}
 
 narrow_constant : (c : Term) → IsFalse (is_wide_constant (from.Constant c)) → IsNarrow (Some c)
 narrow_constant c h = not_from_false (is_wide_number c) h

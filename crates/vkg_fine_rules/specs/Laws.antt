@@ -7,8 +7,8 @@ use Rattle.vkg_maps.specs.DataFaults.{data_faults}
 use Rattle.vkg_plan.specs.Kinds.{Tables}
 use Rattle.vkg_row_rules.specs.RowRules.{row_rules}
 use Rattle.vkg_maps.specs.Within.{IsWithin}
-use Rattle.vkg_unfold.specs.FineRows.{Meets}
-use Rattle.vkg_unfold.specs.FittingRules.{AreFitting}
+use Rattle.vkg_unfolded.specs.FineRows.{Meets}
+use Rattle.vkg_unfolded.specs.FittingRules.{AreFitting}
 
 -- over a database that meets its schema and has no data error each row of each rule is fine
 abbrev pub HasFineRows : Tables → Mapping → Database → Type 0

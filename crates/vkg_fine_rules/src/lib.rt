@@ -4,7 +4,7 @@
 //! row of each rule is fine, so that the theorem on unfolded plans speaks of this database, and each rule fits the schema, so that the
 //! plans are well typed.
 //!
-//! Stands on `vkg_row_rules` (the rules), `vkg_match` (when two terms are never one) and `vkg_unfold` (what is asked).
+//! Stands on `vkg_row_rules` (the rules), `vkg_match` (when two terms are never one) and `vkg_unfolded` (what is asked).
 #![tactic(auto)]
 
 mod laws;

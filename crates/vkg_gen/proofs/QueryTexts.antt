@@ -3,7 +3,6 @@ use Rattle.std.proofs.Common.{◌≡◌, ◌∙◌, ◌+◌, ℕ, true, List, []
 use Rattle.std.specs.Prelude.{IsUtf8}
 use Rattle.std.specs.List.{list_all, range_with_len}
 use Rattle.std.proofs.lemmas.Option.{none-some}
-use Rattle.vkg_lists.proofs.Results.{ok_err}
 use Rattle.vkg_lists.proofs.Members.{each_of_all}
 use Rattle.vkg_lists.proofs.Each.{member_range}
 use Rattle.vkg_grammar.specs.declared.note.Note.{Note}
@@ -17,7 +16,8 @@ use Rattle.vkg_tokens.specs.declared.cutting.Token.{Token}
 use Rattle.vkg_sparql.specs.declared.grammar_table.TheConstants.{SPARQL}
 use Rattle.vkg_sparql.specs.declared.fault.QueryFault.{QueryFault}
 use Rattle.vkg_sparql.specs.declared.query.Query.{Query}
-use Rattle.vkg_sparql.specs.Reading.{IsFaultOf, IsQueryText, Read, Says, checked, cut_off, dead, fault_of, no_token, no_utf8, query_of, read, sparql, sparql_tokens, too_deep}
+use Rattle.vkg_turtle.proofs.Lexical.{not_bad}
+use Rattle.vkg_sparql.specs.Reading.{IsFaultOf, IsQueryText, Read, Says, checked, cut_off, dead, fault_of, lexical, query_of, read, sparql, sparql_tokens, too_deep}
 
 pub shallow : (g : Form) (ks : List ℕ) → list_all (λ n. allows g.limit (depth g (take (n + 1) ks))) (range_with_len 0 (length ks)) ≡ true → IsShallow g ks
 shallow g ks e n h = each_of_all (λ m. allows g.limit (depth g (take (m + 1) ks))) (range_with_len 0 (length ks)) e n (member_range 0 (length ks) n (omega arith) (omega (arith, h)))
@@ -31,8 +31,7 @@ module _ (text base : List ℕ) (utf8 : IsUtf8 text) (tokens : List Token) (cut 
       s.said ∙ (λ i. read text (same i) base (sym one i))
 
   pub no_query_fault : fault_of (read text tokens base tree) ≡ None → (f : QueryFault) → IsFaultOf text base f → ⊥
-  no_query_fault fine f (no_utf8 h e) = h utf8
-  no_query_fault fine f (no_token u e) = ok_err tokens _ (sym cut ∙ e)
+  no_query_fault fine f (lexical b) = not_bad utf8 cut b
   no_query_fault fine f (too_deep u d) = deep_not_shallow sparql d.cut cut d.deep few
   no_query_fault fine f (dead u d) =
       let here = subst (λ ts. Derives SPARQL (0 ∷ []) (kinds_of ts) ws) (sym (same_tokens d.cut cut)) derived in

@@ -4,3 +4,4 @@ pub mod LeastFault
 pub mod QuadRules
 pub mod Dataset
 pub mod Within
+pub mod Writable

@@ -5,7 +5,7 @@
 //! mapping gives over a database (`quad_rules`, `dataset`) and which of its terms can not be made (`data_faults`); the
 //! crates above promise to compute them. Here stand the types, and copies that are equal to what they copy.
 //!
-//! Stands on `vkg_schema` (places, rows), `vkg_cells` (lexical forms) `vkg_terms` (terms) and `thiserror`.
+//! Stands on `vkg_schema` (places, rows), `vkg_cells` (lexical forms), `vkg_terms` (terms) and `thiserror`.
 #![tactic(auto)]
 
 mod data_fault;

@@ -156,9 +156,10 @@ fn by_sorts(alloc: Global, e: &TermExpr, f: &TermExpr) -> Result<Verdict, Memory
 }
 
 /// When two expressions make one term: on no row, or on the rows on which some equalities are all true.
+#[tactic(auto, using(crate::proofs::Exact::exacts))]
 pub fn verdict(alloc: Global, e: &TermExpr, f: &TermExpr) -> Result<Verdict, Memory>
-    ensures value { IfOk result (λ v. verdict_seen v ≡ verdict_of e.now f.now) }
     ensures exact { IfOk result (λ v. IsExact e.now f.now (verdict_seen v)) }
+    ensures value { IfOk result (λ v. verdict_seen v ≡ verdict_of e.now f.now) }
 {
     find(alloc, e, f)
 }

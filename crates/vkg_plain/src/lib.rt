@@ -7,8 +7,8 @@
 //! header and lines of solutions.
 //! It is for tests: it looks at each pair of solutions, and reads no mapping and no table.
 //!
-//! Stands on `vkg_algebra` (the algebra, and what it means), `vkg_values` (the operators on terms) and `vkg_terms` (terms and
-//! their texts).
+//! Stands on `vkg_algebra` (the algebra, and what it means), `vkg_values` (the operators on terms), `vkg_terms` (terms and
+//! their texts), and `thiserror`.
 #![tactic(auto)]
 
 mod answering;

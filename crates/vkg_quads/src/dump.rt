@@ -5,7 +5,7 @@ ghost use Rattle.vkg_terms.specs.NQuads.{line};
 ghost use Rattle.vkg_schema.specs.Rows.{agree as rows_agree};
 ghost use Rattle.vkg_index.specs.Keys.{has_key};
 ghost use Rattle.vkg_maps.specs.Dataset.{quad_of, quads_of_rule, dataset};
-ghost use Rattle.vkg_quads.specs.Dump.{IsDump, dump};
+ghost use Rattle.vkg_quads.specs.Dump.{IsDump, HasLineForEach, dump};
 ghost use Rattle.vkg_base.specs.Groups.{group};
 
 use crate::quad::line_of_rows;
@@ -18,10 +18,12 @@ use vkg_maps::{Mapping, QuadRule};
 use vkg_schema::agree;
 use vkg_tables::{Database, child_columns, parent_columns};
 
-/// The lines of the quads of the dataset, each once, ascending by bytes.
+/// The lines of the quads of the dataset, each once, ascending by bytes. Where each term map of the mapping can be written,
+/// as in a mapping that is read and in the direct one, no two quads share a line.
 pub fn dump_lines(alloc: Global, mapping: &Mapping, db: &Database) -> Result<Lines, Memory>
     ensures value { IfOk result (λ lines. lines ≡ dump (dataset mapping.now db.now.tables)) }
     ensures order { IfOk result (λ lines. IsDump lines (dataset mapping.now db.now.tables)) }
+    ensures once { IfOk result (HasLineForEach mapping.now db.now) }
 {
     let rules = rules(alloc, mapping)?;
     let mut lines = all_lines(alloc, mapping.base.as_str(), rules.as_slice(), db)?;

@@ -1,6 +1,7 @@
 ghost use Rattle.std.specs.Prelude.{◌≡◌};
 ghost use Rattle.vkg_r2rml.specs.declared.map_error.MapError.TheVariants.{Memory as OutOfMemory};
 
+use thiserror::Error;
 use vkg_base::Memory;
 
 /// The least fault of a mapping: the number of its check, and of its triples map counted from 1, or 0 for the whole.
@@ -11,9 +12,11 @@ pub struct MapFault {
 }
 
 /// Why a graph is no mapping.
-#[derive(Clone, Copy, Debug, Drop, PartialEq, Eq)]
+#[derive(Clone, Copy, Debug, Drop, PartialEq, Eq, Error)]
 pub enum MapError {
+    #[error("check {check} fails on triples map {map}", check = .0.check, map = .0.map)]
     Fault(MapFault),
+    #[error("want of memory")]
     Memory,
 }
 

@@ -5,8 +5,9 @@ ghost use Rattle.vkg_plan.specs.Seen.{plan_seen};
 ghost use Rattle.vkg_sparql.specs.Seen.{query_seen};
 ghost use Rattle.vkg_row_rules.specs.RowRules.{row_rules as rules_over_rows};
 ghost use Rattle.vkg_maps.specs.Within.{IsWithin};
-ghost use Rattle.vkg_unfold.specs.Unfolded.{start_plan as plan_of_query};
-ghost use Rattle.vkg_rewrite.specs.Rewritten.{rewritten};
+ghost use Rattle.vkg_unfolded.specs.FittingRules.{FitJoins};
+ghost use Rattle.vkg_unfolded.specs.Unfolded.{start_plan as plan_of_query};
+ghost use Rattle.vkg_rewrite.specs.Rewritten.{HasSolutions, rewritten};
 
 use std::alloc::Global;
 use vkg_algebra::translate;
@@ -19,7 +20,8 @@ use vkg_schema::Schema;
 use vkg_sparql::Query;
 use vkg_unfold::start_plan;
 
-/// The plan of a query over a mapping of the schema. It reads no table.
+/// The plan of a query over a mapping of the schema. It reads no table. Over every database of the schema without a data error its
+/// rows are the solutions of the query over the dataset of the mapping, where the query is one that `read_query` answers.
 pub fn rewrite(
     alloc: Global,
     schema: &Schema,
@@ -29,6 +31,7 @@ pub fn rewrite(
     requires { IsWithin schema.now mapping.now }
     ensures plan { IfOk result (λ p. plan_seen p ≡ rewritten schema.now mapping.now (query_seen query.now)) }
     ensures typed { IfOk result (λ p. IsTrue (is_well_typed schema.now (plan_seen p))) }
+    ensures solutions { IfOk result (λ p. HasSolutions schema.now mapping.now (query_seen query.now) (plan_seen p)) }
 {
     let _tables = schema.tables();
     let rules = rules_of(alloc, schema, mapping)?;
@@ -38,6 +41,7 @@ pub fn rewrite(
 
 /// The rules of the mapping over rows.
 fn rules_of(alloc: Global, schema: &Schema, mapping: &Mapping) -> Result<Items<RowRule>, Memory>
+    requires { IsWithin schema.now mapping.now }
     ensures { IfOk result (λ rs. rs ≡ rules_over_rows schema.now mapping.now) }
 {
     let rules = rules(alloc, mapping)?;
@@ -45,6 +49,7 @@ fn rules_of(alloc: Global, schema: &Schema, mapping: &Mapping) -> Result<Items<R
 }
 
 fn plan_of(alloc: Global, schema: &Schema, rules: &[RowRule], query: &Query) -> Result<Plan, Memory>
+    requires { FitJoins schema.now rules.now }
     ensures { IfOk result (λ p. plan_seen p ≡ plan_of_query schema.now rules.now (query_seen query.now)) }
 {
     let algebra = translate(alloc, query)?;

@@ -6,3 +6,4 @@ pub mod Faultless
 pub mod RuleQuads
 pub mod Bridge
 pub mod RowParts
+pub mod Places

@@ -4,7 +4,7 @@ use Rattle.std.specs.Prelude.{Option, Some, None, IfSome, Contains, flat_map, sl
 use Rattle.std.specs.List.{AllByRecursion}
 use Rattle.std.proofs.lemmas.List.Elements.{Contains-append_cases, Contains-append_left, Contains-append_right}
 use Rattle.vkg_lists.proofs.Positions.{get_member}
-use Rattle.vkg_lists.proofs.Members.{Contains-none, Contains-here, Contains-there, Contains-cons_cases, Contains-map, Contains-from_map, Contains-flat_map, Contains-from_flat_map, each_from_recursion}
+use Rattle.vkg_lists.proofs.Members.{Contains-none, Contains-here, Contains-there, Contains-cons_cases, Contains-map, Contains-from_map, Contains-flat_map, Contains-from_flat_map, each_from_recursion, recursion_from_each}
 use Rattle.vkg_terms.specs.declared.term.Term.TheVariants.{Iri}
 use Rattle.vkg_terms.specs.Vocabulary.{rdf_type}
 use Rattle.vkg_maps.specs.declared.mapping.Mapping.{Mapping}
@@ -19,6 +19,7 @@ use Rattle.vkg_maps.specs.declared.term_map.TermMap.TheVariants.{Constant}
 use Rattle.vkg_maps.specs.DataFaults.{asked, term_maps, pair_maps}
 use Rattle.vkg_maps.specs.QuadRules.{class_map, map_rules, object_rule, parent_of, predicate_object_rules, quad_rules, targets}
 use Rattle.vkg_plan.specs.Kinds.{Tables}
+use Rattle.vkg_row_rules.specs.RowRules.{AreOver, IsRuleOver, object_kinds}
 use Rattle.vkg_maps.specs.Within.{AreConditions, IsCondition, IsMapWithin, IsObjectWithin, IsOver, IsPairWithin, IsWithin, kinds_at}
 
 -- the table whose rows give the object
@@ -217,3 +218,14 @@ pub rules_within : (schema : Tables) (mapping : Mapping) → IsWithin schema map
 rules_within schema mapping within = of_rules (λ table t. IsOver (kinds_at schema table) t) schema mapping within
     (λ table iri. record { columns = tt; narrow = refl })
     (λ m c t d. listed_over schema mapping.maps m (each_from_recursion (IsMapWithin schema mapping.maps) mapping.maps within m c) t d)
+
+-- so that each has its place among the columns
+rule_over : (schema : Tables) (rule : QuadRule) → OfRule (λ table t. IsOver (kinds_at schema table) t) schema rule → IsRuleOver schema rule
+rule_over schema rule h = record { subject = h.subject; predicate = h.predicate; object = of rule.join h.object; graph = h.graph }
+  where
+    of : (join : Option Join) → IsOver (kinds_at schema (object_table rule.table join)) rule.object → IsOver (object_kinds schema (kinds_at schema rule.table) join) rule.object
+    of None o = o
+    of (Some join) o = o
+
+pub rules_over : (schema : Tables) (mapping : Mapping) → IsWithin schema mapping → AreOver schema (quad_rules mapping)
+rules_over schema mapping within = recursion_from_each (IsRuleOver schema) (quad_rules mapping) (λ rule c. rule_over schema rule (rules_within schema mapping within rule c))

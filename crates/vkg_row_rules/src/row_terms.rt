@@ -1,5 +1,7 @@
 // A term map as an expression over a row.
-ghost use Rattle.std.specs.Prelude.{◌≡◌, ◌+◌, [], ◌∷◌, IfOk, map};
+ghost use Rattle.std.specs.Prelude.{◌≡◌, ◌+◌, ◌<◌, [], ◌∷◌, IfOk, flat_map, length, map};
+ghost use Rattle.vkg_lists.specs.Lists.{AllBelow};
+ghost use Rattle.vkg_maps.specs.Within.{IsOver, piece_columns};
 ghost use Rattle.vkg_expr.specs.TermExprs.{moved_piece, moved_term};
 ghost use Rattle.vkg_row_rules.specs.RowTerms.{column_term as term_of_column, hole as hole_of, kind_at as kind_of_column, piece_of as piece_expr_of, row_term as term_over_row, sort_of as sort_of_type};
 
@@ -9,36 +11,38 @@ use vkg_cells::SqlType;
 use vkg_expr::{Piece, Sort, TermExpr};
 use vkg_maps::{Piece as TemplatePiece, TermMap, TermType};
 
-/// The expression of a term map over columns of these kinds.
-#[tactic(auto, using(crate::proofs::Moved::moved_by_none))]
+/// The expression of a term map over columns of these kinds, which has to be over such rows.
 pub fn row_term(
     alloc: Global,
     base: &Text,
     kinds: &[SqlType],
     map: &TermMap,
 ) -> Result<TermExpr, Memory>
+    requires { IsOver kinds.now map.now }
     ensures { IfOk result (λ e. e ≡ term_over_row base.now kinds.now map.now) }
 {
-    term_behind(alloc, base, kinds, 0, map)
+    let before = Items::new(alloc);
+    term_behind(alloc, base, kinds, before.as_slice(), map)
 }
 
-/// The expression of a term map over columns of these kinds, which stand behind `first` others.
+/// The expression of a term map over columns of these kinds, which stand behind those of `before`.
 pub fn term_behind(
     alloc: Global,
     base: &Text,
     kinds: &[SqlType],
-    first: usize,
+    before: &[SqlType],
     map: &TermMap,
 ) -> Result<TermExpr, Memory>
-    ensures { IfOk result (λ e. e ≡ moved_term first (term_over_row base.now kinds.now map.now)) }
+    requires { IsOver kinds.now map.now }
+    ensures { IfOk result (λ e. e ≡ moved_term (length before.now) (term_over_row base.now kinds.now map.now)) }
 {
     match map {
         TermMap::Constant(term) => Ok(TermExpr::Fixed(term.copy()?)),
         TermMap::Column(column, term_type) => {
-            column_term(alloc, base, kinds, first, *column, term_type)
+            column_term(alloc, base, kinds, before, *column, term_type)
         }
         TermMap::Template(pieces, term_type) => {
-            let pieces = pieces_behind(alloc, kinds, first, pieces.as_slice())?;
+            let pieces = pieces_behind(alloc, kinds, before, pieces.as_slice())?;
             Ok(TermExpr::Made(sort_of(term_type)?, pieces))
         }
     }
@@ -48,14 +52,15 @@ fn column_term(
     alloc: Global,
     base: &Text,
     kinds: &[SqlType],
-    first: usize,
+    before: &[SqlType],
     column: usize,
     term_type: &TermType,
 ) -> Result<TermExpr, Memory>
-    ensures { IfOk result (λ e. e ≡ moved_term first (term_of_column base.now kinds.now column term_type.now)) }
+    requires { column < length kinds.now }
+    ensures { IfOk result (λ e. e ≡ moved_term (length before.now) (term_of_column base.now kinds.now column term_type.now)) }
 {
     let kind = kind_at(kinds, column);
-    let place = place_behind(first, column)?;
+    let place = place_behind(kinds, before, column);
     match term_type {
         TermType::Iri => Ok(TermExpr::Resolved(base.copy()?, place, kind)),
         TermType::Blank => alone(alloc, Sort::OfBlank, Piece::Hole(place, kind)),
@@ -88,25 +93,31 @@ fn sort_of(term_type: &TermType) -> Result<Sort, Memory>
 fn pieces_behind(
     alloc: Global,
     kinds: &[SqlType],
-    first: usize,
+    before: &[SqlType],
     pieces: &[TemplatePiece],
 ) -> Result<Items<Piece>, Memory>
-    ensures { IfOk result (λ ps. ps ≡ map (moved_piece first) (map (piece_expr_of kinds.now) pieces.now)) }
+    requires { AllBelow (length kinds.now) (flat_map piece_columns pieces.now) }
+    ensures { IfOk result (λ ps. ps ≡ map (moved_piece (length before.now)) (map (piece_expr_of kinds.now) pieces.now)) }
 {
     let mut out = Items::new(alloc);
     for piece in pieces {
-        out.push(piece_behind(kinds, first, piece)?)?;
+        out.push(piece_behind(kinds, before, piece)?)?;
     }
     Ok(out)
 }
 
-fn piece_behind(kinds: &[SqlType], first: usize, piece: &TemplatePiece) -> Result<Piece, Memory>
-    ensures { IfOk result (λ p. p ≡ moved_piece first (piece_expr_of kinds.now piece.now)) }
+fn piece_behind(
+    kinds: &[SqlType],
+    before: &[SqlType],
+    piece: &TemplatePiece,
+) -> Result<Piece, Memory>
+    requires { AllBelow (length kinds.now) (piece_columns piece.now) }
+    ensures { IfOk result (λ p. p ≡ moved_piece (length before.now) (piece_expr_of kinds.now piece.now)) }
 {
     match piece {
         TemplatePiece::Fixed(text) => Ok(Piece::Chars(text.copy()?)),
         TemplatePiece::Column(column) => {
-            let place = place_behind(first, *column)?;
+            let place = place_behind(kinds, before, *column);
             Ok(Piece::Hole(place, kind_at(kinds, *column)))
         }
     }
@@ -122,12 +133,10 @@ fn kind_at(kinds: &[SqlType], column: usize) -> SqlType
     }
 }
 
-/// The place of a column behind `first` others. No row is so long that there is none.
-fn place_behind(first: usize, column: usize) -> Result<usize, Memory>
-    ensures { IfOk result (λ place. place ≡ column + first) }
+/// The place of a column of these kinds behind the columns of `before`.
+fn place_behind(kinds: &[SqlType], before: &[SqlType], column: usize) -> usize
+    requires { column < length kinds.now }
+    ensures { result ≡ column + length before.now }
 {
-    match column.checked_add(first) {
-        Some(place) => Ok(place),
-        None => Err(Memory),
-    }
+    column + before.len()
 }

@@ -1,8 +1,8 @@
 // The quad rules of a mapping as rules over rows.
-ghost use Rattle.std.specs.Prelude.{◌≡◌, IfOk, length, map, option_map};
-ghost use Rattle.vkg_row_rules.specs.RowRules.{object_term as object_expr, row_rule as rule_over_rows};
+ghost use Rattle.std.specs.Prelude.{◌≡◌, IfOk, IfSome, length, map, option_map};
+ghost use Rattle.vkg_row_rules.specs.RowRules.{AreOver, IsRuleOver, object_kinds, object_term as object_expr, row_rule as rule_over_rows};
 ghost use Rattle.vkg_row_rules.specs.RowTerms.{row_term as term_over_row};
-ghost use Rattle.vkg_maps.specs.Within.{kinds_at as kinds_of_table};
+ghost use Rattle.vkg_maps.specs.Within.{IsOver, kinds_at as kinds_of_table};
 
 use crate::row_rule::RowRule;
 use crate::row_terms::{row_term, term_behind};
@@ -14,13 +14,15 @@ use vkg_maps::{Join, QuadRule, TermMap};
 use vkg_plan::column_kinds;
 use vkg_schema::Table;
 
-/// The rules as rules over rows, in their order.
+/// The rules as rules over rows, in their order. Each term map has to be over the columns of its table, as those of a mapping within
+/// its schema are: so a column has a place behind those of another table.
 pub fn row_rules(
     alloc: Global,
     tables: &[Table],
     base: &Text,
     rules: &[QuadRule],
 ) -> Result<Items<RowRule>, Memory>
+    requires { AreOver tables.now rules.now }
     ensures { IfOk result (λ rs. rs ≡ map (rule_over_rows base.now tables.now) rules.now) }
 {
     let mut out = Items::new(alloc);
@@ -36,6 +38,7 @@ fn row_rule(
     base: &Text,
     rule: &QuadRule,
 ) -> Result<RowRule, Memory>
+    requires { IsRuleOver tables.now rule.now }
     ensures { IfOk result (λ r. r ≡ rule_over_rows base.now tables.now rule.now) }
 {
     let kinds = kinds_at(alloc, tables, rule.table)?;
@@ -63,13 +66,14 @@ fn object_term(
     join: &Option<Join>,
     object: &TermMap,
 ) -> Result<TermExpr, Memory>
+    requires { IsOver (object_kinds tables.now kinds.now join.now) object.now }
     ensures { IfOk result (λ e. e ≡ object_expr base.now tables.now kinds.now join.now object.now) }
 {
     match join {
         None => row_term(alloc, base, kinds, object),
         Some(join) => {
             let parents = kinds_at(alloc, tables, join.table)?;
-            term_behind(alloc, base, parents.as_slice(), kinds.len(), object)
+            term_behind(alloc, base, parents.as_slice(), kinds, object)
         }
     }
 }
@@ -80,6 +84,7 @@ fn graph_term(
     kinds: &[SqlType],
     graph: &Option<TermMap>,
 ) -> Result<Option<TermExpr>, Memory>
+    requires { IfSome graph.now (IsOver kinds.now) }
     ensures { IfOk result (λ g. g ≡ option_map (term_over_row base.now kinds.now) graph.now) }
 {
     match graph {

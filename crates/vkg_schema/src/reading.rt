@@ -7,6 +7,7 @@ use crate::resolve::resolve;
 use crate::schema::Schema;
 use std::alloc::Global;
 use std::str;
+use thiserror::Error;
 use vkg_base::Memory;
 use vkg_ddl::{TextFault, first_fault, read_written};
 use vkg_tokens::without_mark;
@@ -20,9 +21,11 @@ pub struct SchemaFault {
 }
 
 /// Why bytes are no schema.
-#[derive(Clone, Copy, Debug, PartialEq, Eq)]
+#[derive(Clone, Copy, Debug, PartialEq, Eq, Error)]
 pub enum SchemaError {
+    #[error("check {} fails at byte {}", .0.check, .0.at)]
     Fault(SchemaFault),
+    #[error("out of memory")]
     Memory,
 }
 

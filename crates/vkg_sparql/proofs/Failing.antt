@@ -17,7 +17,8 @@ use Rattle.vkg_sparql.specs.declared.names.Named.{Named}
 use Rattle.vkg_sparql.specs.declared.query.Query.{Query}
 use Rattle.vkg_sparql.specs.Environment.{environment_of, body_start}
 use Rattle.vkg_sparql.specs.Lexemes.{lexemes_of, named_of}
-use Rattle.vkg_sparql.specs.Reading.{sparql, sparql_tokens, kind_at, dead_check, fault, fault_of, query_of, parts, read, Says, IsQueryText, IsFaultOf, TextFails, no_token, too_deep, dead, cut_off, checked}
+use Rattle.vkg_sparql.specs.Reading.{sparql, sparql_tokens, kind_at, dead_check, fault, fault_of, query_of, parts, read, Says, IsQueryText, IsFaultOf, TextFails, lexical, too_deep, dead, cut_off, checked}
+use Rattle.vkg_turtle.proofs.Lexical.{first_of_text}
 
 module _ (text base : List ℕ) (u : IsUtf8 text) where
   -- the error is the one that is made of the fault
@@ -25,7 +26,7 @@ module _ (text base : List ℕ) (u : IsUtf8 text) where
   named e f n h = subst (TextFails text base) (sym n) h
 
   pub no_token_named : (e : QueryError) (at : ℕ) → e ≡ Fault (fault 1 at) → sparql_tokens text ≡ Err at → TextFails text base e
-  no_token_named e at n h = named e (fault 1 at) n (no_token u h)
+  no_token_named e at n h = named e (fault 1 at) n (lexical (first_of_text at u h))
 
   module _ (ts : List Token) (cut : sparql_tokens text ≡ Ok ts) where
     pub too_deep_named : (e : QueryError) (i at : ℕ) → e ≡ Fault (fault 3 at) → IsTooDeep sparql (kinds_of ts) i → at ≡ start_at ts i → TextFails text base e

@@ -4,13 +4,14 @@ use Rattle.std.proofs.lemmas.Option.{same_Some}
 use Rattle.vkg_grammar.specs.Kinds.{kinds_of, start_at}
 use Rattle.vkg_grammar.specs.OneTree.{IsTheTree}
 use Rattle.vkg_grammar.specs.Parsing.{IsFirstDead, IsCutOff}
-use Rattle.vkg_grammar.proofs.Outcomes.{same_tokens, same_place, not_tokens, alive_text, not_cut, one_dead, too_deep_once, deep_not_shallow}
+use Rattle.vkg_grammar.proofs.Outcomes.{same_tokens, alive_text, not_cut, one_dead, too_deep_once, deep_not_shallow}
 use Rattle.vkg_grammar.proofs.Same.{tree_derives}
 use Rattle.vkg_tokens.specs.Mark.{without_mark}
 use Rattle.vkg_sparql.specs.declared.fault.QueryFault.{QueryFault}
 use Rattle.vkg_sparql.specs.declared.grammar_table.TheConstants.{SPARQL}
 use Rattle.vkg_sparql.specs.declared.query.Query.{Query}
-use Rattle.vkg_sparql.specs.Reading.{sparql, kind_at, dead_check, fault, fault_of, query_of, read, Read, Says, IsTooDeepText, IsDeadText, IsCutOffText, IsQueryText, IsFaultOf, no_utf8, no_token, too_deep, dead, cut_off, checked, IsDetermined}
+use Rattle.vkg_sparql.specs.Reading.{sparql, kind_at, dead_check, fault, fault_of, query_of, read, Read, Says, IsTooDeepText, IsDeadText, IsCutOffText, IsQueryText, IsFaultOf, lexical, too_deep, dead, cut_off, checked, IsDetermined}
+use Rattle.vkg_turtle.proofs.Lexical.{one_first, not_bad}
 
 -- what was read of a text
 one_said : {text base : List ℕ} {r s : Read} → Says text base r → Says text base s → r ≡ s
@@ -59,46 +60,34 @@ one_value : (text base : List ℕ) (q other : Query) → IsQueryText text base q
 one_value text base q other a b = a.is ∙ ap query_of (one_said a.says b.says) ∙ sym b.is
 
 not_both : (text base : List ℕ) (q : Query) (f : QueryFault) → IsQueryText text base q → IsFaultOf text base f → ⊥
-not_both text base q f a (no_utf8 n e) = n a.utf8
-not_both text base q f a (no_token u e) = not_tokens a.says.cut e
+not_both text base q f a (lexical e) = not_bad a.utf8 a.says.cut e
 not_both text base q f a (too_deep u d) = said_deep a.says d
 not_both text base q f a (dead u d) = said_dead a.says d
 not_both text base q f a (cut_off u d e) = said_short a.says d
 not_both text base q f a (checked r u s e) = absurd (let g : ◌≡◌ {A = Option QueryFault} None (Some f) = sym a.fine ∙ ap fault_of (one_said a.says s) ∙ e in cc)
 
 one_fault : (text base : List ℕ) (f g : QueryFault) → IsFaultOf text base f → IsFaultOf text base g → f ≡ g
-one_fault text base f g (no_utf8 n e) (no_utf8 m d) = ap (fault 1) (e ∙ sym d)
-one_fault text base f g (no_utf8 n e) (no_token u d) = absurd (n u)
-one_fault text base f g (no_utf8 n e) (too_deep u d) = absurd (n u)
-one_fault text base f g (no_utf8 n e) (dead u d) = absurd (n u)
-one_fault text base f g (no_utf8 n e) (cut_off u d p) = absurd (n u)
-one_fault text base f g (no_utf8 n e) (checked r u d p) = absurd (n u)
-one_fault text base f g (no_token u e) (no_utf8 m d) = absurd (m u)
-one_fault text base f g (no_token u e) (no_token v d) = ap (fault 1) (same_place e d)
-one_fault text base f g (no_token u e) (too_deep v d) = absurd (not_tokens d.cut e)
-one_fault text base f g (no_token u e) (dead v d) = absurd (not_tokens d.cut e)
-one_fault text base f g (no_token u e) (cut_off v d p) = absurd (not_tokens d.cut e)
-one_fault text base f g (no_token u e) (checked r v d p) = absurd (not_tokens d.cut e)
-one_fault text base f g (too_deep u e) (no_utf8 m d) = absurd (m u)
-one_fault text base f g (too_deep u e) (no_token v d) = absurd (not_tokens e.cut d)
+one_fault text base f g (lexical e) (lexical d) = ap (fault 1) (one_first e d)
+one_fault text base f g (lexical e) (too_deep u d) = absurd (not_bad u d.cut e)
+one_fault text base f g (lexical e) (dead u d) = absurd (not_bad u d.cut e)
+one_fault text base f g (lexical e) (cut_off u d p) = absurd (not_bad u d.cut e)
+one_fault text base f g (lexical e) (checked r u d p) = absurd (not_bad u d.cut e)
+one_fault text base f g (too_deep u e) (lexical d) = absurd (not_bad u e.cut d)
 one_fault text base f g (too_deep u e) (too_deep v d) = ap (fault 3) (one_too_deep e d)
 one_fault text base f g (too_deep u e) (dead v d) = absurd (deep_not_shallow sparql e.cut d.cut e.deep d.shallow)
 one_fault text base f g (too_deep u e) (cut_off v d p) = absurd (deep_not_shallow sparql e.cut d.cut e.deep d.shallow)
 one_fault text base f g (too_deep u e) (checked r v d p) = absurd (said_deep d e)
-one_fault text base f g (dead u e) (no_utf8 m d) = absurd (m u)
-one_fault text base f g (dead u e) (no_token v d) = absurd (not_tokens e.cut d)
+one_fault text base f g (dead u e) (lexical d) = absurd (not_bad u e.cut d)
 one_fault text base f g (dead u e) (too_deep v d) = absurd (deep_not_shallow sparql d.cut e.cut d.deep e.shallow)
 one_fault text base f g (dead u e) (dead v d) = one_dead_text e d
 one_fault text base f g (dead u e) (cut_off v d p) = absurd (dead_or_short e d)
 one_fault text base f g (dead u e) (checked r v d p) = absurd (said_dead d e)
-one_fault text base f g (cut_off u e q) (no_utf8 m d) = absurd (m u)
-one_fault text base f g (cut_off u e q) (no_token v d) = absurd (not_tokens e.cut d)
+one_fault text base f g (cut_off u e q) (lexical d) = absurd (not_bad u e.cut d)
 one_fault text base f g (cut_off u e q) (too_deep v d) = absurd (deep_not_shallow sparql d.cut e.cut d.deep e.shallow)
 one_fault text base f g (cut_off u e q) (dead v d) = absurd (dead_or_short d e)
 one_fault text base f g (cut_off u e q) (cut_off v d p) = ap (fault 2) (q ∙ sym p)
 one_fault text base f g (cut_off u e q) (checked r v d p) = absurd (said_short d e)
-one_fault text base f g (checked s u e q) (no_utf8 m d) = absurd (m u)
-one_fault text base f g (checked s u e q) (no_token v d) = absurd (not_tokens e.cut d)
+one_fault text base f g (checked s u e q) (lexical d) = absurd (not_bad u e.cut d)
 one_fault text base f g (checked s u e q) (too_deep v d) = absurd (said_deep e d)
 one_fault text base f g (checked s u e q) (dead v d) = absurd (said_dead e d)
 one_fault text base f g (checked s u e q) (cut_off v d p) = absurd (said_short e d)

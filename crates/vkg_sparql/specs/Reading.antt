@@ -1,6 +1,5 @@
 -- Which bytes are a query, what it says, and the first fault of others.
-use Rattle.std.specs.Prelude.{◌≡◌, ℕ, Bool, ◌||◌, List, [], ◌∷◌, drop, length, slice_index_or, IsUtf8, Option, Some, None, Ok, Err, if◌then◌else◌, ◌==◌, nat_le, ◌&&◌, Result}
-use Rattle.std.specs.Str.Lossy.{utf8_valid_len}
+use Rattle.std.specs.Prelude.{◌≡◌, ℕ, Bool, ◌||◌, List, [], ◌∷◌, drop, length, slice_index_or, IsUtf8, Option, Some, None, Ok, if◌then◌else◌, ◌==◌, nat_le, ◌&&◌, Result}
 use Rattle.std.specs.Option.{option_or}
 use Rattle.vkg_grammar.specs.Form.{Form, IsTooDeep, IsShallow}
 use Rattle.vkg_grammar.specs.Kinds.{kinds_of, start_at}
@@ -12,6 +11,7 @@ use Rattle.vkg_tokens.specs.declared.cutting.Token.{Token}
 use Rattle.vkg_tokens.specs.declared.lang.Lang.TheVariants.{Sparql}
 use Rattle.vkg_tokens.specs.Cut.{tokens_of}
 use Rattle.vkg_tokens.specs.Mark.{without_mark}
+use Rattle.vkg_turtle.specs.Lexical.{IsFirstBad}
 use Rattle.vkg_sparql.specs.declared.checks.Check.TheVariants.{Unknown, Relative, Float, Wide}
 use Rattle.vkg_sparql.specs.declared.environment.Environment.{Environment}
 use Rattle.vkg_sparql.specs.declared.grammar_table.TheConstants.{SPARQL}
@@ -141,11 +141,10 @@ pub record IsQueryText (text base : List ℕ) (q : Query) : Type 0 where
   pub fine : fault_of said ≡ None
   pub is : q ≡ query_of said
 
--- The first fault of a text: what is no UTF-8, then no token, then too many brackets, then a dead token or an early end,
--- then the checks.
+-- The first fault of a text: the least place at which no token begins or the bytes are no UTF-8, then too many brackets, then a
+-- dead token or an early end, then the checks.
 pub data IsFaultOf (text base : List ℕ) : QueryFault → Type 0 where
-  no_utf8 : {at : ℕ} → (IsUtf8 text → ⊥) → at ≡ utf8_valid_len text → IsFaultOf text base (fault 1 at)
-  no_token : {at : ℕ} → IsUtf8 text → sparql_tokens text ≡ Err at → IsFaultOf text base (fault 1 at)
+  lexical : {at : ℕ} → IsFirstBad Sparql text at → IsFaultOf text base (fault 1 at)
   too_deep : {at : ℕ} → IsUtf8 text → IsTooDeepText text at → IsFaultOf text base (fault 3 at)
   dead : {f : QueryFault} → IsUtf8 text → IsDeadText text f → IsFaultOf text base f
   cut_off : {at : ℕ} → IsUtf8 text → IsCutOffText text → at ≡ length text → IsFaultOf text base (fault 2 at)

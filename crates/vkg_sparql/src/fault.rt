@@ -2,6 +2,7 @@ ghost use Rattle.std.specs.Prelude.{◌≡◌};
 ghost use Rattle.vkg_sparql.specs.Reading.{fault};
 ghost use Rattle.vkg_sparql.specs.declared.fault.QueryError.TheVariants.{Fault, Memory as OutOfMemory};
 
+use thiserror::Error;
 use vkg_base::Memory;
 
 /// The first fault of a query: the number of its check, and the byte at which it stands, counted behind a byte order mark.
@@ -12,9 +13,11 @@ pub struct QueryFault {
 }
 
 /// Why bytes are no query.
-#[derive(Clone, Copy, Debug, PartialEq, Eq)]
+#[derive(Clone, Copy, Debug, PartialEq, Eq, Error)]
 pub enum QueryError {
+    #[error("check {check} fails at byte {at}", check = .0.check, at = .0.at)]
     Fault(QueryFault),
+    #[error("want of memory")]
     Memory,
 }
 

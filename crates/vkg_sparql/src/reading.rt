@@ -17,6 +17,7 @@ use std::alloc::Global;
 use std::str;
 use vkg_grammar::{Grammar, ParseFault, Parsed, Rule, parse_tree, start_of};
 use vkg_tokens::{Lang, Token, TokensError, tokens, without_mark};
+use vkg_turtle::first_bad;
 
 fn rules() -> &'static [Rule]
     ensures { result.now ≡ SPARQL }
@@ -118,14 +119,14 @@ fn read_text(alloc: Global, bytes: &[u8], base: &str) -> Result<Query, QueryErro
 {
     match str::from_utf8(bytes) {
         Ok(text) => read_str(alloc, text, base),
-        Err(e) => Err(fault(1, e.valid_up_to())),
+        Err(_) => Err(fault(1, first_bad(alloc, Lang::Sparql, bytes)?)),
     }
 }
 
 /// The query of a text (SPARQL 1.1, in the profile of this project), whose IRI references are resolved against `base`, an
 /// absolute IRI, where its prologue gives no other.
 ///
-/// Faults, the first of which is named: 1, no token begins here, or the bytes are not UTF-8 from here; 3, the bracket that
+/// Faults, the first of which is named: 1, the least place at which no token begins or the bytes are no UTF-8; 3, the bracket that
 /// makes depth 65; at the first token that no query goes on with, 7 where it is one of the words and signs of SPARQL 1.1 that are told as
 /// left out, and else 2, or 2 at the length of a text that ends too early; then the least of these checks, at its least place: 4, a prefix
 /// that is not declared; 5, an IRI that is not absolute, also one of the prologue; 6, a blank node label in a second basic

@@ -1,7 +1,7 @@
 ghost use Rattle.std.specs.Prelude.{◌≡◌};
 ghost use Rattle.vkg_tables.specs.declared.fault.FileError.TheVariants.{Memory as OutOfMemory};
 
-use std::alloc::{AllocError, AllocFailed};
+use thiserror::Error;
 use vkg_base::Memory;
 
 // A check that fails at a row and a column of a file, which count from 1. The header is row 0, and column 0 is a whole row.
@@ -13,26 +13,12 @@ pub struct FileFault {
 }
 
 // Why the rows of a file are not read.
-#[derive(Clone, Copy, Debug, PartialEq, Eq)]
+#[derive(Clone, Copy, Debug, PartialEq, Eq, Error)]
 pub enum FileError {
+    #[error("check {} fails at row {}, column {}", .0.check, .0.row, .0.column)]
     Fault(FileFault),
+    #[error("out of memory")]
     Memory,
-}
-
-impl From<AllocError> for FileError {
-    ghost from_gives = { λ _ e. e ≡ OutOfMemory };
-
-    fn from(_e: AllocError) -> FileError {
-        FileError::Memory
-    }
-}
-
-impl<T: Drop> From<AllocFailed<T>> for FileError {
-    ghost from_gives = { λ _ e. e ≡ OutOfMemory };
-
-    fn from(_e: AllocFailed<T>) -> FileError {
-        FileError::Memory
-    }
 }
 
 impl From<Memory> for FileError {
@@ -63,8 +49,10 @@ pub struct TableFault {
 }
 
 /// Why a table is not loaded, or a database does not meet its schema.
-#[derive(Clone, Copy, Debug, PartialEq, Eq)]
+#[derive(Clone, Copy, Debug, PartialEq, Eq, Error)]
 pub enum TableError {
+    #[error("check {} fails in table {} at row {}, column {}", .0.check, .0.table, .0.row, .0.column)]
     Fault(TableFault),
+    #[error("out of memory")]
     Memory,
 }

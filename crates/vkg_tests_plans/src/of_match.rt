@@ -1,6 +1,6 @@
 use std::alloc::Global;
 use vkg_base::{Items, Memory, Text};
-use vkg_cells::SqlType;
+use vkg_cells::{Cell, SqlType};
 use vkg_expr::{Expr, Piece, Sort, TermExpr};
 use vkg_match::*;
 use vkg_terms::Term;
@@ -27,83 +27,152 @@ fn fixed(alloc: Global, iri: &str) -> Result<TermExpr, Memory> {
     Ok(TermExpr::Fixed(Term::Iri(Text::new(alloc, iri)?)))
 }
 
-/// How many equalities there are, and how many of them begin with a cell.
-fn counts(verdict: &Verdict) -> Option<(usize, usize)> {
-    match verdict {
-        Verdict::Never => None,
-        Verdict::All(list) => Some((list.len(), cells_of(list.as_slice()))),
-    }
+fn write_text(out: &mut String, text: &str) -> Result<(), Memory> {
+    out.push_str("'")?;
+    out.push_str(text)?;
+    out.push_str("'")?;
+    Ok(())
 }
 
-fn cells_of(list: &[Expr]) -> usize {
-    list.iter().filter(|e| begins_with_cell(e)).count()
-}
-
-fn begins_with_cell(e: &Expr) -> bool {
+/// A column by its number, or a constant with its kind.
+fn write_leaf(out: &mut String, e: &Expr) -> Result<(), Memory> {
     match e {
-        Expr::Same(a, _) => is_cell(a),
-        _ => false,
+        Expr::Col(0) => out.push_str("c0")?,
+        Expr::Col(1) => out.push_str("c1")?,
+        Expr::Col(2) => out.push_str("c2")?,
+        Expr::Col(3) => out.push_str("c3")?,
+        Expr::Const(Cell::Text(text), SqlType::Text) => write_text(out, text.as_str())?,
+        Expr::Const(Cell::Int(form), SqlType::Int) => out.push_str(form.as_str())?,
+        _ => out.push_str("another")?,
+    }
+    Ok(())
+}
+
+fn write_form(out: &mut String, e: &Expr) -> Result<(), Memory> {
+    match e {
+        Expr::Lex(e) => {
+            out.push_str("lex ")?;
+            write_leaf(out, e)
+        }
+        _ => write_leaf(out, e),
     }
 }
 
-fn is_cell(e: &Expr) -> bool {
-    matches!(e, Expr::Col(_))
+fn write_safe(out: &mut String, e: &Expr) -> Result<(), Memory> {
+    match e {
+        Expr::IriSafe(e) => {
+            out.push_str("safe ")?;
+            write_form(out, e)
+        }
+        _ => write_form(out, e),
+    }
 }
 
-fn of_two(alloc: Global, first: &str, second: &str) -> Result<Option<(usize, usize)>, Memory> {
+fn write_parts(out: &mut String, parts: &[Expr]) -> Result<(), Memory> {
+    for part in parts {
+        out.push_str("(")?;
+        write_safe(out, part)?;
+        out.push_str(")")?;
+    }
+    Ok(())
+}
+
+fn write_side(out: &mut String, e: &Expr) -> Result<(), Memory> {
+    match e {
+        Expr::Concat(parts) => write_parts(out, parts.as_slice()),
+        _ => write_safe(out, e),
+    }
+}
+
+fn write_equality(out: &mut String, e: &Expr) -> Result<(), Memory> {
+    match e {
+        Expr::Same(a, b) => {
+            write_side(out, a)?;
+            out.push_str(" = ")?;
+            write_side(out, b)?;
+        }
+        _ => out.push_str("another")?,
+    }
+    out.push_str("; ")?;
+    Ok(())
+}
+
+/// The whole verdict: each of its equalities in order, with a `;` behind it. What a verdict's equality is not made of is `another`.
+fn verdict_text(alloc: Global, e: &TermExpr, f: &TermExpr) -> Result<String, Memory> {
+    let mut out = String::new(alloc);
+    match verdict(alloc, e, f)? {
+        Verdict::Never => out.push_str("never")?,
+        Verdict::All(list) => {
+            for e in list.as_slice() {
+                write_equality(&mut out, e)?;
+            }
+        }
+    }
+    Ok(out)
+}
+
+fn of_two(alloc: Global, first: &str, second: &str) -> Result<String, Memory> {
     let e = two(alloc, 0, first, 1)?;
     let f = two(alloc, 2, second, 3)?;
-    Ok(counts(&verdict(alloc, &e, &f)?))
+    verdict_text(alloc, &e, &f)
 }
 
-fn of_fixed(alloc: Global, sign: &str, iri: &str) -> Result<Option<(usize, usize)>, Memory> {
+fn of_fixed(alloc: Global, sign: &str, iri: &str) -> Result<String, Memory> {
     let e = two(alloc, 0, sign, 1)?;
     let f = fixed(alloc, iri)?;
-    Ok(counts(&verdict(alloc, &e, &f)?))
+    verdict_text(alloc, &e, &f)
 }
 
-fn of_employee(alloc: Global, iri: &str) -> Result<Option<(usize, usize)>, Memory> {
+fn of_employee(alloc: Global, iri: &str) -> Result<String, Memory> {
     let e = employee(alloc)?;
     let f = fixed(alloc, iri)?;
-    Ok(counts(&verdict(alloc, &e, &f)?))
+    verdict_text(alloc, &e, &f)
 }
 
 #[test]
 fn two_templates(rt: HostRuntime) {
     let rows = [
-        ("-", "-", Some((1, 0))),
-        ("/", "/", Some((2, 2))),
-        ("/", "-", None),
+        (
+            "-",
+            "-",
+            "(safe lex c0)('-')(safe lex c1) = (safe lex c2)('-')(safe lex c3); ",
+        ),
+        ("/", "/", "c0 = c2; c1 = c3; "),
+        ("/", "-", "never"),
     ];
     for (first, second, wanted) in rows {
         let found = of_two(rt.alloc(), first, second).expect(&rt, "memory");
-        assert!(rt; found == wanted, "{first} {second}");
+        assert_eq!(rt; found.as_str(), wanted, "{first} {second}");
     }
 }
 
 #[test]
 fn a_template_and_an_iri(rt: HostRuntime) {
     let rows = [
-        ("-", "http://e/x/y/z", None),
-        ("/", "http://e/x/y/z", None),
-        ("/", "http://e/x/y", Some((2, 2))),
-        ("-", "http://e/x-y", Some((1, 0))),
+        ("-", "http://e/x/y/z", "never"),
+        ("/", "http://e/x/y/z", "never"),
+        ("/", "http://e/x/y", "c0 = 'x'; c1 = 'y'; "),
+        (
+            "-",
+            "http://e/x-y",
+            "(safe lex c0)('-')(safe lex c1) = 'x-y'; ",
+        ),
     ];
     for (sign, iri, wanted) in rows {
         let found = of_fixed(rt.alloc(), sign, iri).expect(&rt, "memory");
-        assert!(rt; found == wanted, "{sign} {iri}");
+        assert_eq!(rt; found.as_str(), wanted, "{sign} {iri}");
     }
 }
 
 #[test]
 fn leading_zeros(rt: HostRuntime) {
     let rows = [
-        ("http://e/emp/id=7", Some((1, 1))),
-        ("http://e/emp/id=07", None),
+        ("http://e/emp/id=7", "c0 = 7; "),
+        ("http://e/emp/id=07", "never"),
     ];
     for (iri, wanted) in rows {
         let found = of_employee(rt.alloc(), iri).expect(&rt, "memory");
-        assert!(rt; found == wanted, "{iri}");
+        assert_eq!(rt; found.as_str(), wanted, "{iri}");
     }
 }
 

@@ -2,8 +2,8 @@ use std::test::Fail;
 use vkg_sparql::{QueryError, read_query};
 
 // The check and the place of the first fault, or the number of names and whether DISTINCT is asked.
-fn shown(rt: &HostRuntime, text: &str) -> Result<String, Fail> {
-    match read_query(rt.alloc(), text.as_bytes(), "http://h/") {
+fn shown(rt: &HostRuntime, bytes: &[u8]) -> Result<String, Fail> {
+    match read_query(rt.alloc(), bytes, "http://h/") {
         Ok(query) => {
             let names = query.names.len();
             let parts = query.group.len();
@@ -34,7 +34,7 @@ fn queries_are_read(rt: HostRuntime) -> Result<(), Fail> {
         ),
     ];
     for (text, want) in rows.iter() {
-        let found = shown(&rt, text)?;
+        let found = shown(&rt, text.as_bytes())?;
         assert_eq!(rt; found.as_str(), *want, "at {text}");
     }
     Ok(())
@@ -62,8 +62,23 @@ fn each_fault_is_named(rt: HostRuntime) -> Result<(), Fail> {
         ),
     ];
     for (text, want) in rows.iter() {
-        let found = shown(&rt, text)?;
+        let found = shown(&rt, text.as_bytes())?;
         assert_eq!(rt; found.as_str(), *want, "at {text}");
+    }
+    Ok(())
+}
+
+// The least place at which no token begins or the bytes are no UTF-8.
+#[test]
+fn bad_bytes_have_their_place(rt: HostRuntime) -> Result<(), Fail> {
+    let rows = [
+        (b"SELECT * { ?s ~ ?o } # \xff".as_slice(), "Q01 14"),
+        (b"SELECT * { ?s ?p ?o } # \xff".as_slice(), "Q01 24"),
+        (b"\xef\xbb\xbfSELECT * { 'a\xff' }".as_slice(), "Q01 11"),
+    ];
+    for (bytes, want) in rows.iter() {
+        let found = shown(&rt, bytes)?;
+        assert_eq!(rt; found.as_str(), *want);
     }
     Ok(())
 }
@@ -98,7 +113,7 @@ fn limits_are_named(rt: HostRuntime) -> Result<(), Fail> {
         (too_many.as_str(), "Q09 2056"),
     ];
     for (text, want) in rows.iter() {
-        let found = shown(&rt, text)?;
+        let found = shown(&rt, text.as_bytes())?;
         assert_eq!(rt; found.as_str(), *want);
     }
     Ok(())

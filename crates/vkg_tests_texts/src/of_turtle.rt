@@ -140,8 +140,20 @@ fn each_fault_has_its_place(rt: HostRuntime) {
     ] {
         assert_eq!(rt; answer(&rt, text.as_bytes()), Err(want), "at {text}");
     }
-    assert_eq!(rt; answer(&rt, b"a \" \xff"), Err((1, 4)));
-    assert_eq!(rt; answer(&rt, b"\xef\xbb\xbf\xff"), Err((1, 0)));
+}
+
+// The least place at which no token begins or the bytes are no UTF-8.
+#[test]
+fn bad_bytes_have_their_place(rt: HostRuntime) {
+    for (bytes, want) in [
+        (b"a \" \xff".as_slice(), (1u8, 2usize)),
+        (b"a # \" \xff".as_slice(), (1, 6)),
+        (b"\xef\xbb\xbf\xff".as_slice(), (1, 0)),
+        (b"\xef\xbb\xbfa \" \xff".as_slice(), (1, 2)),
+        (b"<s> <p> <\xff> .".as_slice(), (1, 8)),
+    ] {
+        assert_eq!(rt; answer(&rt, bytes), Err(want));
+    }
 }
 
 // A statement whose object is so many brackets, one in another.

@@ -10,7 +10,8 @@ use Rattle.vkg_turtle.specs.declared.grammar_table.TheConstants.{TURTLE}
 use Rattle.vkg_turtle.specs.declared.reading.TurtleError.{TurtleError}
 use Rattle.vkg_turtle.specs.declared.reading.TurtleError.TheVariants.{Fault}
 use Rattle.vkg_turtle.specs.declared.reading.TurtleFault.{TurtleFault}
-use Rattle.vkg_turtle.specs.Reading.{turtle, turtle_tokens, fault, fault_of, Says, IsFaultOf, TextFails, no_token, too_deep, no_text, no_document}
+use Rattle.vkg_turtle.specs.Reading.{turtle, turtle_tokens, fault, fault_of, Says, IsFaultOf, TextFails, lexical, too_deep, no_text, no_document}
+use Rattle.vkg_turtle.proofs.Lexical.{first_of_text}
 
 module _ (text base : List ℕ) (u : IsUtf8 text) where
   -- the error is the one that is made of the fault
@@ -18,7 +19,7 @@ module _ (text base : List ℕ) (u : IsUtf8 text) where
   named e f n h = subst (TextFails text base) (sym n) h
 
   pub no_token_named : (e : TurtleError) (at : ℕ) → e ≡ Fault (fault 1 at) → turtle_tokens text ≡ Err at → TextFails text base e
-  no_token_named e at n h = named e (fault 1 at) n (no_token u h)
+  no_token_named e at n h = named e (fault 1 at) n (lexical (first_of_text at u h))
 
   module _ (ts xs ys : List Token) (cut : turtle_tokens text ≡ Ok ts) (x : xs ≡ ts) (y : ys ≡ ts) where
     pub too_deep_named : (e : TurtleError) (i at : ℕ) → e ≡ Fault (fault 3 at) → IsTooDeep turtle (kinds_of xs) i → at ≡ start_at ys i → TextFails text base e

@@ -4,5 +4,6 @@ pub mod Escaping
 pub mod Examples
 pub mod Failing
 pub mod Lasts
+pub mod Lexical
 pub mod Meaning
 pub mod One

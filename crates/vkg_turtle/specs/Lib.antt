@@ -3,4 +3,5 @@ pub mod Escapes
 pub mod Words
 pub mod SameTriple
 pub mod Document
+pub mod Lexical
 pub mod Reading

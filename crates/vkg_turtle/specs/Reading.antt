@@ -1,6 +1,5 @@
 -- Which bytes are a document, its triples, and the first fault of others.
-use Rattle.std.specs.Prelude.{◌≡◌, ℕ, List, [], ◌∷◌, IsUtf8, Option, Some, None, Ok, Err, Result}
-use Rattle.std.specs.Str.Lossy.{utf8_valid_len}
+use Rattle.std.specs.Prelude.{◌≡◌, ℕ, List, [], ◌∷◌, IsUtf8, Option, Some, None, Ok, Result}
 use Rattle.vkg_grammar.specs.declared.note.Note.{Note}
 use Rattle.vkg_grammar.specs.Form.{Form, IsTooDeep, IsShallow}
 use Rattle.vkg_grammar.specs.Kinds.{kinds_of, start_at}
@@ -16,6 +15,7 @@ use Rattle.vkg_turtle.specs.declared.reading.TurtleError.TheVariants.{Fault, Mem
 use Rattle.vkg_turtle.specs.declared.reading.TurtleFault.{TurtleFault}
 use Rattle.vkg_turtle.specs.declared.triple.Triple.{Triple}
 use Rattle.vkg_turtle.specs.Document.{document_of, begun, triples_of}
+use Rattle.vkg_turtle.specs.Lexical.{IsFirstBad}
 use Rattle.vkg_turtle.specs.Words.{lexemes_of}
 
 -- the tokens of a document
@@ -75,11 +75,10 @@ pub record IsDocumentText (text base : List ℕ) (triples : List Triple) : Type 
   pub fine : fault_of document ≡ None
   pub are : triples ≡ triples_of document
 
--- The first fault of a text: what is no UTF-8, then no token, then too many brackets, then no text of the grammar, then
--- the checks.
+-- The first fault of a text: the least place at which no token begins or the bytes are no UTF-8, then too many brackets, then
+-- no text of the grammar, then the checks.
 pub data IsFaultOf (text base : List ℕ) : TurtleFault → Type 0 where
-  no_utf8 : {at : ℕ} → (IsUtf8 text → ⊥) → at ≡ utf8_valid_len text → IsFaultOf text base (fault 1 at)
-  no_token : {at : ℕ} → IsUtf8 text → turtle_tokens text ≡ Err at → IsFaultOf text base (fault 1 at)
+  lexical : {at : ℕ} → IsFirstBad Turtle text at → IsFaultOf text base (fault 1 at)
   too_deep : {at : ℕ} → IsUtf8 text → IsTooDeepText text at → IsFaultOf text base (fault 3 at)
   no_text : {at : ℕ} → IsUtf8 text → IsNoText text at → IsFaultOf text base (fault 2 at)
   no_document : {f : TurtleFault} (document : Document) → IsUtf8 text → Says text base document → fault_of document ≡ Some f → IsFaultOf text base f

@@ -8,6 +8,7 @@
 //! for prefixes and for repeated triples, on `itoa` for the labels of brackets.
 #![tactic(auto)]
 
+mod bad_place;
 mod document;
 mod escape;
 mod grammar_table;
@@ -20,6 +21,7 @@ mod repeats;
 mod role;
 mod triple;
 
+pub use bad_place::first_bad;
 pub use document::{or_empty, typed};
 pub use grammar_table::{ROLES, TURTLE};
 pub use lexeme::{Word, between, lowered, word_of};

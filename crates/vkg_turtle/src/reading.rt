@@ -2,14 +2,16 @@ ghost use Rattle.std.specs.Prelude.{◌≡◌, IfOk, IfErr};
 ghost use Rattle.vkg_turtle.specs.Reading.{IsDocumentOf, IsDocumentText, Fails, TextFails, IsDetermined, fault, fault_of};
 ghost use Rattle.vkg_turtle.specs.declared.reading.TurtleError.TheVariants.{Fault, Memory as OutOfMemory};
 
+use crate::bad_place::first_bad;
 use crate::document::Document;
 use crate::parsing::read_document;
 use crate::repeats::without_repeats;
 use crate::triple::Triple;
 use std::alloc::Global;
 use std::str;
+use thiserror::Error;
 use vkg_base::{Items, Memory};
-use vkg_tokens::without_mark;
+use vkg_tokens::{Lang, without_mark};
 
 /// The first fault of a document: the number of its check, and the byte at which it stands, counted behind a byte
 /// order mark.
@@ -20,9 +22,11 @@ pub struct TurtleFault {
 }
 
 /// Why bytes are no document.
-#[derive(Clone, Copy, Debug, PartialEq, Eq)]
+#[derive(Clone, Copy, Debug, PartialEq, Eq, Error)]
 pub enum TurtleError {
+    #[error("check {check} fails at byte {at}", check = .0.check, at = .0.at)]
     Fault(TurtleFault),
+    #[error("want of memory")]
     Memory,
 }
 
@@ -56,7 +60,7 @@ fn read_text(alloc: Global, bytes: &[u8], base: &str) -> Result<Items<Triple>, T
 {
     let text = match str::from_utf8(bytes) {
         Ok(text) => text,
-        Err(e) => return Err(fault(1, e.valid_up_to())),
+        Err(_) => return Err(fault(1, first_bad(alloc, Lang::Turtle, bytes)?)),
     };
     let document = read_document(alloc, text, base)?;
     if let Some(found) = fault_of(&document) {
@@ -70,7 +74,7 @@ fn read_text(alloc: Global, bytes: &[u8], base: &str) -> Result<Items<Triple>, T
 /// They stand in the order in which their objects begin, a repeated triple once. One byte order mark at the front is
 /// passed over. Collections are no part of the grammar, and at most 64 brackets may be open at once.
 ///
-/// Faults, the first of which is named: 1, no token begins here, or the bytes are not UTF-8 from here; 3, the bracket that
+/// Faults, the first of which is named: 1, the least place at which no token begins or the bytes are no UTF-8; 3, the bracket that
 /// makes depth 65; 2, the first token that no document goes on with, or the length of a text that ends too early; 4, a
 /// name whose prefix is not declared; 5, an IRI that is not absolute.
 pub fn read_turtle(alloc: Global, bytes: &[u8], base: &str) -> Result<Items<Triple>, TurtleError>

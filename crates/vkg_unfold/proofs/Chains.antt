@@ -9,7 +9,7 @@ use Rattle.vkg_expr.specs.declared.expr.Expr.{Expr as ExprValue}
 use Rattle.vkg_expr.specs.Expr.{Expr, exprs}
 use Rattle.vkg_expr.specs.Seen.{expr_seen}
 use Rattle.vkg_expr.specs.Expr as expr
-use Rattle.vkg_unfold.specs.Conditions.{expr_of, gives_truth, to_truth, truth_expr}
+use Rattle.vkg_unfolded.specs.Conditions.{expr_of, gives_truth, to_truth, truth_expr}
 use Rattle.vkg_unfold.specs.Parts.{all_of, any_of, chain_all, chain_any}
 use Rattle.vkg_sparql.proofs.SeenForms.{seen-And, seen-Or}
 

@@ -1,7 +1,4 @@
-pub mod AlgebraColumns
 pub mod Chains
-pub mod Data
-mod Examples
-pub mod PlanColumns
+pub mod Joins
+pub mod Stands
 pub mod Steps
-pub mod TermKinds

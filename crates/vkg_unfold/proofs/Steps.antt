@@ -17,12 +17,12 @@ use Rattle.vkg_expr.specs.Expr as expr
 use Rattle.vkg_expr.specs.Logic.{and_of, or_of, truth_const}
 use Rattle.vkg_expr.specs.Seen.{expr_seen}
 use Rattle.vkg_row_rules.specs.declared.row_rule.RowRule.{RowRule}
-use Rattle.vkg_unfold.specs.declared.mode.Mode.{Mode}
-use Rattle.vkg_unfold.specs.declared.mode.Mode.TheVariants.{Default, InGraph, Each}
+use Rattle.vkg_unfolded.specs.declared.mode.Mode.{Mode}
+use Rattle.vkg_unfolded.specs.declared.mode.Mode.TheVariants.{Default, InGraph, Each}
 use Rattle.vkg_unfold.specs.declared.named.Named.{Named as NamedValue}
-use Rattle.vkg_unfold.specs.Conditions.{gives_truth, truth_expr}
+use Rattle.vkg_unfolded.specs.Conditions.{gives_truth, truth_expr}
 use Rattle.vkg_unfold.specs.Parts.{named_seen, some_or}
-use Rattle.vkg_unfold.specs.Unfolded.{again, graph_terms, if_each, merged, Name, name_eq, Named, named, numbered, pattern_places, places, repeats, same_name, visible_column}
+use Rattle.vkg_unfolded.specs.Unfolded.{again, graph_terms, if_each, merged, Name, name_eq, Named, named, numbered, pattern_places, places, repeats, same_name, visible_column}
 use Rattle.vkg_unfold.proofs.Chains.{truth-and, truth-or}
 
 -- ---- each once

@@ -3,8 +3,8 @@ use Rattle.std.specs.Prelude.{Bool, true, List, [], ◌∷◌}
 use Rattle.vkg_expr.specs.Expr.{Expr, And, Or, exprs}
 use Rattle.vkg_expr.specs.Seen.{expr_seen}
 use Rattle.vkg_unfold.specs.declared.named.Named.{Named as NamedValue}
-use Rattle.vkg_unfold.specs.Conditions.{to_truth}
-use Rattle.vkg_unfold.specs.Unfolded.{Named}
+use Rattle.vkg_unfolded.specs.Conditions.{to_truth}
+use Rattle.vkg_unfolded.specs.Unfolded.{Named}
 
 -- a name with its expression
 abbrev pub named_seen : NamedValue → Named

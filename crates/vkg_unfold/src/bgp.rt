@@ -7,10 +7,10 @@ ghost use Rattle.vkg_expr.specs.Expr.{Col};
 ghost use Rattle.vkg_expr.specs.Seen.{expr_seen};
 ghost use Rattle.vkg_plan.specs.Plan.{Plan};
 ghost use Rattle.vkg_plan.specs.Seen.{plan_seen};
-ghost use Rattle.vkg_unfold.specs.Unfolded.{bgp_plan, if_each, name_eq, numbered, pattern_names, pattern_plan, patterns_plan, repeats};
+ghost use Rattle.vkg_unfolded.specs.FittingRules.{FitJoins};
+ghost use Rattle.vkg_unfolded.specs.Unfolded.{bgp_plan, if_each, name_eq, numbered, pattern_names, pattern_plan, patterns_plan, repeats};
 
 use crate::exprs::and_of;
-use crate::mode::Mode;
 use crate::named::{numbered, pattern_names, repeats, same_name};
 use crate::pattern::{names_plan, pattern_plan};
 use std::alloc::Global;
@@ -21,6 +21,7 @@ use vkg_plan::Plan;
 use vkg_row_rules::RowRule;
 use vkg_schema::Table;
 use vkg_sparql::TriplePattern;
+use vkg_unfolded::Mode;
 
 /// The plan of a basic graph pattern. The empty one has one solution, in mode each one in each graph.
 pub(crate) fn bgp_plan(
@@ -30,6 +31,7 @@ pub(crate) fn bgp_plan(
     mode: &Mode,
     patterns: &[TriplePattern],
 ) -> Result<Plan, Memory>
+    requires { FitJoins schema.now rules.now }
     ensures { IfOk result (λ p. plan_seen p ≡ bgp_plan schema.now rules.now mode.now patterns.now) }
 {
     match (mode, patterns) {
@@ -48,6 +50,7 @@ fn joined(
     mode: &Mode,
     patterns: &[TriplePattern],
 ) -> Result<Plan, Memory>
+    requires { FitJoins schema.now rules.now }
     ensures { IfOk result (λ p. plan_seen p ≡ patterns_plan schema.now rules.now mode.now (visible (Bgp patterns.now)) patterns.now) }
 {
     let variables = variables_of_patterns(alloc, patterns)?;
@@ -82,6 +85,7 @@ fn pattern_plans(
     mode: &Mode,
     patterns: &[TriplePattern],
 ) -> Result<Items<Plan>, Memory>
+    requires { FitJoins schema.now rules.now }
     ensures { IfOk result (λ ps. map plan_seen ps ≡ map (pattern_plan schema.now rules.now mode.now) patterns.now) }
 {
     let mut members = Items::new(alloc);

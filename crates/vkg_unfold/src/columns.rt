@@ -5,14 +5,14 @@ ghost use Rattle.std.specs.List.{position_or_len};
 ghost use Rattle.vkg_expr.specs.Expr.{Coalesce, Col, exprs};
 ghost use Rattle.vkg_expr.specs.Seen.{expr_seen};
 ghost use Rattle.vkg_algebra.specs.Visible.{has};
-ghost use Rattle.vkg_unfold.specs.Unfolded.{columns_in, merged, null_term, right_column, visible_column};
+ghost use Rattle.vkg_unfolded.specs.Unfolded.{columns_in, merged, null_term, right_column, visible_column};
 
-use crate::mode::Mode;
 use std::alloc::Global;
 use vkg_algebra::Var;
 use vkg_base::{Box, Items, Memory};
 use vkg_cells::{Cell, SqlType};
 use vkg_expr::Expr;
+use vkg_unfolded::Mode;
 
 /// Whether a variable is there.
 pub(crate) fn has(variables: &[Var], variable: Var) -> bool

@@ -4,19 +4,19 @@ ghost use Rattle.vkg_sparql.specs.Seen.{condition_seen};
 ghost use Rattle.vkg_expr.specs.Expr.{IsNull, Same, Sparql, exprs};
 ghost use Rattle.vkg_expr.specs.Expr as expr;
 ghost use Rattle.vkg_expr.specs.Seen.{expr_seen};
-ghost use Rattle.vkg_unfold.specs.Conditions.{expr_of, gives_truth, to_term, to_truth, truth_expr};
+ghost use Rattle.vkg_unfolded.specs.Conditions.{expr_of, gives_truth, to_term, to_truth, truth_expr};
 ghost use Rattle.vkg_unfold.specs.Parts.{all_of, any_of, chain_all, chain_any, some_or};
-ghost use Rattle.vkg_unfold.specs.Unfolded.{merged, visible_column};
+ghost use Rattle.vkg_unfolded.specs.Unfolded.{merged, visible_column};
 
 use crate::columns::merged;
 use crate::exprs::{known, term_const};
-use crate::mode::Mode;
 use std::alloc::Global;
 use vkg_algebra::Var;
 use vkg_base::{Box, Items, Memory};
 use vkg_cells::{SqlType, natural};
 use vkg_expr::{Expr, Operator};
 use vkg_sparql::Condition;
+use vkg_unfolded::Mode;
 use vkg_values::{Compare, Take, Test};
 
 /// Whether an expression gives a truth; else it gives a term.

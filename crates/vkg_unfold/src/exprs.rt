@@ -5,7 +5,7 @@ ghost use Rattle.vkg_expr.specs.Expr.{Col, IriOf, IsNull, Lex, MakeIri, Not, Sam
 ghost use Rattle.vkg_expr.specs.Logic.{and_of, or_of, truth_const};
 ghost use Rattle.vkg_expr.specs.Seen.{expr_seen};
 ghost use Rattle.vkg_expr.specs.TermExprs.{made, term_const, term_expr};
-ghost use Rattle.vkg_unfold.specs.Unfolded.{default_graph};
+ghost use Rattle.vkg_unfolded.specs.Unfolded.{default_graph};
 
 use std::alloc::Global;
 use vkg_base::{Box, Items, Memory, Text};

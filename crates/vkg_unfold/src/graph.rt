@@ -5,13 +5,13 @@ ghost use Rattle.vkg_algebra.specs.Visible.{each_once, visible};
 ghost use Rattle.vkg_expr.specs.Expr.{Col};
 ghost use Rattle.vkg_expr.specs.Seen.{expr_seen};
 ghost use Rattle.vkg_plan.specs.Seen.{plan_seen};
-ghost use Rattle.vkg_unfold.specs.Unfolded.{after, column, each_graph, graph_column, in_its_graph, in_mode, is_pattern, named_graph};
+ghost use Rattle.vkg_unfolded.specs.FittingRules.{FitJoins};
+ghost use Rattle.vkg_unfolded.specs.Unfolded.{after, column, each_graph, graph_column, in_its_graph, in_mode, is_pattern, named_graph};
 ghost use Rattle.vkg_plan.specs.Plan.{Join, plans};
 ghost use Rattle.vkg_expr.specs.Logic.{truth_const};
 
 use crate::columns::{has, place};
 use crate::exprs::{or_of, truth_const};
-use crate::mode::Mode;
 use crate::pattern::{exists_plan, names_plan, same_columns};
 use crate::two::{two, unbound};
 use std::alloc::Global;
@@ -21,6 +21,7 @@ use vkg_expr::Expr;
 use vkg_plan::Plan;
 use vkg_row_rules::RowRule;
 use vkg_schema::Table;
+use vkg_unfolded::Mode;
 
 /// GRAPH with an IRI, of the plan in that graph.
 pub(crate) fn graph_of_name(
@@ -32,6 +33,7 @@ pub(crate) fn graph_of_name(
     a: &Algebra,
     p: Result<Box<Plan>, Memory>,
 ) -> Result<Box<Plan>, Memory>
+    requires { FitJoins schema.now rules.now }
     ensures { IfOk result (λ r. IsOkAnd p (λ x. plan_seen r ≡ in_mode schema.now rules.now mode.now (visible (algebra_seen a.now)) (named_graph schema.now rules.now (algebra_seen a.now) iri.now (plan_seen x)))) }
 {
     let p = p?;
@@ -50,6 +52,7 @@ pub(crate) fn graph_of_each(
     a: &Algebra,
     p: Result<Box<Plan>, Memory>,
 ) -> Result<Box<Plan>, Memory>
+    requires { FitJoins schema.now rules.now }
     ensures { IfOk result (λ r. IsOkAnd p (λ x. plan_seen r ≡ in_mode schema.now rules.now mode.now (each_once (variable ∷ visible (algebra_seen a.now))) (each_graph (visible (algebra_seen a.now)) variable (plan_seen x)))) }
 {
     let p = p?;
@@ -78,6 +81,7 @@ fn in_mode(
     variables: &[Var],
     p: Box<Plan>,
 ) -> Result<Box<Plan>, Memory>
+    requires { FitJoins schema.now rules.now }
     ensures { IfOk result (λ r. plan_seen r ≡ in_mode schema.now rules.now mode.now variables.now (plan_seen p)) }
 {
     match mode {
@@ -100,7 +104,8 @@ fn named_graph(
     variables: &[Var],
     p: Box<Plan>,
 ) -> Result<Box<Plan>, Memory>
-    requires { variables.now ≡ visible (algebra_seen a.now) }
+    requires joins { FitJoins schema.now rules.now }
+    requires variables { variables.now ≡ visible (algebra_seen a.now) }
     ensures { IfOk result (λ r. plan_seen r ≡ named_graph schema.now rules.now (algebra_seen a.now) iri.now (plan_seen p)) }
 {
     if is_pattern(a) {

@@ -4,16 +4,16 @@ ghost use Rattle.vkg_terms.specs.declared.term.Term.TheVariants.{Iri};
 ghost use Rattle.vkg_expr.specs.Expr.{Not, Same};
 ghost use Rattle.vkg_expr.specs.Seen.{expr_seen};
 ghost use Rattle.vkg_expr.specs.TermExprs.{term_const, term_expr};
-ghost use Rattle.vkg_unfold.specs.declared.mode.Mode.TheVariants.{Each, InGraph};
-ghost use Rattle.vkg_unfold.specs.Unfolded.{default_graph, graph_test};
+ghost use Rattle.vkg_unfolded.specs.declared.mode.Mode.TheVariants.{Each, InGraph};
+ghost use Rattle.vkg_unfolded.specs.Unfolded.{default_graph, graph_test};
 
 use crate::exprs::{default_graph, term_const, term_expr};
-use crate::mode::Mode;
 use std::alloc::Global;
 use vkg_base::{Box, Items, Memory, Text};
 use vkg_expr::{Expr, TermExpr};
 use vkg_match::{Verdict, verdict};
 use vkg_terms::Term;
+use vkg_unfolded::Mode;
 
 /// The conditions under which a quad of the graph is in the mode; none where no quad is.
 pub(crate) fn graph_test(

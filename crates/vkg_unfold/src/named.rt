@@ -6,17 +6,17 @@ ghost use Rattle.vkg_expr.specs.TermExprs.{term_expr};
 ghost use Rattle.vkg_lists.specs.Sets.{distinct};
 ghost use Rattle.vkg_unfold.specs.Parts.{named_seen};
 ghost use Rattle.vkg_unfold.specs.declared.named.Named.{Named};
-ghost use Rattle.vkg_unfold.specs.Unfolded.{Named as NamedColumn, again, constants, if_each, Name, name_eq, named, node_names, numbered, pattern_names, places, repeats, same_name};
+ghost use Rattle.vkg_unfolded.specs.Unfolded.{Named as NamedColumn, again, constants, if_each, Name, name_eq, named, node_names, numbered, pattern_names, places, repeats, same_name};
 ghost use Rattle.std.specs.List.{list_any};
 ghost use Rattle.std.specs.Option.{option_copied};
 
 use crate::exprs::{term_const, term_expr};
-use crate::mode::Mode;
 use std::alloc::Global;
 use vkg_base::{Box, Items, Memory};
 use vkg_expr::{Expr, TermExpr};
 use vkg_row_rules::RowRule;
 use vkg_sparql::{Node, TriplePattern};
+use vkg_unfolded::Mode;
 
 /// A column's name, which is a variable's or label's number or none for the graph, and its expression.
 #[derive(Drop)]

@@ -1,18 +1,19 @@
 // The plan of a triple pattern: the union of the rules that may make its triples, each row once.
-ghost use Rattle.std.specs.Prelude.{[], filter_map, flat_map, IfOk, length, map, OnOk, replicate, Some, ◌++◌, ◌+◌, ◌∷◌, ◌≡◌};
+ghost use Rattle.std.specs.Prelude.{[], filter_map, flat_map, IfOk, length, map, OnOk, replicate, Some, ◌++◌, ◌+◌, ◌<◌, ◌^◌, ◌∷◌, ◌≡◌};
 ghost use Rattle.vkg_cells.specs.declared.cell.SqlType.TheVariants as kind;
 ghost use Rattle.vkg_plan.specs.Plan.{Join, Project, Scan};
 ghost use Rattle.vkg_plan.specs.Seen.{plan_seen};
 ghost use Rattle.vkg_expr.specs.Seen.{expr_seen};
 ghost use Rattle.vkg_row_rules.specs.RowDataset.{conditions};
-ghost use Rattle.vkg_unfold.specs.Unfolded.{constants, exists_member, exists_plan, graph_exprs, graph_terms, graph_test, if_each, named, names_member, names_plan, not_null, pattern_member, pattern_places, Named, pattern_plan, places, repeats, rule_member, rule_source, source_plan, union_of};
+ghost use Rattle.std.specs.List.{AllByRecursion};
+ghost use Rattle.vkg_unfolded.specs.FittingRules.{FitJoins, FitsCondition, FitsJoin};
+ghost use Rattle.vkg_unfolded.specs.Unfolded.{constants, exists_member, exists_plan, graph_exprs, graph_terms, graph_test, if_each, named, names_member, names_plan, not_null, pattern_member, pattern_places, Named, pattern_plan, places, repeats, rule_member, rule_source, source_plan, union_of};
 ghost use Rattle.vkg_expr.specs.Expr.{Not, Same, IsNull, Col};
 ghost use Rattle.vkg_expr.specs.TermExprs.{term_expr};
 ghost use Rattle.vkg_maps.specs.Within.{kinds_at};
 
 use crate::exprs::{and_of, known, term_expr};
 use crate::graph_test::graph_test;
-use crate::mode::Mode;
 use crate::named::{constant_places, first_places, named_places, pattern_names, repeats};
 use std::alloc::Global;
 use vkg_base::{Box, Items, Memory, Text, at};
@@ -23,6 +24,7 @@ use vkg_plan::Plan;
 use vkg_row_rules::RowRule;
 use vkg_schema::Table;
 use vkg_sparql::TriplePattern;
+use vkg_unfolded::Mode;
 
 /// The plan of a triple pattern.
 pub(crate) fn pattern_plan(
@@ -32,6 +34,7 @@ pub(crate) fn pattern_plan(
     mode: &Mode,
     pattern: &TriplePattern,
 ) -> Result<Plan, Memory>
+    requires { FitJoins schema.now rules.now }
     ensures { IfOk result (λ p. plan_seen p ≡ pattern_plan schema.now rules.now mode.now pattern.now) }
 {
     let columns = pattern_names(alloc, mode, pattern)?.len();
@@ -50,6 +53,7 @@ fn push_pattern(
     pattern: &TriplePattern,
     rule: &RowRule,
 ) -> Result<(), Memory>
+    requires { FitsJoin schema.now rule.now.table rule.now.join }
     ensures { OnOk result (map plan_seen members.new ≡ map plan_seen members.old ++ filter_map (pattern_member schema.now mode.now pattern.now) (rule.now ∷ [])) }
 {
     let Some(test) = graph_test(alloc, mode, &rule.graph)? else {
@@ -92,6 +96,7 @@ fn pattern_conditions(
 
 /// The graphs' names.
 pub(crate) fn names_plan(alloc: Global, schema: &[Table], rules: &[RowRule]) -> Result<Plan, Memory>
+    requires { FitJoins schema.now rules.now }
     ensures { IfOk result (λ p. plan_seen p ≡ names_plan schema.now rules.now) }
 {
     let mut members = Items::new(alloc);
@@ -107,6 +112,7 @@ fn push_names(
     schema: &[Table],
     rule: &RowRule,
 ) -> Result<(), Memory>
+    requires { FitsJoin schema.now rule.now.table rule.now.join }
     ensures { OnOk result (map plan_seen members.new ≡ map plan_seen members.old ++ filter_map (names_member schema.now) (rule.now ∷ [])) }
 {
     let Some(test) = graph_test(alloc, &Mode::Each, &rule.graph)? else {
@@ -125,6 +131,7 @@ pub(crate) fn exists_plan(
     rules: &[RowRule],
     iri: &Text,
 ) -> Result<Plan, Memory>
+    requires { FitJoins schema.now rules.now }
     ensures { IfOk result (λ p. plan_seen p ≡ exists_plan schema.now rules.now iri.now) }
 {
     let in_graph = Mode::InGraph(iri.copy()?);
@@ -137,6 +144,7 @@ fn exists_in(
     rules: &[RowRule],
     in_graph: &Mode,
 ) -> Result<Plan, Memory>
+    requires { FitJoins schema.now rules.now }
     ensures { IfOk result (λ p. plan_seen p ≡ union_of 0 (filter_map (exists_member schema.now in_graph.now) rules.now)) }
 {
     let mut members = Items::new(alloc);
@@ -153,6 +161,7 @@ fn push_exists(
     in_graph: &Mode,
     rule: &RowRule,
 ) -> Result<(), Memory>
+    requires { FitsJoin schema.now rule.now.table rule.now.join }
     ensures { OnOk result (map plan_seen members.new ≡ map plan_seen members.old ++ filter_map (exists_member schema.now in_graph.now) (rule.now ∷ [])) }
 {
     let Some(test) = graph_test(alloc, in_graph, &rule.graph)? else {
@@ -172,6 +181,7 @@ fn rule_member(
     test: Items<Expr>,
     conditions: Items<Expr>,
 ) -> Result<Plan, Memory>
+    requires { FitsJoin schema.now rule.now.table rule.now.join }
     ensures { IfOk result (λ p. plan_seen p ≡ Project (map expr_seen columns) (rule_source schema.now rule.now (not_null rule.now ++ map expr_seen test ++ map expr_seen conditions))) }
 {
     let mut all = not_null(alloc, rule)?;
@@ -188,6 +198,7 @@ fn rule_source(
     rule: &RowRule,
     conditions: Items<Expr>,
 ) -> Result<Box<Plan>, Memory>
+    requires { FitsJoin schema.now rule.now.table rule.now.join }
     ensures { IfOk result (λ p. plan_seen p ≡ rule_source schema.now rule.now (map expr_seen conditions)) }
 {
     match &rule.join {
@@ -207,6 +218,7 @@ fn joined_tables(
     join: &Join,
     conditions: Items<Expr>,
 ) -> Result<Box<Plan>, Memory>
+    requires { FitsJoin schema.now child (Some join.now) }
     ensures { IfOk result (λ p. plan_seen p ≡ source_plan schema.now child (Some join.now) (map expr_seen conditions)) }
 {
     let mut all = agreement(alloc, schema, child, join)?;
@@ -226,10 +238,11 @@ fn two_tables(alloc: Global, child: usize, parent: usize) -> Result<Items<Plan>,
 
 /// The number of a table's columns.
 fn width(schema: &[Table], table: usize) -> usize
-    ensures { result ≡ length (kinds_at schema.now table) }
+    ensures value { result ≡ length (kinds_at schema.now table) }
+    ensures bound { result < 2 ^ 63 }
 {
     match at(schema, table) {
-        Some(table) => table.columns.len(),
+        Some(table) => table.columns.as_slice().len(),
         None => 0,
     }
 }
@@ -241,30 +254,46 @@ fn agreement(
     child: usize,
     join: &Join,
 ) -> Result<Items<Expr>, Memory>
+    requires { FitsJoin schema.now child (Some join.now) }
     ensures { IfOk result (λ es. map expr_seen es ≡ conditions schema.now child join.now) }
 {
+    equalities(alloc, schema, child, join.table, join.conditions.as_slice())
+}
+
+/// Each of some conditions.
+fn equalities(
+    alloc: Global,
+    schema: &[Table],
+    child: usize,
+    parents: usize,
+    conditions: &[(usize, usize)],
+) -> Result<Items<Expr>, Memory>
+    requires { AllByRecursion (FitsCondition (kinds_at schema.now child) (kinds_at schema.now parents)) conditions.now }
+    ensures { IfOk result (λ es. map expr_seen es ≡ map (λ c. Same (Col c.0) (Col (c.1 + length (kinds_at schema.now child)))) conditions.now) }
+{
     let mut agreeing = Items::new(alloc);
-    for (column, parent) in join.conditions.as_slice() {
-        agreeing.push(condition(alloc, schema, child, *column, *parent)?)?;
+    for (column, parent) in conditions {
+        agreeing.push(condition(alloc, schema, child, parents, *column, *parent)?)?;
     }
     Ok(agreeing)
 }
 
-/// One join condition: the parent's columns stand behind those of the child. A column whose number no machine can hold is
-/// want of memory.
+/// One join condition: the parent's columns stand behind those of the child.
 fn condition(
     alloc: Global,
     schema: &[Table],
     child: usize,
+    parents: usize,
     column: usize,
     parent: usize,
 ) -> Result<Expr, Memory>
+    requires { parent < length (kinds_at schema.now parents) }
     ensures { IfOk result (λ e. expr_seen e ≡ Same (Col column) (Col (parent + length (kinds_at schema.now child)))) }
 {
-    match parent.checked_add(width(schema, child)) {
-        Some(behind) => same_columns(alloc, column, behind),
-        None => Err(Memory),
-    }
+    // both are numbers of columns in memory, so that their sum has a number, too
+    let within = width(schema, parents);
+    prove!(parent < within);
+    same_columns(alloc, column, parent + width(schema, child))
 }
 
 pub(crate) fn same_columns(alloc: Global, a: usize, b: usize) -> Result<Expr, Memory>

@@ -1,18 +1,23 @@
 // The plan of an algebra, and that of a query.
-ghost use Rattle.std.specs.Prelude.{IfOk, if◌then◌else◌, IsOkAnd, ◌≡◌};
+ghost use Rattle.std.specs.Prelude.{IfOk, if◌then◌else◌, IsOkAnd, ℕ, ◌≡◌};
+ghost use Rattle.vkg_sparql.specs.Lawful.{IsLawfulQuery};
 ghost use Rattle.vkg_sparql.specs.Seen.{condition_seen, query_seen};
+ghost use Rattle.vkg_algebra.specs.Lawful.{IsLawfulAlgebra};
 ghost use Rattle.vkg_algebra.specs.Seen.{algebra_seen};
 ghost use Rattle.vkg_algebra.specs.Translation.{algebra_of};
 ghost use Rattle.vkg_algebra.specs.Visible.{visible};
 ghost use Rattle.vkg_plan.specs.Plan.{Distinct, Select};
 ghost use Rattle.vkg_plan.specs.Seen.{plan_seen};
-ghost use Rattle.vkg_unfold.specs.Conditions.{truth_expr};
-ghost use Rattle.vkg_unfold.specs.Unfolded.{bgp_plan, start_plan, unfolded, visible_column};
+ghost use Rattle.vkg_unfolded.specs.Conditions.{truth_expr};
+ghost use Rattle.vkg_unfolded.specs.FineRows.{Meets};
+ghost use Rattle.vkg_unfolded.specs.FittingRules.{FitJoins};
+ghost use Rattle.vkg_unfolded.specs.StandsFor.{StandsFor};
+ghost use Rattle.vkg_unfolded.specs.Unfolded.{bgp_plan, start_plan, unfolded, visible_column};
+ghost use Rattle.vkg_answers.specs.Answering.{GivesSolutions};
 
 use crate::bgp::bgp_plan;
 use crate::conditions::filter_expr;
 use crate::graph::{graph_of_each, graph_of_name};
-use crate::mode::Mode;
 use crate::two::{join_plan, left_plan, union_plan, visible_columns};
 use std::alloc::Global;
 use vkg_algebra::{Algebra, selected_variables, visible};
@@ -21,9 +26,12 @@ use vkg_plan::Plan;
 use vkg_row_rules::RowRule;
 use vkg_schema::Table;
 use vkg_sparql::{Condition, GraphName, Query, TriplePattern};
+use vkg_unfolded::Mode;
 
 /// The plan of an algebra in a mode. Its rows have a column for each visible variable, in the order in which they first appear, and in
-/// mode each the graph's name behind them.
+/// mode each the graph's name behind them. Over every database whose rows are fine they are the solutions of a lawful algebra over
+/// the dataset of the rules, in each graph of the mode (SPARQL 1.1, 18.6). The rules' joins have to fit the tables, so that the
+/// parent's columns have places behind the child's.
 pub fn unfold(
     alloc: Global,
     schema: &[Table],
@@ -31,7 +39,9 @@ pub fn unfold(
     algebra: &Algebra,
     mode: &Mode,
 ) -> Result<Plan, Memory>
-    ensures { IfOk result (λ p. plan_seen p ≡ unfolded schema.now rules.now (algebra_seen algebra.now) mode.now) }
+    requires { FitJoins schema.now rules.now }
+    ensures plan { IfOk result (λ p. plan_seen p ≡ unfolded schema.now rules.now (algebra_seen algebra.now) mode.now) }
+    ensures stands { IfOk result (λ p. (n : ℕ) → IsLawfulAlgebra n (algebra_seen algebra.now) → StandsFor (Meets schema.now rules.now) schema.now rules.now n mode.now (plan_seen p) (algebra_seen algebra.now)) }
 {
     Ok(plan_of(alloc, schema, rules, algebra, mode)?.into_inner())
 }
@@ -44,6 +54,7 @@ fn plan_of(
     algebra: &Algebra,
     mode: &Mode,
 ) -> Result<Box<Plan>, Memory>
+    requires { FitJoins schema.now rules.now }
     ensures { IfOk result (λ p. plan_seen p ≡ unfolded schema.now rules.now (algebra_seen algebra.now) mode.now) }
 {
     match algebra {
@@ -83,6 +94,7 @@ fn of_patterns(
     mode: &Mode,
     patterns: &[TriplePattern],
 ) -> Result<Box<Plan>, Memory>
+    requires { FitJoins schema.now rules.now }
     ensures { IfOk result (λ p. plan_seen p ≡ bgp_plan schema.now rules.now mode.now patterns.now) }
 {
     let plan = bgp_plan(alloc, schema, rules, mode, patterns)?;
@@ -98,6 +110,7 @@ fn in_graph(
     a: &Algebra,
     iri: &Text,
 ) -> Result<Box<Plan>, Memory>
+    requires { FitJoins schema.now rules.now }
     ensures { IfOk result (λ p. plan_seen p ≡ unfolded schema.now rules.now (algebra_seen a.now) (Mode.InGraph iri.now)) }
 {
     let mode = Mode::InGraph(iri.copy()?);
@@ -119,7 +132,9 @@ fn filtered(
     Box::new(alloc, Plan::Select(test, p))
 }
 
-/// The plan of a query's algebra before any rewriting: its rows over the selected variables, each once under DISTINCT.
+/// The plan of a query's algebra before any rewriting: its rows over the selected variables, each once under DISTINCT. Over every
+/// database whose rows are fine they are the solutions of a lawful query over the dataset of the rules (SPARQL 1.1, 18.2.5). The
+/// rules' joins have to fit the tables.
 pub fn start_plan(
     alloc: Global,
     schema: &[Table],
@@ -127,7 +142,24 @@ pub fn start_plan(
     query: &Query,
     algebra: &Algebra,
 ) -> Result<Plan, Memory>
-    requires { algebra_seen algebra.now ≡ algebra_of (query_seen query.now) }
+    requires algebra { algebra_seen algebra.now ≡ algebra_of (query_seen query.now) }
+    requires joins { FitJoins schema.now rules.now }
+    ensures plan { IfOk result (λ p. plan_seen p ≡ start_plan schema.now rules.now (query_seen query.now)) }
+    ensures solutions { IfOk result (λ p. IsLawfulQuery (query_seen query.now) → GivesSolutions (Meets schema.now rules.now) schema.now rules.now (plan_seen p) (query_seen query.now)) }
+{
+    selected_plan(alloc, schema, rules, query, algebra)
+}
+
+/// The rows of a query's algebra over the selected variables, each once under DISTINCT.
+fn selected_plan(
+    alloc: Global,
+    schema: &[Table],
+    rules: &[RowRule],
+    query: &Query,
+    algebra: &Algebra,
+) -> Result<Plan, Memory>
+    requires algebra { algebra_seen algebra.now ≡ algebra_of (query_seen query.now) }
+    requires joins { FitJoins schema.now rules.now }
     ensures { IfOk result (λ p. plan_seen p ≡ start_plan schema.now rules.now (query_seen query.now)) }
 {
     let variables = visible(alloc, algebra)?;

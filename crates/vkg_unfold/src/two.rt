@@ -5,13 +5,12 @@ ghost use Rattle.vkg_algebra.specs.Visible.{each_once, has, visible};
 ghost use Rattle.vkg_expr.specs.Expr.{Col, IsNull, Same};
 ghost use Rattle.vkg_expr.specs.Seen.{expr_seen};
 ghost use Rattle.vkg_plan.specs.Seen.{plan_seen};
-ghost use Rattle.vkg_unfold.specs.Conditions.{condition_of};
-ghost use Rattle.vkg_unfold.specs.Unfolded.{agreement, column, columns_in, if_each, join_plan, left_column, left_plan, merged, merged_columns, or_null, right_column, union_member, union_plan, visible_column};
+ghost use Rattle.vkg_unfolded.specs.Conditions.{condition_of};
+ghost use Rattle.vkg_unfolded.specs.Unfolded.{agreement, column, columns_in, if_each, join_plan, left_column, left_plan, merged, merged_columns, or_null, right_column, union_member, union_plan, visible_column};
 
 use crate::columns::{columns_in, has, merged, place, right_place, visible_column};
 use crate::conditions::truth_expr;
 use crate::exprs::{and_of, or_of};
-use crate::mode::Mode;
 use crate::pattern::same_columns;
 use std::alloc::Global;
 use vkg_algebra::{Algebra, Var, each_once, visible};
@@ -19,6 +18,7 @@ use vkg_base::{Box, Items, Memory};
 use vkg_expr::Expr;
 use vkg_plan::Plan;
 use vkg_sparql::Condition;
+use vkg_unfolded::Mode;
 
 /// The pairs that agree.
 pub(crate) fn join_plan(

@@ -1,5 +1,6 @@
 use Rattle.vkg_cli.specs.declared.load.TheConstants.{LIMIT}
 use Rattle.vkg_cli.proofs.Ran.{determined_loads, ran_settle, ran_stop, ran_then}
+use Rattle.vkg_cli.proofs.Names.{these_all}
 use Rattle.vkg_cli.proofs.load.load_schema.Goals as goal
 
 pub returns-in-Err-clause-ran : goal.returns-in-Err-clause-ran
@@ -9,3 +10,9 @@ pub returns-clause-ran : goal.returns-clause-ran
 returns-clause-ran g c =
     ran_then _ _ _ _ _ _ _ (λ files. determined_loads LIMIT files _) c.in-Ok.ensures.ran
     (ran_settle _ _ c.schema_of.result (rw c.deref.ensures.value at c.schema_of.ensures.value))
+
+pub returns-in-Err-clause-asked : goal.returns-in-Err-clause-asked
+returns-in-Err-clause-asked g c = c.in-Err.ensures.asked
+
+pub returns-clause-asked : goal.returns-clause-asked
+returns-clause-asked g c = these_all _ _ _ c.schema_of.result c.in-Ok.ensures.asked

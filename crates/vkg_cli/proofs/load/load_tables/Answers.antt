@@ -1,6 +1,6 @@
 use Rattle.std.proofs.Common.{◌∙◌, ap, refl, sym}
 use Rattle.std.proofs.lemmas.List.{drop_all}
-use Rattle.vkg_cli.proofs.Ran.{ran_settle}
+use Rattle.vkg_cli.proofs.Ran.{ran_settle, ran_short}
 use Rattle.vkg_cli.proofs.Tables.{tables_next, tables_stop}
 use Rattle.vkg_cli.proofs.load.load_tables.Goals as goal
 
@@ -28,3 +28,6 @@ loop-k-preserved g c = record {
 
 pub returns-clause-ran : goal.returns-clause-ran
 returns-clause-ran g c = c.loop-k.invariant.rest _ _ (rw (drop_all _ _ c.loop-k-test.false) (ran_settle _ _ _ refl))
+
+pub returns-in-Err-clause-ran : goal.returns-in-Err-clause-ran
+returns-in-Err-clause-ran g c = ran_short _ _

@@ -5,6 +5,7 @@ use Rattle.vkg_cli.specs.Stages.{Answers}
 use Rattle.vkg_cli.specs.Work.{ReadsTriples}
 use Rattle.vkg_cli.proofs.Ran.{determined_loads, determined_settles, ran_settle, ran_stop, ran_then}
 use Rattle.vkg_cli.proofs.Whole.{one_document}
+use Rattle.vkg_cli.proofs.Names.{these_all}
 use Rattle.vkg_cli.proofs.mapping.load_text.Goals as goal
 
 pub returns-in-Err-clause-ran : goal.returns-in-Err-clause-ran
@@ -21,3 +22,12 @@ returns-clause-ran g c =
     ran_then _ _ _ _ _ _ _ (λ files. determined_loads LIMIT files _) c.in-Ok.ensures.ran
     (ran_then _ _ _ _ _ _ _ (λ files. determined_settles _ (one_document _ _)) (ran_settle _ _ (Ok c.in-Ok-triples_of.triples) is)
     (ran_settle _ _ c.mapping_of.result (rw c.as_slice.ensures at c.mapping_of.ensures.value)))
+
+pub returns-in-Err-clause-asked : goal.returns-in-Err-clause-asked
+returns-in-Err-clause-asked g c = c.in-Err.ensures.asked
+
+pub returns-in-Err-triples_of-clause-asked : goal.returns-in-Err-triples_of-clause-asked
+returns-in-Err-triples_of-clause-asked g c = these_all _ _ _ (Err c.in-Err-triples_of.stop) c.in-Ok.ensures.asked
+
+pub returns-clause-asked : goal.returns-clause-asked
+returns-clause-asked g c = these_all _ _ _ c.mapping_of.result c.in-Ok.ensures.asked

@@ -24,3 +24,6 @@ returns-in-Err-scan_file-clause-ran g c =
 
 pub returns-in-Ok-scan_file-clause-within : goal.returns-in-Ok-scan_file-clause-within
 returns-in-Ok-scan_file-clause-within g c = rw c.schema.ensures at c.in-Ok.ensures.within
+
+pub returns-in-Ok-scan_file-clause-graph : goal.returns-in-Ok-scan_file-clause-graph
+returns-in-Ok-scan_file-clause-graph g c = λ none. rw c.schema.ensures at c.in-Ok.ensures.graph none

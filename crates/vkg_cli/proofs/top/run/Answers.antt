@@ -6,7 +6,7 @@ use Rattle.vkg_cli.proofs.top.run.Goals as goal
 pub returns-in-Ok-Run : goal.returns-in-Ok-Run
 returns-in-Ok-Run g c =
     let asked = rw c.in-Ok-Run.field-0-is at c.in-Ok-Run.ensures.value in
-    answers_to _ _ _ _ c.text_of-made.result _ asked c.text_of-made.ensures.kind c.text_of-made.ensures.ran c.deliver.ensures
+    answers_to _ _ _ _ c.text_of-made.result _ asked c.text_of-made.ensures.kind c.text_of-made.ensures.numbered c.text_of-made.ensures.text c.text_of-made.ensures.asked c.text_of-made.ensures.ran c.deliver.ensures
 
 pub returns-in-Err : goal.returns-in-Err
 returns-in-Err g c = short_words (map string_bytes c.args.words.now.items) _ _ _ _ (no_help_asked (is_help (map string_bytes c.args.words.now.items)) c.read_request.result _ c.read_request.ensures.help c.in-Err.is) c.tell-in-Err.ensures

@@ -9,7 +9,7 @@ pub returns-clause-err : goal.returns-clause-err
 returns-clause-err c = search rules
 
 pub returns-clause-faultless : goal.returns-clause-faultless
-returns-clause-faultless c = values c.args.triples.now c.args.schema.now c.args.base.now c.mapping_over.result (returns-clause-ok c)
+returns-clause-faultless c = values c.args.triples.now c.args.schema.now c.args.base.now _ (returns-clause-ok c)
 
 pub returns-clause-least : goal.returns-clause-least
-returns-clause-least c = errors c.args.triples.now c.args.schema.now c.args.base.now c.mapping_over.result (returns-clause-err c)
+returns-clause-least c = errors c.args.triples.now c.args.schema.now c.args.base.now _ (returns-clause-err c)

@@ -1,6 +1,6 @@
 use Rattle.std.proofs.Common.{◌≡◌, map, take}
 use Rattle.vkg_plan.specs.Seen.{plan_seen}
-use Rattle.vkg_unfold.specs.Unfolded.{pattern_plan}
+use Rattle.vkg_unfolded.specs.Unfolded.{pattern_plan}
 use Rattle.vkg_unfold.proofs.bgp.pattern_plans.Given as goal
 
 abbrev pub invariant-loop-pattern : goal.invariant-loop-pattern

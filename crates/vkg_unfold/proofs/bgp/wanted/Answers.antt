@@ -4,7 +4,7 @@ use Rattle.std.specs.List.{position_or_len}
 use Rattle.std.proofs.lemmas.List.{map-append, map_more}
 use Rattle.vkg_expr.specs.Expr.{Expr, Col}
 use Rattle.vkg_expr.specs.Seen.{expr_seen}
-use Rattle.vkg_unfold.specs.Unfolded.{Name, name_eq}
+use Rattle.vkg_unfolded.specs.Unfolded.{Name, name_eq}
 use Rattle.vkg_unfold.proofs.bgp.wanted.Goals as goal
 
 pub loop-variable-preserved : goal.loop-variable-preserved

@@ -2,7 +2,7 @@ use Rattle.std.proofs.Common.{◌≡◌, map, take, Some}
 use Rattle.std.specs.List.{position_or_len}
 use Rattle.vkg_expr.specs.Seen.{expr_seen}
 use Rattle.vkg_expr.specs.Expr.{Col}
-use Rattle.vkg_unfold.specs.Unfolded.{name_eq}
+use Rattle.vkg_unfolded.specs.Unfolded.{name_eq}
 use Rattle.vkg_unfold.proofs.bgp.wanted.Given as goal
 
 abbrev pub invariant-loop-variable : goal.invariant-loop-variable

@@ -3,8 +3,8 @@ use Rattle.std.proofs.Common.{◌≡◌, ◌∙◌, ap, map, subst}
 use Rattle.std.specs.Prelude.{IfOk}
 use Rattle.vkg_expr.specs.Seen.{expr_seen}
 use Rattle.vkg_sparql.specs.Seen.{condition_seen}
-use Rattle.vkg_unfold.specs.Conditions.{expr_of, gives_truth, truth_expr}
-use Rattle.vkg_unfold.specs.Unfolded.{merged}
+use Rattle.vkg_unfolded.specs.Conditions.{expr_of, gives_truth, truth_expr}
+use Rattle.vkg_unfolded.specs.Unfolded.{merged}
 use Rattle.vkg_unfold.proofs.Chains.{all_result, any_result}
 use Rattle.vkg_unfold.proofs.conditions.+conditions.Goals as goal
 

@@ -1,8 +1,8 @@
 use Rattle.std.proofs.Common.{◌≡◌, map, take}
 use Rattle.vkg_expr.specs.Seen.{expr_seen}
 use Rattle.vkg_sparql.specs.Seen.{condition_seen}
-use Rattle.vkg_unfold.specs.Conditions.{truth_expr}
-use Rattle.vkg_unfold.specs.Unfolded.{merged}
+use Rattle.vkg_unfolded.specs.Conditions.{truth_expr}
+use Rattle.vkg_unfolded.specs.Unfolded.{merged}
 use Rattle.vkg_unfold.proofs.conditions.+conditions.Given as goal
 
 abbrev pub invariant-truths-loop-condition : goal.invariant-truths-loop-condition

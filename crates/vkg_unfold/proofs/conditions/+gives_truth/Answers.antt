@@ -1,7 +1,7 @@
 -- A chain of two or more gives a truth.
 use Rattle.std.proofs.Common.{◌≡◌, ◌∙◌, ap, sym}
 use Rattle.vkg_sparql.specs.Seen.{condition_seen}
-use Rattle.vkg_unfold.specs.Conditions.{gives_truth}
+use Rattle.vkg_unfolded.specs.Conditions.{gives_truth}
 use Rattle.vkg_unfold.specs.Parts.{some_or}
 use Rattle.vkg_unfold.proofs.Steps.{truth_all, truth_any}
 use Rattle.vkg_unfold.proofs.conditions.+gives_truth.Goals as goal

@@ -1,7 +1,7 @@
 use Rattle.std.proofs.Common.{◌≡◌, map, drop}
 use Rattle.std.specs.Prelude.{find}
 use Rattle.vkg_unfold.specs.Parts.{named_seen}
-use Rattle.vkg_unfold.specs.Unfolded.{same_name}
+use Rattle.vkg_unfolded.specs.Unfolded.{same_name}
 use Rattle.vkg_unfold.proofs.named.first_named.Given as goal
 
 abbrev pub invariant-loop-first : goal.invariant-loop-first

@@ -1,6 +1,6 @@
 use Rattle.std.proofs.Common.{◌≡◌, ◌++◌, map, drop}
 use Rattle.vkg_unfold.specs.Parts.{named_seen}
-use Rattle.vkg_unfold.specs.Unfolded.{numbered}
+use Rattle.vkg_unfolded.specs.Unfolded.{numbered}
 use Rattle.vkg_unfold.proofs.named.numbered.Given as goal
 
 abbrev pub invariant-loop-i : goal.invariant-loop-i

@@ -1,10 +1,16 @@
 use Rattle.std.proofs.Common.{◌<◌, length, map, arith}
 use Rattle.vkg_lists.proofs.Walks.{filter_map-take_more}
 use Rattle.vkg_plan.specs.Seen.{plan_seen}
-use Rattle.vkg_unfold.specs.Unfolded.{pattern_member}
+use Rattle.vkg_unfolded.specs.Unfolded.{pattern_member}
+use Rattle.vkg_unfold.proofs.Joins.{join_of}
 use Rattle.vkg_unfold.proofs.pattern.pattern_plan.Goals as goal
 
 pub loop-rule-preserved : goal.loop-rule-preserved
 loop-rule-preserved c =
     let inside : c.loop-rule.rule-index < length c.args.rules.now = omega arith in
     filter_map-take_more (pattern_member c.args.schema.now c.args.mode.now c.args.pattern.now) c.args.rules.now (map plan_seen c.loop-rule.members) (map plan_seen c.push_pattern.new.members) c.loop-rule.rule-index c.rule-item.result inside c.rule-item.is c.loop-rule.invariant c.in_ok-push_pattern.ensures
+
+pub push_pattern-requires : goal.push_pattern-requires
+push_pattern-requires c =
+    let inside : c.loop-rule.rule-index < length c.args.rules.now = omega arith in
+    join_of c.args.schema.now c.args.rules.now c.loop-rule.rule-index c.rule-item.result c.requires inside c.rule-item.is

@@ -2,7 +2,7 @@ use Rattle.std.proofs.Common.{◌≡◌, map, take}
 use Rattle.std.specs.List.{filter}
 use Rattle.vkg_expr.specs.Seen.{expr_seen}
 use Rattle.vkg_algebra.specs.Visible.{has}
-use Rattle.vkg_unfold.specs.Unfolded.{left_column, or_null, right_column}
+use Rattle.vkg_unfolded.specs.Unfolded.{left_column, or_null, right_column}
 use Rattle.vkg_unfold.proofs.two.agreement.Given as goal
 
 abbrev pub invariant-loop-variable : goal.invariant-loop-variable

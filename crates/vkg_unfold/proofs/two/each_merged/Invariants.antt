@@ -1,6 +1,6 @@
 use Rattle.std.proofs.Common.{◌≡◌, map, take}
 use Rattle.vkg_expr.specs.Seen.{expr_seen}
-use Rattle.vkg_unfold.specs.Unfolded.{merged}
+use Rattle.vkg_unfolded.specs.Unfolded.{merged}
 use Rattle.vkg_unfold.proofs.two.each_merged.Given as goal
 
 abbrev pub invariant-loop-variable : goal.invariant-loop-variable

@@ -1,0 +1,14 @@
+pub mod Measure
+pub mod Steps
+pub mod Everywhere
+pub mod StepSeen
+pub mod Nodes
+pub mod Parts
+pub mod Weights
+pub mod InNodes
+pub mod EverywhereLaw
+pub mod Either
+pub mod Fix
+pub mod Chains
+pub mod FixLaw
+pub mod Ends

@@ -1,0 +1,5 @@
+pub mod AlgebraColumns
+pub mod Data
+mod Examples
+pub mod PlanColumns
+pub mod TermKinds

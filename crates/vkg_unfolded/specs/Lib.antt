@@ -1,0 +1,5 @@
+pub mod Conditions
+pub mod FineRows
+pub mod FittingRules
+pub mod StandsFor
+pub mod Unfolded
