@@ -48,11 +48,9 @@ use Rattle.vkg_term_maps.specs.TermMaps.{annotation_of, by_standing, column_map,
 use Rattle.vkg_term_maps.specs.Vocabulary.{map_property, rr, shortcut}
 use Rattle.vkg_written.specs.Mappings.{HoldsWritableValues, IsWritableValue}
 use Rattle.vkg_written.proofs.Templates.{IsTextPart, read_texts}
+use Rattle.vkg_written.proofs.Texts.{lower_visible}
 
 -- ---- language tags
-
-lower_visible : (b : ℕ) → is_visible b ≡ true → is_visible (to_ascii_lowercase b) ≡ true
-lower_visible b h = grind (arith, nat_tests)
 
 tag_character_visible : (first : Bool) (b : ℕ) → is_tag_character first b ≡ true → is_visible b ≡ true
 tag_character_visible true b h = grind (arith, nat_tests)
