@@ -1,5 +1,6 @@
 pub mod Answers
 pub mod AskedLemmas
+pub mod AskedNames
 pub mod Clauses
 pub mod FilledLemmas
 pub mod Headline

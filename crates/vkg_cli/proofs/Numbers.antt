@@ -1,7 +1,9 @@
 -- The number of a fault's check is one of its table.
 use Rattle.std.proofs.Common.{◌≡◌, ℕ, ◌≤◌, Bool, true, false, List, [], ◌∷◌, Option, Some, None, Result, Ok, Err, map, refl, sym, subst, arith}
-use Rattle.std.specs.Prelude.{IfSome, if◌then◌else◌, slice_get}
-use Rattle.std.specs.List.{AllByRecursion, enumerate_from, flat_map, zip}
+use Rattle.std.specs.Prelude.{◌==◌, ◌&&◌, ◌++◌, IfSome, count_by, if◌then◌else◌, length, nat_lt, slice_get}
+use Rattle.std.specs.List.{AllByRecursion, enumerate_from, flat_map, list_any, zip}
+use Rattle.std.specs.Option.{option_or}
+use Rattle.std.specs.Str.{bytes_eq, is_utf8}
 use Rattle.vkg_lists.specs.Results.{unless}
 use Rattle.vkg_lists.proofs.Each.{recursion_get}
 use Rattle.vkg_lists.proofs.Members.{recursion_append}
@@ -10,9 +12,12 @@ use Rattle.vkg_cells.specs.declared.cell.Cell.{Cell}
 use Rattle.vkg_cells.specs.declared.cell.FieldFault.{FieldFault}
 use Rattle.vkg_cells.specs.declared.cell.FieldFault.TheVariants.{BadValue, TooWide, Memory}
 use Rattle.vkg_ddl.specs.FirstFault.{failed, first_fault}
+use Rattle.vkg_ddl.specs.NameChecks.{table_twice, column_twice, key_column_unknown, key_column_twice, primary_twice, table_unknown, limit_passed}
+use Rattle.vkg_ddl.specs.TypeChecks.{type_unknown, precision_wrong}
+use Rattle.vkg_ddl.specs.ReferenceChecks.{columns_wrong, no_key, families_differ}
 use Rattle.vkg_ddl.specs.declared.written.WrittenTable.{WrittenTable}
 use Rattle.vkg_schema.specs.Reading.{IsFaultOf as IsSchemaFault, no_utf8 as schema_no_utf8, no_token as schema_no_token, no_text as schema_no_text, no_schema}
-use Rattle.vkg_schema.specs.Rows.{Row}
+use Rattle.vkg_schema.specs.Rows.{Row, is_null}
 use Rattle.vkg_schema.specs.declared.reading.SchemaFault.{SchemaFault}
 use Rattle.vkg_schema.specs.declared.table.Column.{Column}
 use Rattle.vkg_schema.specs.declared.table.Table.{Table}
@@ -22,10 +27,12 @@ use Rattle.vkg_tables.specs.Seen.{Seen, columns_of, loaded, placed, with_read}
 use Rattle.vkg_tables.specs.TableFile.{fault, faults_of_read, field_faults, field_under, file_faults, file_rows, not_once_faults, record_faults, row_faults, table_of_bytes, unknown_faults}
 use Rattle.vkg_tables.specs.declared.fault.FileFault.{FileFault}
 use Rattle.vkg_tables.specs.declared.fault.TableFault.{TableFault}
-use Rattle.vkg_turtle.specs.Reading.{IsFaultOf as IsTurtleFault, fault_if as turtle_if, fault_of as turtle_fault, no_utf8 as turtle_no_utf8, no_token as turtle_no_token, too_deep as turtle_too_deep, no_text as turtle_no_text, no_document}
+use Rattle.vkg_turtle.specs.Reading.{IsFaultOf as IsTurtleFault, fault_if as turtle_if, fault_of as turtle_fault, lexical as turtle_lexical, too_deep as turtle_too_deep, no_text as turtle_no_text, no_document}
 use Rattle.vkg_turtle.specs.declared.document.Document.{Document}
 use Rattle.vkg_turtle.specs.declared.reading.TurtleFault.{TurtleFault}
-use Rattle.vkg_sparql.specs.Reading.{IsFaultOf as IsQueryFault, Read, dead_check, fault_if as query_if, fault_of as query_fault, is_outside, no_utf8 as query_no_utf8, no_token as query_no_token, too_deep as query_too_deep, dead, cut_off, checked, kind_at}
+use Rattle.vkg_sparql.specs.Reading.{IsFaultOf as IsQueryFault, Read, fault_if as query_if, fault_of as query_fault, is_outside, limit_over, lexical as query_lexical, too_deep as query_too_deep, dead, cut_off, checked, kind_at}
+use Rattle.vkg_sparql.specs.declared.checks.Check.TheVariants.{Unknown, Relative, Float, Wide}
+use Rattle.vkg_sparql.specs.Checks.{first_place, label_again}
 use Rattle.vkg_sparql.specs.declared.fault.QueryFault.{QueryFault}
 use Rattle.vkg_maps.specs.declared.data_fault.TermFault.{TermFault}
 use Rattle.vkg_maps.specs.declared.data_fault.TermFault.TheVariants as term_fault
@@ -48,12 +55,22 @@ failed_in : (check : ℕ) (o : Option ℕ) (later : Option (ℕ × ℕ)) → IsC
 failed_in check None later is rest = rest
 failed_in check (Some at) later is rest = is
 
-first_in : (written : List WrittenTable) → IfSome (first_fault written) (λ p. IsCheck 1 15 p.0)
-first_in written =
-    failed_in 3 _ _ (omega arith, omega arith) (failed_in 4 _ _ (omega arith, omega arith) (failed_in 5 _ _ (omega arith, omega arith)
-    (failed_in 6 _ _ (omega arith, omega arith) (failed_in 7 _ _ (omega arith, omega arith) (failed_in 8 _ _ (omega arith, omega arith)
-    (failed_in 9 _ _ (omega arith, omega arith) (failed_in 10 _ _ (omega arith, omega arith) (failed_in 11 _ _ (omega arith, omega arith)
-    (failed_in 12 _ _ (omega arith, omega arith) (failed_in 13 _ _ (omega arith, omega arith) (failed_in 14 _ None (omega arith, omega arith) tt)))))))))))
+-- the first of some checks that fails
+abbrev among : List (ℕ × Option ℕ) → Option (ℕ × ℕ)
+among [] = None
+among (c ∷ cs) = failed c.0 c.1 (among cs)
+
+among_in : (cs : List (ℕ × Option ℕ)) → AllByRecursion (λ c. IsCheck 1 15 c.0) cs → IfSome (among cs) (λ p. IsCheck 1 15 p.0)
+among_in [] h = tt
+among_in (c ∷ cs) h = failed_in c.0 c.1 (among cs) h.0 (among_in cs h.1)
+
+first_in : (w : List WrittenTable) → IfSome (first_fault w) (λ p. IsCheck 1 15 p.0)
+first_in w =
+    let names : List (ℕ × Option ℕ) = (3, table_twice w) ∷ (4, column_twice w) ∷ (5, type_unknown w) ∷ (6, precision_wrong w) ∷ (7, key_column_unknown w) ∷ (8, key_column_twice w)
+    ∷ (9, primary_twice w) ∷ (10, table_unknown w) ∷ (11, columns_wrong w) ∷ (12, no_key w) ∷ (13, families_differ w) ∷ (14, limit_passed w) ∷ [] in
+    among_in names
+    ((omega arith, omega arith), ((omega arith, omega arith), ((omega arith, omega arith), ((omega arith, omega arith), ((omega arith, omega arith), ((omega arith, omega arith),
+    ((omega arith, omega arith), ((omega arith, omega arith), ((omega arith, omega arith), ((omega arith, omega arith), ((omega arith, omega arith), ((omega arith, omega arith), tt))))))))))))
 
 pub schema_number : (text : List ℕ) (f : SchemaFault) → IsSchemaFault text f → IsCheck 1 15 f.check
 schema_number text f (schema_no_utf8 n e) = (omega arith, omega arith)
@@ -75,30 +92,32 @@ turtle_in d = first d.unknown d.relative
     first (Some at) relative = (omega arith, omega arith)
 
 pub turtle_number : (text base : List ℕ) (f : TurtleFault) → IsTurtleFault text base f → IsCheck 1 22 f.check
-turtle_number text base f (turtle_no_utf8 n e) = (omega arith, omega arith)
-turtle_number text base f (turtle_no_token u e) = (omega arith, omega arith)
+turtle_number text base f (turtle_lexical b) = (omega arith, omega arith)
 turtle_number text base f (turtle_too_deep u e) = (omega arith, omega arith)
 turtle_number text base f (turtle_no_text u e) = (omega arith, omega arith)
 turtle_number text base f (no_document document u d e) = subst (λ o. IfSome o (λ f. IsCheck 1 22 f.check)) e (turtle_in document)
 
 -- Q01 to Q09
 
-query_failed : (check : ℕ) (o : Option ℕ) (later : Option QueryFault) → IsCheck 1 9 check → IfSome later (λ f. IsCheck 1 9 f.check) → IfSome (query_if check o later) (λ f. IsCheck 1 9 f.check)
-query_failed check None later is rest = rest
-query_failed check (Some at) later is rest = is
-
 query_in : (r : Read) → IfSome (query_fault r) (λ f. IsCheck 1 9 f.check)
-query_in r =
-    query_failed 4 _ _ (omega arith, omega arith) (query_failed 5 _ _ (omega arith, omega arith) (query_failed 6 _ _ (omega arith, omega arith)
-    (query_failed 7 _ _ (omega arith, omega arith) (query_failed 8 _ _ (omega arith, omega arith) (query_failed 9 _ None (omega arith, omega arith) tt)))))
+query_in r = by (first_place Unknown r.environment r.body) (option_or r.environment.relative (first_place Relative r.environment r.body)) (label_again r.body) (first_place Float r.environment r.body) (first_place Wide r.environment r.body) (limit_over r)
+  where
+    by : (prefix iri label datatype number limit : Option ℕ)
+        → IfSome (query_if 4 prefix (query_if 5 iri (query_if 6 label (query_if 7 datatype (query_if 8 number (query_if 9 limit None)))))) (λ f. IsCheck 1 9 f.check)
+    by (Some at) iri label datatype number limit = (omega arith, omega arith)
+    by None (Some at) label datatype number limit = (omega arith, omega arith)
+    by None None (Some at) datatype number limit = (omega arith, omega arith)
+    by None None None (Some at) number limit = (omega arith, omega arith)
+    by None None None None (Some at) limit = (omega arith, omega arith)
+    by None None None None None (Some at) = (omega arith, omega arith)
+    by None None None None None None = tt
 
 dead_in : (b : Bool) → IsCheck 1 9 (if b then 7 else 2)
 dead_in true = (omega arith, omega arith)
 dead_in false = (omega arith, omega arith)
 
 pub query_number : (text base : List ℕ) (f : QueryFault) → IsQueryFault text base f → IsCheck 1 9 f.check
-query_number text base f (query_no_utf8 n e) = (omega arith, omega arith)
-query_number text base f (query_no_token u e) = (omega arith, omega arith)
+query_number text base f (query_lexical b) = (omega arith, omega arith)
 query_number text base f (query_too_deep u e) = (omega arith, omega arith)
 query_number text base f (dead u d) = subst (λ (g : QueryFault). IsCheck 1 9 g.check) (sym d.named) (dead_in (is_outside (kind_at d.tokens d.token)))
 query_number text base f (cut_off u e is) = (omega arith, omega arith)
@@ -113,40 +132,47 @@ all_if : (b : Bool) (xs ys : List FileFault) → AllByRecursion OfFile xs → Al
 all_if true xs ys h k = h
 all_if false xs ys h k = k
 
-one_in : (check row column : ℕ) → IsCheck 1 11 check → AllByRecursion OfFile (fault check row column ∷ [])
-one_in check row column is = (is, tt)
+-- one fault, or none
+one_if : (b : Bool) (check row column : ℕ) → IsCheck 1 11 check → AllByRecursion OfFile (if b then fault check row column ∷ [] else [])
+one_if true check row column is = (is, tt)
+one_if false check row column is = tt
 
-none_in : AllByRecursion OfFile []
-none_in = tt
+one_unless : (b : Bool) (check row column : ℕ) → IsCheck 1 11 check → AllByRecursion OfFile (if b then [] else fault check row column ∷ [])
+one_unless true check row column is = tt
+one_unless false check row column is = (is, tt)
 
 read_all : (column : Column) (row place : ℕ) (r : Result Cell FieldFault) → AllByRecursion OfFile (faults_of_read column row place r)
-read_all column row place (Ok c) = all_if _ _ _ (one_in 7 row place (omega arith, omega arith)) none_in
+read_all column row place (Ok c) = one_if (is_null c && column.not_null) 7 row place (omega arith, omega arith)
 read_all column row place (Err BadValue) = ((omega arith, omega arith), tt)
 read_all column row place (Err TooWide) = ((omega arith, omega arith), tt)
 read_all column row place (Err Memory) = ((omega arith, omega arith), tt)
 
 row_all : (header : List (List ℕ)) (columns : List Column) (row : ℕ) (fields : List (List ℕ)) → AllByRecursion OfFile (row_faults header columns row fields)
 row_all header columns row fields =
-    all_if _ _ _
+    all_if (length fields == length header) (flat_map (λ c. field_faults c.1 row c.0 (field_under header fields c.1)) (enumerate_from 1 columns)) (fault 4 row 0 ∷ [])
     (each_walked OfFile (λ c. field_faults c.1 row c.0 (field_under header fields c.1)) (λ c. read_all c.1 row c.0 (cell_of_csv c.1.kind (field_under header fields c.1))) (enumerate_from 1 columns))
-    (one_in 4 row 0 (omega arith, omega arith))
+    ((omega arith, omega arith), tt)
 
 unknown_all : (columns : List Column) (header : List (List ℕ)) → AllByRecursion OfFile (unknown_faults columns header)
-unknown_all columns header = each_walked OfFile _ (λ f. all_if _ _ _ none_in (one_in 2 0 f.0 (omega arith, omega arith))) (enumerate_from 1 header)
+unknown_all columns header =
+    each_walked OfFile (λ f. if list_any (λ c. bytes_eq c.name f.1) columns then [] else fault 2 0 f.0 ∷ [])
+    (λ f. one_unless (list_any (λ c. bytes_eq c.name f.1) columns) 2 0 f.0 (omega arith, omega arith)) (enumerate_from 1 header)
 
 not_once_all : (columns : List Column) (header : List (List ℕ)) → AllByRecursion OfFile (not_once_faults columns header)
-not_once_all columns header = each_walked OfFile _ (λ c. all_if _ _ _ none_in (one_in 3 0 c.0 (omega arith, omega arith))) (enumerate_from 1 columns)
+not_once_all columns header =
+    each_walked OfFile (λ c. if count_by (λ f. bytes_eq f c.1.name) header == 1 then [] else fault 3 0 c.0 ∷ [])
+    (λ c. one_unless (count_by (λ f. bytes_eq f c.1.name) header == 1) 3 0 c.0 (omega arith, omega arith)) (enumerate_from 1 columns)
 
 record_all : (columns : List Column) (rs : List (List (List ℕ))) → AllByRecursion OfFile (record_faults columns rs)
 record_all columns [] = ((omega arith, omega arith), tt)
 record_all columns (header ∷ rows) =
-    recursion_append OfFile _ _ (unknown_all columns header)
-    (recursion_append OfFile _ _ (not_once_all columns header) (each_walked OfFile (λ r. row_faults header columns r.0 r.1) (λ r. row_all header columns r.0 r.1) (enumerate_from 1 rows)))
+    let read = flat_map (λ r. row_faults header columns r.0 r.1) (enumerate_from 1 rows) in
+    recursion_append OfFile (unknown_faults columns header) (not_once_faults columns header ++ read) (unknown_all columns header)
+    (recursion_append OfFile (not_once_faults columns header) read (not_once_all columns header)
+    (each_walked OfFile (λ r. row_faults header columns r.0 r.1) (λ r. row_all header columns r.0 r.1) (enumerate_from 1 rows)))
 
 file_all : (columns : List Column) (bytes : List ℕ) → AllByRecursion OfFile (file_faults columns bytes)
-file_all columns bytes =
-    all_if _ _ _ (one_in 11 0 0 (omega arith, omega arith))
-    (all_if _ _ _ (record_all columns _) (one_in 5 0 0 (omega arith, omega arith)))
+file_all columns bytes = all_if (nat_lt 2147483647 (length bytes)) (fault 11 0 0 ∷ []) _ ((omega arith, omega arith), tt) (all_if (is_utf8 bytes) _ (fault 5 0 0 ∷ []) (record_all columns _) ((omega arith, omega arith), tt))
 
 first_found : {A F : Type 0} (o : Option F) (v : A) (f : F) → ◌≡◌ {A = Result A F} (unless o (Ok v)) (Err f) → o ≡ Some f
 first_found (Some x) v f e = cc e

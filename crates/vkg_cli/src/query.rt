@@ -80,6 +80,7 @@ fn answer(alloc: Global, db: &Database, mapping: &Mapping, query: &Query) -> Res
     requires lawful { IsLawfulQuery (query_seen query.now) }
     ensures value { Answers (GivesAnswer db.now mapping.now query.now) result }
     ensures rows { IfOk result (λ lines. lines ≡ result_lines (query_seen query.now) (rows_of db.now.schema (rewritten db.now.schema mapping.now (query_seen query.now)) db.now.tables)) }
+    ensures numbered { IfErr result IsNumbered }
 {
     match answer_lines(alloc, db, mapping, query) {
         Ok(lines) => Ok(lines),

@@ -2,6 +2,7 @@ use Rattle.std.proofs.Common.{[], Ok, Err}
 use Rattle.vkg_cli.proofs.Ran.{ran_settle, ran_stop, ran_then}
 use Rattle.vkg_cli.proofs.Tables.{determined_tables}
 use Rattle.vkg_cli.proofs.Whole.{determined_schema}
+use Rattle.vkg_tables.specs.Seen.{Seen}
 use Rattle.vkg_cli.proofs.Names.{from_more}
 use Rattle.vkg_cli.proofs.database.load_database.Goals as goal
 
@@ -26,10 +27,10 @@ pub returns-in-Err-clause-asked : goal.returns-in-Err-clause-asked
 returns-in-Err-clause-asked g c = ([], c.in-Err.ensures.asked)
 
 pub returns-in-Err-load_tables-clause-asked : goal.returns-in-Err-load_tables-clause-asked
-returns-in-Err-load_tables-clause-asked g c = from_more _ [] _ _ _ (Err c.in-Err-load_tables.stop) c.in-Ok.ensures.asked c.in-Err-load_tables.ensures.ran.more
+returns-in-Err-load_tables-clause-asked g c = from_more {A = Seen} _ [] _ _ _ (Err c.in-Err-load_tables.stop) c.in-Ok.ensures.asked c.in-Err-load_tables.ensures.ran.more
 
 pub returns-in-Ok-check-clause-asked : goal.returns-in-Ok-check-clause-asked
 returns-in-Ok-check-clause-asked g c = from_more _ [] _ _ _ (Ok c.in-Ok-load_tables.db) c.in-Ok.ensures.asked c.in-Ok-load_tables.ensures.ran.more
 
 pub returns-clause-asked : goal.returns-clause-asked
-returns-clause-asked g c = from_more _ [] _ _ _ (Err c.in-Err-check.stop) c.in-Ok.ensures.asked c.in-Ok-load_tables.ensures.ran.more
+returns-clause-asked g c = from_more {A = Seen} _ [] _ _ _ (Err c.in-Err-check.stop) c.in-Ok.ensures.asked c.in-Ok-load_tables.ensures.ran.more

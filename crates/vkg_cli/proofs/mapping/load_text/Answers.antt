@@ -1,11 +1,12 @@
-use Rattle.std.proofs.Common.{List, Ok, Err, subst}
+use Rattle.std.proofs.Common.{List, [], ◌∷◌, Ok, Err, subst}
 use Rattle.vkg_turtle.specs.declared.triple.Triple.{Triple}
+use Rattle.vkg_maps.specs.declared.mapping.Mapping.{Mapping}
 use Rattle.vkg_cli.specs.declared.load.TheConstants.{LIMIT}
 use Rattle.vkg_cli.specs.Stages.{Answers}
 use Rattle.vkg_cli.specs.Work.{ReadsTriples}
 use Rattle.vkg_cli.proofs.Ran.{determined_loads, determined_settles, ran_settle, ran_stop, ran_then}
 use Rattle.vkg_cli.proofs.Whole.{one_document}
-use Rattle.vkg_cli.proofs.Names.{these_all}
+use Rattle.vkg_cli.proofs.AskedNames.{load_asks}
 use Rattle.vkg_cli.proofs.mapping.load_text.Goals as goal
 
 pub returns-in-Err-clause-ran : goal.returns-in-Err-clause-ran
@@ -27,7 +28,7 @@ pub returns-in-Err-clause-asked : goal.returns-in-Err-clause-asked
 returns-in-Err-clause-asked g c = c.in-Err.ensures.asked
 
 pub returns-in-Err-triples_of-clause-asked : goal.returns-in-Err-triples_of-clause-asked
-returns-in-Err-triples_of-clause-asked g c = these_all _ _ _ (Err c.in-Err-triples_of.stop) c.in-Ok.ensures.asked
+returns-in-Err-triples_of-clause-asked g c = load_asks {A = Mapping} _ _ _ _ (c.args.name.now ∷ []) (Err c.in-Err-triples_of.stop) c.in-Ok.ensures.ran c.in-Ok.ensures.asked
 
 pub returns-clause-asked : goal.returns-clause-asked
-returns-clause-asked g c = these_all _ _ _ c.mapping_of.result c.in-Ok.ensures.asked
+returns-clause-asked g c = load_asks _ _ _ _ (c.args.name.now ∷ []) c.mapping_of.result c.in-Ok.ensures.ran c.in-Ok.ensures.asked

@@ -1,6 +1,7 @@
+use Rattle.std.proofs.Common.{[], ◌∷◌}
 use Rattle.vkg_cli.specs.declared.load.TheConstants.{LIMIT}
 use Rattle.vkg_cli.proofs.Ran.{determined_loads, ran_settle, ran_stop, ran_then}
-use Rattle.vkg_cli.proofs.Names.{these_all}
+use Rattle.vkg_cli.proofs.AskedNames.{load_asks}
 use Rattle.vkg_cli.proofs.query.load_query.Goals as goal
 
 pub returns-in-Err-clause-ran : goal.returns-in-Err-clause-ran
@@ -15,4 +16,4 @@ pub returns-in-Err-clause-asked : goal.returns-in-Err-clause-asked
 returns-in-Err-clause-asked g c = c.in-Err.ensures.asked
 
 pub returns-clause-asked : goal.returns-clause-asked
-returns-clause-asked g c = these_all _ _ _ c.query_of.result c.in-Ok.ensures.asked
+returns-clause-asked g c = load_asks _ _ _ _ (c.args.name.now ∷ []) c.query_of.result c.in-Ok.ensures.ran c.in-Ok.ensures.asked
