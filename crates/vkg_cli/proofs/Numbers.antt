@@ -68,9 +68,25 @@ first_in : (w : List WrittenTable) → IfSome (first_fault w) (λ p. IsCheck 1 1
 first_in w =
     let names : List (ℕ × Option ℕ) = (3, table_twice w) ∷ (4, column_twice w) ∷ (5, type_unknown w) ∷ (6, precision_wrong w) ∷ (7, key_column_unknown w) ∷ (8, key_column_twice w)
     ∷ (9, primary_twice w) ∷ (10, table_unknown w) ∷ (11, columns_wrong w) ∷ (12, no_key w) ∷ (13, families_differ w) ∷ (14, limit_passed w) ∷ [] in
-    among_in names
-    ((omega arith, omega arith), ((omega arith, omega arith), ((omega arith, omega arith), ((omega arith, omega arith), ((omega arith, omega arith), ((omega arith, omega arith),
-    ((omega arith, omega arith), ((omega arith, omega arith), ((omega arith, omega arith), ((omega arith, omega arith), ((omega arith, omega arith), ((omega arith, omega arith), tt))))))))))))
+    among_in names (
+      (omega arith, omega arith),
+      (
+        (omega arith, omega arith),
+        (
+          (omega arith, omega arith),
+          (
+            (omega arith, omega arith),
+            (
+              (omega arith, omega arith),
+              (
+                (omega arith, omega arith),
+                ((omega arith, omega arith), ((omega arith, omega arith), ((omega arith, omega arith), ((omega arith, omega arith), ((omega arith, omega arith), ((omega arith, omega arith), tt)))))),
+              ),
+            ),
+          ),
+        ),
+      ),
+    )
 
 pub schema_number : (text : List ℕ) (f : SchemaFault) → IsSchemaFault text f → IsCheck 1 15 f.check
 schema_number text f (schema_no_utf8 n e) = (omega arith, omega arith)
