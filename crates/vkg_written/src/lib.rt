@@ -5,10 +5,11 @@
 //! - `graphs`: a mapping that is read of triples whose objects can be written has term maps that can be written.
 //! - `documents`: the objects of a Turtle document can be written.
 //! - `mappings`: a mapping that is read of a Turtle document has term maps that can be written.
+//! - `lines`: so the dump of such a mapping has as many lines as its dataset has quads.
 //!
-//! It stands on vkg_r2rml and what that stands on, of whose definitions it speaks.
+//! It stands on vkg_r2rml and vkg_quads and what these stand on, of whose definitions it speaks.
 #![tactic(auto)]
 
 mod reading;
 
-pub use reading::{documents, graphs, mappings};
+pub use reading::{documents, graphs, lines, mappings};
