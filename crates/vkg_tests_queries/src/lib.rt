@@ -4,7 +4,7 @@
 //! program calls anything here: the gate proves each test as it does any function, and runs it. The tests stand apart from
 //! the libraries since a crate with tests is proved twice, with them and without.
 //!
-//! - `vkg_algebra`: the algebra of groups, filters and OPTIONAL; the whole algebra of queries as they are written.
+//! - `vkg_algebra`: the algebra of groups, filters and OPTIONAL.
 //! - `vkg_plain`: the plain evaluation over a few quads.
 //! - `vkg_gen`: the report on the generated company.
 //! - `vkg_cli`: the top call: words, faults of loads and writes, mappings and a data error.
@@ -18,7 +18,5 @@ mod of_cli;
 mod of_gen;
 #[cfg(test)]
 mod of_plain;
-#[cfg(test)]
-mod of_translation;
 #[cfg(test)]
 mod written;
