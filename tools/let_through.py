@@ -1,5 +1,5 @@
 #!/usr/bin/env python3
-"""Prints the table of what `rt plant` tried on each crate, for docs/PROOFS.md.
+"""Prints the table of what `rt plant` tried on each crate, for docs/proof-log/plants.md.
 
 usage: tools/let_through.py NAME=LOG ..
 

@@ -1,5 +1,5 @@
 #!/usr/bin/env python3
-"""Prints the table of planted bugs of docs/PROOFS.md from what a run of `rt ci` wrote.
+"""Prints the table of planted bugs of docs/proof-log/wrong-bodies.md from what a run of `rt ci` wrote.
 
 usage: tools/planted_bugs.py LOG
 

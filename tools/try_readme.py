@@ -6,8 +6,9 @@ usage: tools/try_readme.py PROGRAM     (PROGRAM is the built `vkg`; needs git)
 The last commit is cloned into a new folder. There the launcher is run with a stand-in for `rt` that fails, as a stranger's first call might:
 it has to say so and end with 70. Then PROGRAM stands where `rt` puts what it builds, and each command of the documents is run by the launcher,
 which must not ask for `rt` again. In a fenced block a line behind `$ ` is a command, and the lines up to the next one are what it writes; a line
-`...` stands for any lines. The stored answers and plans of examples/company/queries are compared, too, and, by
-tools/second_implementation, each example of docs/DIAGNOSTICS.md.
+`...` stands for any lines. Commands of Python, cat and tools/check_mapping.py are run, too. The stored answers and plans of examples/company/queries are
+compared, docs/STANDARDS.md with what tools/standards.py prints, and, by tools/second_implementation, each example of docs/DIAGNOSTICS.md and of the tables of
+docs/GUIDE.md.
 
 Each difference is told. The last line is 'N passed, M failed', and the status 1 where something failed.
 """
@@ -23,6 +24,7 @@ sys.path.insert(0, str(TOP / "tools/second_implementation"))
 from comparisons.readme import as_shown, shown_in
 
 DOCUMENTS = ["README.md", *sorted(str(path.relative_to(TOP)) for path in (TOP / "docs").glob("*.md"))]
+TRIED = ("./vkg ", "cat ", "python3 ", "tools/check_mapping.py ")
 NOT_BUILT = 70
 COMPANY = "examples/company"
 MAPPED = ["--schema", f"{COMPANY}/schema.sql", "--base", "http://example.org/", "--mapping", f"{COMPANY}/mapping.ttl"]
@@ -63,10 +65,10 @@ def try_first_call(trial):
 
 
 def try_documents(trial):
-    """Each command of the documents that asks for the program."""
+    """Each command of the documents that is one of those to try."""
     for name in DOCUMENTS:
         for command, shown in shown_in((trial.clone / name).read_text(encoding="utf-8")):
-            if command.startswith("./vkg "):
+            if command.startswith(TRIED):
                 status, output, errors = trial.run(["bash", "-o", "pipefail", "-c", command])
                 trial.see(f"{name}: {command}", status == 0 and errors == "" and as_shown(output, shown), f"status {status}: {errors}\n{output}")
 
@@ -81,8 +83,15 @@ def try_queries(trial):
             trial.see(f"{query.name}: {call[0]}", (status, output, errors) == (0, stored, ""), f"status {status}: {errors}\n{output}")
 
 
+def try_standards(trial):
+    """docs/STANDARDS.md is what tools/standards.py prints."""
+    status, output, errors = trial.run([sys.executable, "tools/standards.py"])
+    is_so = status == 0 and output == (trial.clone / "docs/STANDARDS.md").read_text(encoding="utf-8")
+    trial.see("docs/STANDARDS.md", is_so, errors or "tools/standards.py prints something else")
+
+
 def try_diagnostics(trial, room):
-    """The examples of docs/DIAGNOSTICS.md and README.md, asked of the program and of the second implementation."""
+    """The examples of docs/DIAGNOSTICS.md, docs/GUIDE.md and README.md, asked of the program and of the second implementation."""
     compare = ["tools/second_implementation/compare.py", "documents", "--vkg", "crates/vkg/out/vkg", "--found", str(room / "found")]
     status, output, errors = trial.run([sys.executable, *compare])
     trial.see("tools/second_implementation/compare.py documents", status == 0, output + errors)
@@ -102,6 +111,7 @@ def main():
         shutil.copy(sys.argv[1], trial.clone / "crates/vkg/out/vkg")
         try_documents(trial)
         try_queries(trial)
+        try_standards(trial)
         try_diagnostics(trial, room)
         print(f"readme: {trial.passed} passed, {trial.failed} failed")
         sys.exit(trial.failed > 0)

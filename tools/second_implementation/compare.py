@@ -5,12 +5,14 @@ usage: tools/second_implementation/compare.py WHAT --vkg PROGRAM [options]
 
   dump       `dump` by the direct mapping and by random R2RML mappings
   query      `query` on random queries; `sql`, whose plan is run here; with --rdflib the answers of rdflib, too
+  plans      `sql` on random queries: the text of the plan; with --start that of the plan before any rewriting
+  rules      the rewrite rules on random plans; both sides are plans here, and no program is called
   change     valid cases with one token or byte changed: how the program refuses them, or what it then answers
   faults     R2RML mappings whose graphs have faults
   words      calls whose words are changed
   gen        `gen` on the companies of SEED+1 to SEED+COUNT employees
   operators  every operator of filters on every pair of a list of terms; once, without chance
-  documents  the examples of README.md and docs/DIAGNOSTICS.md, asked of both; once, without chance
+  documents  the examples of README.md, docs/DIAGNOSTICS.md and docs/GUIDE.md, asked of both; once, without chance
 
 Every mode also asks that each call ends as docs/DIAGNOSTICS.md has it: status, output, and line on standard error. The counts are
 printed at the end. Each case on which the two differ is told, and its files are kept in a folder of FOUND, with the words of the
@@ -20,18 +22,20 @@ import argparse
 import sys
 import tempfile
 
-from comparisons import changes, company, diagnostics, dumps, operators, queries, readme
+from comparisons import changes, company, diagnostics, dumps, guide, operators, plans, queries, readme, rules
 from comparisons.program import Comparison
 
 MODES = {
     "dump": [dumps.compare],
     "query": [queries.compare],
+    "plans": [plans.compare],
+    "rules": [rules.compare],
     "change": [changes.compare_tokens],
     "faults": [changes.compare_faults],
     "words": [changes.compare_words],
     "gen": [company.compare],
     "operators": [operators.compare],
-    "documents": [diagnostics.compare, readme.compare],
+    "documents": [diagnostics.compare, guide.compare, readme.compare],
 }
 ONCE = ("operators", "documents")
 
@@ -41,16 +45,20 @@ def read_options():
     parser = argparse.ArgumentParser(description=__doc__, usage=argparse.SUPPRESS,
                                      formatter_class=argparse.RawDescriptionHelpFormatter)
     parser.add_argument("what", metavar="WHAT", choices=MODES, help="one of the modes above")
-    parser.add_argument("--vkg", metavar="PROGRAM", required=True, help="the built program")
+    parser.add_argument("--vkg", metavar="PROGRAM", help="the built program (all modes but rules)")
     parser.add_argument("--seed", type=int, default=0, help="the first seed; each case has one (0)")
     parser.add_argument("--count", type=int, default=100, help="how many cases (100)")
-    parser.add_argument("--queries", type=int, default=4, help="how many queries, changes or faulty mappings for a case (4)")
+    parser.add_argument("--queries", type=int, default=4, help="how many queries, plans, changes or faults for a case (4)")
     parser.add_argument("--limit", type=int, default=4000, help="how many combinations of triples a query may ask for (4000)")
     parser.add_argument("--plan", type=int, default=300000, help="how many characters a plan may have to be run here (300000)")
     parser.add_argument("--timeout", type=int, default=20, help="how many seconds a call may take (20)")
+    parser.add_argument("--start", action="store_true", help="no rewrite rules: the program prints start plans (plans)")
     parser.add_argument("--rdflib", action="store_true", help="compare with rdflib 6, too (query, operators)")
     parser.add_argument("--found", default="found", help="the folder for cases on which the two differ (found)")
-    return parser.parse_args()
+    options = parser.parse_args()
+    if options.vkg is None and options.what != "rules":
+        parser.error("--vkg is needed")
+    return options
 
 
 def run(comparison, options):

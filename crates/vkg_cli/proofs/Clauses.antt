@@ -1,6 +1,7 @@
 -- What follows from the answer, status by status.
-use Rattle.std.proofs.Common.{◌≡◌, ◌⊎◌, ◌≤◌, inl, inr, ℕ, List, refl, sym, ◌∙◌, ap, arith, subst, Err, Some}
+use Rattle.std.proofs.Common.{◌≡◌, ◌⊎◌, ◌≤◌, ◌+◌, ◌-◌, ◌^◌, min, inl, inr, ℕ, List, refl, sym, ◌∙◌, ap, arith, subst, Err, Some}
 use Rattle.std.specs.Prelude.{Result}
+use Rattle.std.proofs.Math.Nat.{min-le_left, min-le_right, le-min}
 use Rattle.vkg_lists.proofs.Results.{ok_same, ok_err}
 use Rattle.vkg_base.specs.Outside.{Files, Rose, SinkState, StoreState, Took}
 use Rattle.vkg_base.specs.Written.{written}
@@ -14,9 +15,24 @@ use Rattle.vkg_cli.specs.declared.stops.Usage.{Usage}
 use Rattle.vkg_cli.specs.FaultLine.{status_of}
 use Rattle.vkg_cli.specs.Words.{Asked, Command, DumpWords, SqlWords, dump, gen, help, query, refused, run, sql}
 use Rattle.vkg_cli.specs.Work.{MayStop}
-use Rattle.vkg_cli.specs.Answer.{Ends, HasFault, HasText, IsAnswer, IsDone, IsRefused, IsShort, Reports, World, WritesReport}
-use Rattle.vkg_cli.specs.Clauses.{AsksByWords, AsksInOrder, HasNoneFallen, HelpIsGiven, IsComplete, IsDoneOnly, IsMemoryTold, IsNoOther, IsNoOtherText, IsReadFaultOnly, IsRefusedExactly, IsReported, IsUntouched, IsUsageExactly, IsWriteFaultOnly, KeepsFiles, Writes}
+use Rattle.vkg_cli.specs.Answer.{Ends, HasFault, HasText, IsAnswer, IsDone, IsRefused, IsShort, Reports, Tells, World, WritesReport}
+use Rattle.vkg_cli.specs.Clauses.{AsksByWords, AsksInOrder, HasNoneFallen, HasNotFallen, HelpIsGiven, IsComplete, IsDoneOnly, IsMemoryTold, IsNoOther, IsNoOtherText, IsReadFaultOnly, IsRefusedExactly, IsReported, IsUntouched, IsUsageExactly, IsWriteFaultOnly, KeepsFiles, Writes}
 use Rattle.vkg_cli.proofs.Whole.{determined_work}
+
+-- a count that is the same, or rose, did not fall
+same_count : (before last now : ℕ) → now ≡ before → min before last ≤ now
+same_count before last now e = let l = min-le_left before last in omega (arith, l, e)
+
+risen_count : (before last now : ℕ) → min (before + 1) last ≤ now → min before last ≤ now
+risen_count before last now rose =
+    let l = min-le_left before last in
+    let up : min before last ≤ before + 1 = omega (arith, l) in
+    let least : min before last ≤ min (before + 1) last = le-min up (min-le_right before last) in
+    omega (arith, least, rose)
+
+not_fallen : (old new : SinkState) (line : List ℕ) → Tells old new line → HasNotFallen old.faults new.faults
+not_fallen old new line (inl took) = same_count old.faults (2 ^ 64 - 1) new.faults took.faults
+not_fallen old new line (inr broke) = risen_count old.faults (2 ^ 64 - 1) new.faults broke.faults
 
 abbrev Lines : Type 0
 Lines = List (List ℕ)
@@ -280,8 +296,8 @@ module _ (old new : World) (status : Status) where
   keeps_files (run command) is = is.files
 
   -- where memory was short, no count fell
-  kept : IsShort old new → (old.store.faults ≤ new.store.faults) × (old.out.faults ≤ new.out.faults)
-  kept short = let same = ap (λ (s : SinkState). s.faults) short.out in (short.store, omega (arith, same))
+  kept : IsShort old new → (old.store.faults ≤ new.store.faults) × (old.out.faults ≤ new.out.faults) × HasNotFallen old.err.faults new.err.faults
+  kept short = let same = ap (λ (s : SinkState). s.faults) short.out in (short.store, omega (arith, same), not_fallen old.err new.err _ short.told)
 
   pub none_fallen : (asked : Asked) → IsAnswer asked old new status → HasNoneFallen old new status
   none_fallen help (same, inl (is, took, quiet)) short = absurd (not_twice status Memory Done short is (λ e. cc e))

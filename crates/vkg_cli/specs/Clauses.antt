@@ -1,5 +1,5 @@
 -- The clauses of the top call, one for each answer, over the worlds before and after it.
-use Rattle.std.specs.Prelude.{◌≡◌, ◌⊎◌, ◌≤◌, ℕ, List, codes, Some}
+use Rattle.std.specs.Prelude.{◌≡◌, ◌⊎◌, ◌≤◌, ◌-◌, ◌^◌, ℕ, List, codes, min, Some}
 use Rattle.vkg_base.specs.Outside.{Files, Rose, Took, Broke}
 use Rattle.vkg_base.specs.Written.{written}
 use Rattle.vkg_base.specs.declared.status.Status.{Status}
@@ -109,6 +109,10 @@ AsksByWords (run command) old new = AsksFirst command old.store.asked new.store.
 abbrev pub KeepsFiles : World → World → Type 0
 KeepsFiles old new = new.store.files ≡ old.store.files
 
--- At Memory neither the store's count of faults fell nor the output's.
+-- a count of faults did not fall, or stands at its last value
+abbrev pub HasNotFallen : ℕ → ℕ → Type 0
+HasNotFallen before now = min before (2 ^ 64 - 1) ≤ now
+
+-- At Memory no count of faults fell: the store's, the output's and the error stream's.
 abbrev pub HasNoneFallen : World → World → Status → Type 0
-HasNoneFallen old new status = status ≡ Memory → (old.store.faults ≤ new.store.faults) × (old.out.faults ≤ new.out.faults)
+HasNoneFallen old new status = status ≡ Memory → (old.store.faults ≤ new.store.faults) × (old.out.faults ≤ new.out.faults) × HasNotFallen old.err.faults new.err.faults

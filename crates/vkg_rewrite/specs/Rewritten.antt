@@ -14,11 +14,12 @@ use Rattle.vkg_plan.specs.Plan.{Plan}
 use Rattle.vkg_plan.specs.Rows.{rows_of}
 use Rattle.vkg_row_rules.specs.RowRules.{row_rules}
 use Rattle.vkg_unfolded.specs.Unfolded.{start_plan}
+use Rattle.vkg_normal.specs.NormalForm.{normal_form}
 use Rattle.vkg_answers.specs.Answering.{row_solution}
 
--- the plan of its algebra over the quad rules of the mapping
+-- the normal form of the plan of its algebra over the quad rules of the mapping
 unfoldable pub rewritten : Tables → Mapping → Query → Plan
-rewritten schema mapping query = start_plan schema (row_rules schema mapping) query
+rewritten schema mapping query = normal_form schema (start_plan schema (row_rules schema mapping) query)
 
 -- SPARQL 1.1, 18.2.5, and R2RML, 11.1: over every database that meets the schema and has no data error the plan's rows, read as
 -- solutions (NULL is an unbound variable), are those of the lawful query over the output dataset of the mapping, each as often

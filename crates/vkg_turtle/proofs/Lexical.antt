@@ -12,7 +12,7 @@ use Rattle.vkg_tokens.specs.declared.cutting.Token.{Token}
 use Rattle.vkg_tokens.specs.declared.cutting.Piece.{Piece}
 use Rattle.vkg_tokens.specs.declared.cutting.Piece.TheVariants.{Gap, Word, Nothing}
 use Rattle.vkg_tokens.specs.Cut.{cut, cut_piece, piece, tokens_of}
-use Rattle.vkg_turtle.specs.Lexical.{valid_front, IsBadAt, no_token, no_utf8, IsFirstBad}
+use Rattle.vkg_turtle.specs.Lexical.{IsEndOfTokens, stops, ends, valid_front, IsBadAt, no_token, no_utf8, IsFirstBad}
 
 -- ---- a place at which no token begins is within the text
 
@@ -64,6 +64,10 @@ module _ {lang : Lang} {bytes : List ℕ} where
 
   pub first_byte : (ts : List Token) (at : ℕ) → (IsUtf8 bytes → ⊥) → tokens_of lang (valid_front bytes) ≡ Ok ts → at ≡ utf8_valid_len bytes → IsFirstBad lang bytes at
   first_byte ts at n e p = record { bad = no_utf8 n p; least = λ other h. let l = at_end ts e other h in omega (arith, l, p) }
+
+  pub first_in_front : (at : ℕ) → (IsUtf8 bytes → ⊥) → IsEndOfTokens lang (valid_front bytes) at → IsFirstBad lang bytes at
+  first_in_front at n (stops e) = first_token at e
+  first_in_front at n (ends {ts} e l) = first_byte ts at n e (l ∙ length-front bytes)
 
   -- ---- there is one, and none of a text of tokens
 

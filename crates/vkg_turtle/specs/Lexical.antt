@@ -1,12 +1,18 @@
 -- The least place at which no token begins or the bytes are no UTF-8.
-use Rattle.std.specs.Prelude.{◌≡◌, ◌≤◌, ℕ, List, take, IsUtf8, Err}
+use Rattle.std.specs.Prelude.{◌≡◌, ◌≤◌, ℕ, List, length, take, IsUtf8, Ok, Err}
 use Rattle.std.specs.Str.Lossy.{utf8_valid_len}
 use Rattle.vkg_tokens.specs.declared.lang.Lang.{Lang}
+use Rattle.vkg_tokens.specs.declared.cutting.Token.{Token}
 use Rattle.vkg_tokens.specs.Cut.{tokens_of}
 
 -- Unicode 3.9, table 3-7: the longest front of the bytes that is UTF-8
 abbrev pub valid_front : List ℕ → List ℕ
 valid_front bytes = take (utf8_valid_len bytes) bytes
+
+-- Tokens run up to this place of a text: no token begins at it, or it is the end.
+pub data IsEndOfTokens (lang : Lang) (text : List ℕ) : ℕ → Type 0 where
+  stops : {at : ℕ} → tokens_of lang text ≡ Err at → IsEndOfTokens lang text at
+  ends : {ts : List Token} {at : ℕ} → tokens_of lang text ≡ Ok ts → at ≡ length text → IsEndOfTokens lang text at
 
 -- RDF 1.1 Turtle, 6.5, and SPARQL 1.1, 19.8: tokens are of characters, so none holds a byte of no character. At this place no token begins, or
 -- the bytes are no UTF-8 from here.

@@ -5,7 +5,8 @@
 //! `vkg_unfolded` says which plan, and what it is good for.
 //!
 //! `unfold` answers exactly that plan for an algebra in a mode, which stands for the algebra over every database whose rows are fine;
-//! `start_plan` answers that of a query, whose rows are its solutions.
+//! `start_plan` answers that of a query, whose rows are its solutions. `left_plan` is the plan of an OPTIONAL over those of its
+//! sides, and `same_or_unbound` the condition under which two rows agree on a variable.
 //!
 //! The functions recurse as deep as the algebra and its conditions. A query that is read has at most 64 open braces or brackets at a
 //! place and 1,024 nodes, so a chain of joins or unions is at most that deep; chains of `&&` and `||` take no depth.
@@ -26,3 +27,4 @@ mod query;
 mod two;
 
 pub use query::{start_plan, unfold};
+pub use two::{left_plan, same_or_unbound};

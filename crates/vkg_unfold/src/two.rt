@@ -49,8 +49,9 @@ pub(crate) fn two(alloc: Global, p: Box<Plan>, q: Box<Plan>) -> Result<Items<Pla
     Ok(members)
 }
 
-/// The pairs that agree and pass the condition, and each row of the left without one.
-pub(crate) fn left_plan(
+/// The plan of an OPTIONAL over the plans of its two sides (SPARQL 1.1, 18.5, LeftJoin): the pairs that agree and pass the
+/// condition, and each row of the left without one. A condition that is an error is not passed.
+pub fn left_plan(
     alloc: Global,
     mode: &Mode,
     a: &Algebra,
@@ -244,8 +245,9 @@ fn push_same_graph(
     }
 }
 
-/// Two columns are the same, or one is NULL.
-fn same_or_unbound(alloc: Global, a: usize, b: usize) -> Result<Expr, Memory>
+/// Whether a variable has compatible values in two columns (SPARQL 1.1, 18.3): the columns are the same, or one is NULL, where
+/// the variable is unbound.
+pub fn same_or_unbound(alloc: Global, a: usize, b: usize) -> Result<Expr, Memory>
     ensures { IfOk result (λ e. expr_seen e ≡ or_null (Col a) (Col b)) }
 {
     let mut choices = Items::new(alloc);

@@ -36,6 +36,10 @@ def first_difference(ours, theirs):
     """A short word on where two endings differ."""
     if ours.status != theirs.status or ours.line != theirs.line:
         return f"vkg {ours.status} {ours.line!r}, the other {theirs.status} {theirs.line!r}"
+    if ours.output.count("\n") == theirs.output.count("\n") == 1:
+        same = len(os.path.commonprefix([ours.output, theirs.output]))
+        return "behind {!r} vkg {!r}, the other {!r}".format(
+            ours.output[max(0, same - 40) : same], *[ending.output[same : same + 80] for ending in (ours, theirs)])
     left, right = (collections.Counter(ending.output.split("\n")) for ending in (ours, theirs))
     alone = [sorted(lines.elements())[:2] for lines in (left - right, right - left)]
     return "vkg alone {!r}, the other alone {!r}".format(*alone) if alone != [[], []] else "the order of lines"

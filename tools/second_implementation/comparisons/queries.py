@@ -19,9 +19,8 @@ KNOWN_OF_RDFLIB = [
 ]
 
 
-def compare(comparison, seed, folder):
-    """Some queries over one database."""
-    case = random_case(seed)
+def queries_of(comparison, case, seed, folder):
+    """The values of some queries over the database of a case, whose files are then in a folder."""
     for number in range(comparison.options.queries):
         comparison.case = f"{seed}.{number}"
         try:
@@ -30,6 +29,13 @@ def compare(comparison, seed, folder):
             comparison.count("cases with a data error")
             return
         case.write(folder)
+        yield query
+
+
+def compare(comparison, seed, folder):
+    """Some queries over one database."""
+    case = random_case(seed)
+    for query in queries_of(comparison, case, seed, folder):
         compare_query(comparison, case, query, folder)
 
 
@@ -42,7 +48,7 @@ def compare_query(comparison, case, query, folder):
     query.visible = read_query(case.files["query.rq"].encode(), case.base).visible
     by_values = Ending(0, lines_text(answer_lines(query, dataset_of(case.quads()))))
     comparison.check("answer, by values", words, folder, ours, by_values)
-    compare_plan(comparison, case, folder, theirs)
+    compare_rows(comparison, case, folder, comparison.call(case.words("sql"), folder), theirs)
     if comparison.options.rdflib and ours is not None and ours.status == 0:
         compare_rdflib(comparison, case, folder, ours)
 
@@ -55,15 +61,13 @@ def with_rows(ending, tables):
         return ending._replace(output=f"no plan: {error!r}\n")
 
 
-def compare_plan(comparison, case, folder, answer):
-    """Runs the plan that `sql` prints, where it is not too long, and compares its rows with an answer."""
-    words = case.words("sql")
-    ours = comparison.call(words, folder)
+def compare_rows(comparison, case, folder, ours, answer):
+    """Runs the plan that a call of `sql` printed, where it is not too long, and compares its rows with an answer."""
     if ours is None or len(ours.output) > comparison.options.plan:
         comparison.count("plans that are too long to be run")
     else:
         rows = Ending(0, answer.output.partition("\n")[2])
-        comparison.check("rows of the plan", words, folder, with_rows(ours, case.tables), rows)
+        comparison.check("rows of the plan", case.words("sql"), folder, with_rows(ours, case.tables), rows)
 
 
 def compare_rdflib(comparison, case, folder, ours):

@@ -1,4 +1,4 @@
-"""The calls that README.md shows, and the queries of examples/company, asked of the program and of the second implementation."""
+"""The calls that README.md and docs/GUIDE.md show, and the queries of examples/company, asked of the program and of the second implementation."""
 import os
 import re
 import shutil
@@ -30,7 +30,7 @@ def as_shown(output, shown):
     return re.fullmatch(r"(?:.*\n)*".join(re.escape(part) for part in parts), output) is not None
 
 
-def check_call(comparison, command, folder, shown):
+def check_call(comparison, document, command, folder, shown):
     """Asks whether a call writes what is shown, by the program and, of `dump` and `query`, by the second implementation."""
     words = command.split()[1:]
     endings = {"vkg": comparison.call(words, folder)}
@@ -38,7 +38,7 @@ def check_call(comparison, command, folder, shown):
         endings["the second implementation"] = expected(words, folder)
     for name, ending in endings.items():
         is_so = ending is not None and as_shown(ending.output, shown)
-        comparison.check(f"README.md, {words[0]} by {name}", words, folder, ending, Ending(0, ending.output if is_so else shown))
+        comparison.check(f"{document}, {words[0]} by {name}", words, folder, ending, Ending(0, ending.output if is_so else shown))
 
 
 def check(comparison, words, folder, stored):
@@ -49,11 +49,12 @@ def check(comparison, words, folder, stored):
 
 
 def compare(comparison, _, folder):
-    """The calls of README.md that are no pipe, and the answers and plans of the example's queries."""
-    shutil.copytree(os.path.join(TOP, COMPANY), os.path.join(folder, COMPANY))
-    for command, shown in shown_in(read("README.md")):
-        if command.startswith("./vkg ") and "|" not in command:
-            check_call(comparison, command, folder, shown)
+    """The calls of the documents that ask nothing else of the shell, and the answers and plans of the example's queries."""
+    shutil.copytree(os.path.join(TOP, "examples"), os.path.join(folder, "examples"))
+    for document in ("README.md", "docs/GUIDE.md"):
+        for command, shown in shown_in(read(document)):
+            if command.startswith("./vkg ") and not re.search("[|;<]", command):
+                check_call(comparison, document, command, folder, shown)
     for name in ("kinds", "members", "payroll"):
         query = ["--query", f"{COMPANY}/queries/{name}.rq"]
         check(comparison, ["query", "--data", f"{COMPANY}/data", *CALL, *query], folder, read(COMPANY, "queries", name + ".tsv"))

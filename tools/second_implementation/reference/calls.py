@@ -2,17 +2,21 @@
 import os
 from typing import NamedTuple
 
-from reference.direct_mapping import direct_graph
+from reference.direct_mapping import direct_graph, direct_maps
 from reference.evaluation import answer_lines
 from reference.iris import iri_safe, is_absolute
 from reference.mapping_graph import read_mapping
+from reference.plan_nodes import plan_text
+from reference.quad_rules import quad_rules
 from reference.query_syntax import read_query
 from reference.r2rml import output_dataset
 from reference.rdf import dataset_of, dump_lines
 from reference.refusal import Refused
+from reference.rules import end_of
 from reference.schemas import read_schema
 from reference.table_files import check_keys, check_references, read_rows
 from reference.turtle import read_turtle
+from reference.unfolding import start_plan
 
 
 class Ending(NamedTuple):
@@ -55,11 +59,23 @@ class Command:
             check_references(tables)
         return tables
 
+    def maps(self, tables):
+        """The triples maps of the mapping."""
+        return read_mapping(read_turtle(self.load("--mapping"), self.base), tables)
+
     def quads(self, tables):
         """The quads of the mapping over the tables, or those of the direct mapping."""
         if "--mapping" not in self.options:
             return direct_graph(tables, self.base)
-        return output_dataset(read_mapping(read_turtle(self.load("--mapping"), self.base), tables), tables, self.base)
+        return output_dataset(self.maps(tables), tables, self.base)
+
+    def plan(self, rules):
+        """The line of the plan of the query by these rewrite rules."""
+        tables = self.tables()
+        maps = self.maps(tables) if "--mapping" in self.options else direct_maps(tables, self.base)
+        query = read_query(self.load("--query"), self.base)
+        plan = start_plan(query, tables, quad_rules(maps, tables, self.base))
+        return lines_text([plan_text(end_of(plan, tables, rules), tables)])
 
     def output(self):
         """The output; refused at the first fault."""
@@ -71,7 +87,7 @@ class Command:
 
 
 def expected(words, folder):
-    """How a call should end; the output of `sql` is not known, for its plan is the program's own."""
+    """How a call should end; the output of `sql` is left open here, and is compared by mode `plans`."""
     command = Command(words, folder)
     if not is_absolute(command.base):
         return Ending(2, "", "vkg: base is not an absolute IRI\n")

@@ -1,5 +1,6 @@
 """A Direct Mapping of Relational Data to RDF: the direct graph of a database whose tables all have primary keys."""
 from reference.iris import iri_safe
+from reference.r2rml import PredicateObjectMap, ReferencingMap, TermMap, TriplesMap
 from reference.rdf import RDF_TYPE, XSD, iri, literal
 from reference.refusal import Refused
 from reference.tables import agree
@@ -63,3 +64,31 @@ def direct_graph(tables, base):
             quads.update(literal_quads(table, row, base))
             quads.update(reference_quads(tables, table, row, base))
     return quads
+
+
+# ---- the same as an R2RML mapping, for plans ----
+
+
+def property_map(text, one):
+    """The predicate-object map of a property IRI."""
+    return PredicateObjectMap([TermMap("constant", iri(text))], [one])
+
+
+def triples_map(number, table, base):
+    """The triples map of a table: its row node, its class, its columns and its foreign keys."""
+    place = table_iri(table, base)
+    subject = [place]
+    for sign, column in zip("/" + ";" * len(table.columns), table.primary_key):
+        subject += [f"{sign}{names(table, [column])}=", column]
+    parts = [property_map(f"{place}#{names(table, [column])}", TermMap("column", column))
+             for column in range(len(table.columns))]
+    for key in table.foreign_keys:
+        reference = ReferencingMap(key.table, list(zip(key.columns, key.target)))
+        parts.append(property_map(f"{place}#ref-{names(table, key.columns)}", reference))
+    return TriplesMap(number, TermMap("template", subject, "IRI"), [iri(place)], [], parts)
+
+
+def direct_maps(tables, base):
+    """The triples maps of which the direct graph is the output dataset."""
+    check(tables)
+    return [triples_map(number, table, base) for number, table in enumerate(tables)]

@@ -54,11 +54,16 @@ class TurtleCursor(TriplesCursor):
         return self.subject() if self.sees_kind("BLANK") or self.sees_iri() else self.literal()
 
 
-def read_turtle(data, base):
-    """The triples of a document, each once, in the order of their objects' places; refused at its first fault."""
+def read_placed(data, base):
+    """The triples of a document, each with the byte at which its object begins, in the order of these; refused at its first fault."""
     tokens = [with_keyword(token) for token in cut_bytes(data, CLASSES + SIGNS, SKIPPED, "M01")]
     check_depth(tokens, "M03")
     cursor = TurtleCursor(tokens, base)
     cursor.document()
     refuse_first(cursor.faults)
-    return list(dict.fromkeys(triple for triple, _ in sorted(cursor.triples, key=lambda pair: pair[1])))
+    return sorted(cursor.triples, key=lambda pair: pair[1])
+
+
+def read_turtle(data, base):
+    """The triples of a document, each once, in the order of their objects' places; refused at its first fault."""
+    return list(dict.fromkeys(triple for triple, _ in read_placed(data, base)))

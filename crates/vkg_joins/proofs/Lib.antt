@@ -1,0 +1,2 @@
+pub mod FirstJoin
+pub mod Widths

@@ -1,0 +1,36 @@
+-- The first Join is opened where it stands.
+use Rattle.std.proofs.Common.{◌≡◌, ◌∙◌, ◌+◌, length, length-append, drop, sym, ap, subst, arith}
+use Rattle.std.specs.Prelude.{option_map}
+use Rattle.vkg_plan.specs.Kinds.{width}
+use Rattle.vkg_plan.specs.Seen.{plan_seen}
+use Rattle.vkg_rules.proofs.Members.{drop_here}
+use Rattle.vkg_rules.specs.Parts.{AreTyped, typed_more}
+use Rattle.vkg_rules.specs.StepSeen.{plans_seen}
+use Rattle.vkg_joins.proofs.FirstJoin.{join_here, no_join_here}
+use Rattle.vkg_joins.proofs.Widths.{kinds-width}
+use Rattle.vkg_joins.specs.JoinInJoin.{parts_behind}
+use Rattle.vkg_joins.specs.MembersSeen.{members_seen}
+use Rattle.vkg_joins.proofs.join_in_join.opened.Goals as goal
+
+pub returns-in-Some : goal.returns-in-Some
+returns-in-Some c =
+    let p = c.index-ps-i.result in
+    let parts = ap (option_map members_seen) (sym c.in-Some.is) ∙ c.in_ok-inner.ensures ∙ ap (λ ks. parts_behind (length ks) (plan_seen p)) c.as_slice.ensures in
+    join_here c.args.schema.now c.args.ps.now c.loop-i.i (length c.loop-i.before) p c.in-Some.inner c.in_ok-spliced.field-0 c.in-Some.c
+    (omega arith) c.index-ps-i.is parts c.in_ok-spliced.ensures c.loop-i.invariant.found
+
+pub loop-i-preserved : goal.loop-i-preserved
+loop-i-preserved c =
+    let s = c.args.schema.now in
+    let ps = c.args.ps.now in
+    let i = c.loop-i.i in
+    let p = c.index-ps-i.result in
+    let n = length c.loop-i.before in
+    let here = drop_here ps i p (omega arith) c.index-ps-i.is in
+    let none = ap (option_map members_seen) (sym c.in_default.is) ∙ c.in_ok-inner.ensures ∙ ap (λ ks. parts_behind (length ks) (plan_seen p)) c.as_slice.ensures in
+    let wider : length c.append.new.self ≡ n + width s (plan_seen p) =
+    ap length c.in_ok-append.ensures.ok ∙ length-append c.loop-i.before c.in_ok-kinds.field-0 ∙ ap (λ k. n + k) (ap length c.in_ok-kinds.ensures ∙ kinds-width s (plan_seen p)) in
+    record {
+      found = no_join_here s ps i n (length c.append.new.self) p (omega arith) c.index-ps-i.is none wider c.loop-i.invariant.found;
+      typed = (typed_more s (plan_seen p) (plans_seen (drop (i + 1) ps)) (subst (λ l. AreTyped s (plans_seen l)) here c.loop-i.invariant.typed)).1;
+    }

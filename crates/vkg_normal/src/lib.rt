@@ -1,0 +1,18 @@
+//! The list of rules that rewrite plans, in one place, and the normal form of a plan under them.
+//!
+//! Follows the equivalences of relational algebra over bags, with SQL's three-valued conditions (SQL-92, 7 and 8).
+//! `specs/NormalForm.antt` defines the list and the normal form: the end of the rules, each step taken at the first subplan in
+//! preorder that a rule changes, by the first such rule. `normalise` computes it. It is the one end that is reached from the
+//! plan, no rule applies anywhere in it, and it has the plan's columns and its bag of rows over every database that meets the
+//! schema; `normal_forms` is that law of the definition alone. A new rule is a line in `specs/NormalForm.antt` and one in `rules`.
+//!
+//! Stands on vkg_shapes for the rules, on vkg_rules for their laws and on vkg_steps for steps in place.
+#![tactic(auto)]
+
+mod laws;
+mod normal_form;
+mod order;
+
+pub use laws::normal_forms;
+pub use normal_form::normalise;
+pub use order::{Flatten, Rules, rules};

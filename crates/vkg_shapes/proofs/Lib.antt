@@ -1,0 +1,4 @@
+pub mod Dropping
+pub mod Opening
+pub mod Seen
+pub mod Several

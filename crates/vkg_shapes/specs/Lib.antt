@@ -1,0 +1,15 @@
+pub mod Parts
+pub mod Without
+pub mod TableRows
+pub mod PartsLaw
+pub mod UnionKinds
+pub mod SelectTrue
+pub mod SelectTrueLaw
+pub mod FalseCondition
+pub mod FalseConditionLaw
+pub mod PropagateEmpty
+pub mod PropagateEmptyLaw
+pub mod FlatUnion
+pub mod FlatUnionLaw
+pub mod FewMembers
+pub mod FewMembersLaw

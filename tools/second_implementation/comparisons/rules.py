@@ -1,0 +1,47 @@
+"""The rewrite rules on random plans: whether a plan and what it becomes have the same columns and the same bag of rows.
+
+The program takes queries alone, so it has no part in this: the rules of `reference/rules.py` are tried against the rows that
+`reference/plans.py` gives the plans' texts.
+"""
+import os
+
+from random_inputs.chance import Chance
+from random_inputs.plans import PlanMaker, most_rows
+from random_inputs.tables import random_tables
+from reference.calls import Ending, lines_text
+from reference.plan_nodes import kinds_of, plan_text, subplans
+from reference.plans import PlanRunner
+from reference.rules import RULES, end_of
+
+
+def applications(plan, tables):
+    """What rules make of a plan and of the plans in it: the rule's name, the plan and what it becomes."""
+    for rule in RULES:
+        changed = rule(plan, tables)
+        if changed is not None:
+            yield rule.__name__, plan, changed
+    for one in subplans(plan):
+        yield from applications(one, tables)
+
+
+def rows_of(plan, tables):
+    """The kinds of the columns of a plan, and its rows in one order, as the output of a call."""
+    _, rows = PlanRunner(plan_text(plan, tables), tables).plan()
+    return Ending(0, lines_text([repr(kinds_of(plan, tables)), *sorted(map(repr, rows))]))
+
+
+def compare(comparison, seed, folder):
+    """Some plans over one database: each single change of them, and their ends."""
+    chance = Chance(f"plans {seed}")
+    tables = random_tables(chance)
+    for number in range(comparison.options.queries):
+        comparison.case = f"{seed}.{number}"
+        plan = PlanMaker(chance, tables).plan(chance.randint(1, 4))
+        if most_rows(plan, tables) > comparison.options.limit:
+            comparison.count("plans with too many rows")
+            continue
+        for name, before, after in [*applications(plan, tables), ("end", plan, end_of(plan, tables, RULES))]:
+            texts = [plan_text(before, tables), plan_text(after, tables)]
+            with open(os.path.join(folder, "plans.txt"), "w", encoding="utf-8") as out:
+                out.write(lines_text([*texts, repr(tables)]))
+            comparison.check(name, [], folder, rows_of(before, tables), rows_of(after, tables))
