@@ -6,7 +6,7 @@ usage: tools/second_implementation/compare.py WHAT --vkg PROGRAM [options]
   dump       `dump` by the direct mapping and by random R2RML mappings
   query      `query` on random queries; `sql`, whose plan is run here; with --rdflib the answers of rdflib, too
   plans      `sql` on random queries: the text of the plan; with --start that of the plan before any rewriting
-  rules      the rewrite rules on random plans; both sides are plans here, and no program is called
+  rules      the rewrite rules on random plans, and on those of random queries; no program is called
   change     valid cases with one token or byte changed: how the program refuses them, or what it then answers
   faults     R2RML mappings whose graphs have faults
   words      calls whose words are changed
@@ -29,7 +29,7 @@ MODES = {
     "dump": [dumps.compare],
     "query": [queries.compare],
     "plans": [plans.compare],
-    "rules": [rules.compare],
+    "rules": [rules.compare, rules.compare_queries],
     "change": [changes.compare_tokens],
     "faults": [changes.compare_faults],
     "words": [changes.compare_words],

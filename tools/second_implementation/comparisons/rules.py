@@ -1,22 +1,28 @@
-"""The rewrite rules on random plans: whether a plan and what it becomes have the same columns and the same bag of rows.
+"""The rewrite rules on random plans and queries: whether a plan and what it becomes have the same columns and the same bag of rows.
 
-The program takes queries alone, so it has no part in this: the rules of `reference/rules.py` are tried against the rows that
-`reference/plans.py` gives the plans' texts.
+The program has no part in this: the rules of `reference/rules.py` are tried against the rows that `reference/plans.py` gives the
+plans' texts, and what they make of a query's start plan against the query's answer. Rules that the program does not have yet are
+tried, too.
 """
 import os
 
+from comparisons.queries import compare_rows, queries_of
+from random_inputs.cases import random_case
 from random_inputs.chance import Chance
 from random_inputs.plans import PlanMaker, most_rows
 from random_inputs.tables import random_tables
-from reference.calls import Ending, lines_text
+from reference.calls import Command, Ending, expected, lines_text
 from reference.plan_nodes import kinds_of, plan_text, subplans
 from reference.plans import PlanRunner
-from reference.rules import RULES, end_of
+from reference.rules import LATER, RULES, end_of
+
+# Those that the program has, and those that it is to have.
+ALL = RULES + LATER
 
 
 def applications(plan, tables):
     """What rules make of a plan and of the plans in it: the rule's name, the plan and what it becomes."""
-    for rule in RULES:
+    for rule in ALL:
         changed = rule(plan, tables)
         if changed is not None:
             yield rule.__name__, plan, changed
@@ -40,8 +46,17 @@ def compare(comparison, seed, folder):
         if most_rows(plan, tables) > comparison.options.limit:
             comparison.count("plans with too many rows")
             continue
-        for name, before, after in [*applications(plan, tables), ("end", plan, end_of(plan, tables, RULES))]:
+        for name, before, after in [*applications(plan, tables), ("end", plan, end_of(plan, tables, ALL))]:
             texts = [plan_text(before, tables), plan_text(after, tables)]
             with open(os.path.join(folder, "plans.txt"), "w", encoding="utf-8") as out:
                 out.write(lines_text([*texts, repr(tables)]))
             comparison.check(name, [], folder, rows_of(before, tables), rows_of(after, tables))
+
+
+def compare_queries(comparison, seed, folder):
+    """Some queries over one database: the rows of the end of the rules, and the answer."""
+    case = random_case(seed)
+    for _ in queries_of(comparison, case, seed, folder):
+        start, end = (Command(case.words("sql"), folder).plan(rules) for rules in ([], ALL))
+        comparison.count("plans that rules change" if start != end else "plans that no rule changes")
+        compare_rows(comparison, case, folder, Ending(0, end), expected(case.words("query"), folder))

@@ -44,10 +44,21 @@ class PlanMaker:
             return self.chance.choice(columns)
         forms = [call("LEX", Column(place)) for place, one in enumerate(kinds) if one != "term"]
         if kind == "term" and forms and self.chance.happens(0.8):
-            form = self.chance.choice(forms)
-            made = call("IRI", call("CONCAT", text_constant("http://e/"), call("SAFE", form)))
-            return self.chance.choice([made, call("LIT", form), call("BLANK", form)])
+            return self.made_term(forms)
         return self.condition(kinds, 1) if kind == "boolean" else self.constant(kind)
+
+    def made_term(self, forms):
+        """A term made of some of these forms."""
+        one, other = self.chance.choice(forms), self.chance.choice(forms)
+        front = text_constant("http://e/")
+        return self.chance.choice([
+            call("IRI", call("CONCAT", front, call("SAFE", one))),
+            call("IRI", call("CONCAT", front, call("SAFE", one), text_constant("/"), call("SAFE", other))),
+            call("IRI", call("IRI_OF", front, one)),
+            call("LIT", one),
+            call("LIT", call("CONCAT", one, text_constant("-"), other)),
+            call("BLANK", one),
+        ])
 
     def condition(self, kinds, depth=2):
         """A condition; constants are frequent, and so are tests of one column, which more rows meet than equalities."""
@@ -56,7 +67,9 @@ class PlanMaker:
             return self.chance.choice([TRUE, TRUE, TRUE, FALSE, null("boolean")])
         if roll < 0.4:
             others = [other for other, kind in enumerate(kinds) if family(kind) == family(kinds[place])]
-            return call("SAME", Column(place), Column(self.chance.choice(others)))
+            terms = [self.expression("term", kinds) for _ in range(2)]
+            columns = [Column(place), Column(self.chance.choice(others))]
+            return call("SAME", *self.chance.choice([columns, terms]))
         if roll < 0.8 or depth == 0:
             test = call("IS_NULL", Column(place))
             return self.chance.choice([test, call("NOT", test), call("SAME", Column(place), Column(place))])
@@ -96,7 +109,8 @@ class PlanMaker:
             return Distinct(inner)
         if node is UnionAll:
             others = [self.projection(kinds, depth - 1) for _ in range(self.chance.choice([0, 1, 1, 2]))]
-            return UnionAll(tuple(self.chance.sample([inner, *others], 1 + len(others))))
+            again = [inner] if self.chance.happens(0.3) else []
+            return UnionAll(tuple(self.chance.sample([inner, *others, *again], 1 + len(others + again))))
         return self.pairs(node, inner, depth)
 
     def pairs(self, node, inner, depth):

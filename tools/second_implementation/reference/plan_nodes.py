@@ -83,6 +83,16 @@ def conjuncts(condition):
     return list(condition.arguments) if is_and else [condition]
 
 
+def columns_in(expression):
+    """The places of the columns in an expression, in the order of its text."""
+    match expression:
+        case Column(place):
+            return [place]
+        case Call(_, arguments):
+            return [place for one in arguments for place in columns_in(one)]
+    return []
+
+
 def moved(expression, count):
     """An expression whose columns stand so many places further right."""
     match expression:
@@ -190,6 +200,47 @@ def with_subplans(plan, plans):
         case Left(_, _, condition):
             return Left(*plans, condition)
     return plan
+
+
+def own_expressions(plan):
+    """The expressions of a node itself: its condition, or what it projects."""
+    match plan:
+        case Select(condition, _) | Join(_, condition) | Left(_, _, condition):
+            return [condition]
+        case Project(expressions, _):
+            return list(expressions)
+    return []
+
+
+def with_expressions(plan, expressions):
+    """A node with other expressions of its own."""
+    match plan:
+        case Select(_, inner):
+            return Select(*expressions, inner)
+        case Join(members, _):
+            return Join(members, *expressions)
+        case Left(left, right, _):
+            return Left(left, right, *expressions)
+        case Project(_, inner):
+            return Project(tuple(expressions), inner)
+    return plan
+
+
+def first_changed(change, parts):
+    """A list with its first part that a function changes as that function has it, or None where it changes none."""
+    for place, part in enumerate(parts):
+        found = change(part)
+        if found is not None:
+            return [*parts[:place], found, *parts[place + 1 :]]
+    return None
+
+
+def in_conjuncts(change, plan):
+    """A node with the first conjunct of its condition changed that a function changes, or None."""
+    if not isinstance(plan, (Select, Join, Left)):
+        return None
+    found = first_changed(change, conjuncts(plan.condition))
+    return None if found is None else with_expressions(plan, [conjunction(found)])
 
 
 # ---- kinds ----

@@ -3,8 +3,10 @@
 A rule takes a plan and its tables, and gives another plan with the same columns and the same bag of rows, or None where it
 changes nothing at the root. A row is kept where a condition is true, not where it is false or unknown (SQL-92, 8.12).
 """
-from reference.plan_nodes import (FALSE, TRUE, Column, Empty, Join, Left, Project, Select, Unit, UnionAll, conjunction,
-                                  conjuncts, kinds_of, moved, null, subplans, with_subplans)
+from reference.conditions import simplify_condition, simplify_null
+from reference.plan_nodes import (FALSE, TRUE, Column, Distinct, Empty, Join, Left, Project, Select, Unit, UnionAll, conjunction,
+                                  conjuncts, first_changed, kinds_of, moved, null, subplans, with_subplans)
+from reference.term_equalities import term_equality
 
 
 def width(plans, tables):
@@ -88,8 +90,34 @@ def flat_union(plan):
     return plan.members[0] if len(plan.members) == 1 else None
 
 
-# Of two rules that change a plan the first one does.
+def without_distinct(plan):
+    """A plan without its first Distinct, in preorder, or None."""
+    if isinstance(plan, Distinct):
+        return plan.inner
+    found = first_changed(without_distinct, subplans(plan))
+    return None if found is None else with_subplans(plan, found)
+
+
+def distinct_distinct(plan, tables):
+    """DistinctDistinct: under a Distinct another one is dropped, however deep."""
+    inner = without_distinct(plan.inner) if isinstance(plan, Distinct) else None
+    return None if inner is None else Distinct(inner)
+
+
+def equal_members(plan, tables):
+    """EqualMembers: under a Distinct the first member of a union goes that is equal to an earlier one."""
+    if not isinstance(plan, Distinct) or not isinstance(plan.inner, UnionAll):
+        return None
+    members = plan.inner.members
+    place = next((place for place, one in enumerate(members) if one in members[:place]), None)
+    return None if place is None else Distinct(UnionAll(replaced(members, place, [])))
+
+
+# The program's rules: of two that change a plan the first one does.
 RULES = [select_true, false_condition, propagate_empty, flatten]
+
+# What the program does not have yet, in the order in which it is to follow.
+LATER = [distinct_distinct, equal_members, term_equality, simplify_condition, simplify_null]
 
 
 # ---- the end ----
@@ -101,12 +129,8 @@ def first_change(plan, tables, rules):
         found = rule(plan, tables)
         if found is not None:
             return found
-    inner = subplans(plan)
-    for place, one in enumerate(inner):
-        found = first_change(one, tables, rules)
-        if found is not None:
-            return with_subplans(plan, inner[:place] + [found] + inner[place + 1 :])
-    return None
+    found = first_changed(lambda one: first_change(one, tables, rules), subplans(plan))
+    return None if found is None else with_subplans(plan, found)
 
 
 def end_of(plan, tables, rules):

@@ -1,0 +1,179 @@
+"""The rules SimplifyCondition and SimplifyNull: what is constant, nested or said twice in a condition goes.
+
+A case is a function that gives what an expression becomes, or None. Of a rule the first case that changes any of a node's own
+expressions does, at the first place in the order of the text.
+"""
+from reference.plan_nodes import (FALSE, TRUE, Call, Column, Constant, Join, Left, Project, Scan, Select, call, columns_in, conjunction,
+                                  disjunction, first_changed, in_conjuncts, kinds_of, null, own_expressions, subplans,
+                                  with_expressions)
+
+# The functions that make texts and terms: NULL exactly where a part is.
+MAKERS = ("IRI", "IRI_OF", "BLANK", "LIT", "LEX", "SAFE", "CONCAT")
+
+# What decides an And and an Or, what adds nothing to them, and how one of some conditions is made (SQL-92, 8.12).
+DECIDES = {"AND": FALSE, "OR": TRUE}
+NEUTRAL = {"AND": TRUE, "OR": FALSE}
+JOINED = {"AND": conjunction, "OR": disjunction}
+
+
+def is_strict(expression):
+    """Whether an expression is of columns, constants but NULL, and what makes texts and terms of them."""
+    match expression:
+        case Column(_):
+            return True
+        case Constant(_, value):
+            return value is not None
+        case Call(name, arguments):
+            return name in MAKERS and all(map(is_strict, arguments))
+
+
+# ---- at a place ----
+
+
+def first_place(change, expression):
+    """An expression changed at the first place at which a function changes it, itself before its parts, or None."""
+    found = change(expression)
+    if found is not None or not isinstance(expression, Call):
+        return found
+    arguments = first_changed(lambda one: first_place(change, one), expression.arguments)
+    return None if arguments is None else Call(expression.name, tuple(arguments))
+
+
+def by_cases(cases, plan):
+    """A node changed by the first case that changes an expression of its own, or None."""
+    for case in cases:
+        found = first_changed(lambda one: first_place(case, one), own_expressions(plan))
+        if found is not None:
+            return with_expressions(plan, found)
+    return None
+
+
+def of_several(change):
+    """A case that changes the members of an And or Or by a function of its name and them."""
+    def case(expression):
+        is_several = isinstance(expression, Call) and expression.name in JOINED
+        found = change(expression.name, expression.arguments) if is_several else None
+        return None if found is None else JOINED[expression.name](found)
+    return case
+
+
+def without(members, place):
+    """Members without that at a place."""
+    return members[:place] + members[place + 1 :]
+
+
+# ---- the cases of SimplifyCondition ----
+
+
+def deciding(expression):
+    """False in an And, true in an Or."""
+    if isinstance(expression, Call) and DECIDES.get(expression.name) in expression.arguments:
+        return DECIDES[expression.name]
+    return None
+
+
+@of_several
+def neutral(name, members):
+    """True goes in an And, false in an Or."""
+    return without(members, members.index(NEUTRAL[name])) if NEUTRAL[name] in members else None
+
+
+def negated(expression):
+    """Not of a constant."""
+    match expression:
+        case Call("NOT", (Constant("boolean", None),)):
+            return null("boolean")
+        case Call("NOT", (Constant("boolean", truth),)):
+            return FALSE if truth else TRUE
+    return None
+
+
+@of_several
+def flat(name, members):
+    """An And or Or of none or one, or with another in it."""
+    for place, one in enumerate(members):
+        if len(members) > 1 and isinstance(one, Call) and one.name == name:
+            return members[:place] + one.arguments + members[place + 1 :]
+    return members if len(members) < 2 else None
+
+
+def twice_negated(expression):
+    """Not of Not."""
+    match expression:
+        case Call("NOT", (Call("NOT", (inner,)),)):
+            return inner
+    return None
+
+
+@of_several
+def repeated(_, members):
+    """A member that stands there before."""
+    place = next((place for place, one in enumerate(members) if one in members[:place]), None)
+    return None if place is None else without(members, place)
+
+
+def same_itself(condition):
+    """What is strict is the same as itself where it is known (SQL-92, 8.2)."""
+    match condition:
+        case Call("SAME", (one, other)) if one == other and is_strict(one):
+            return call("NOT", call("IS_NULL", one))
+    return None
+
+
+CASES = [deciding, neutral, negated, flat, twice_negated, repeated]
+
+
+def simplify_condition(plan, tables):
+    """SimplifyCondition: one step in a node's own expressions; an equality of one with itself goes as a conjunct alone."""
+    found = by_cases(CASES, plan)
+    return in_conjuncts(same_itself, plan) if found is None else found
+
+
+# ---- SimplifyNull ----
+
+
+def never_null(plan, tables):
+    """Of each column of a plan whether it is a NOT NULL column of a table, scanned below selections and joins alone."""
+    match plan:
+        case Scan(table):
+            return [column.not_null for column in tables[table].columns]
+        case Select(_, inner):
+            return never_null(inner, tables)
+        case Join(members, _):
+            return sum((never_null(one, tables) for one in members), [])
+    return [False for _ in kinds_of(plan, tables)]
+
+
+def is_null(expression):
+    """What an IS_NULL tests, or None."""
+    return expression.arguments[0] if isinstance(expression, Call) and expression.name == "IS_NULL" else None
+
+
+def known_column(flags):
+    """The case of a column that is never NULL."""
+    def case(expression):
+        tested = is_null(expression)
+        return FALSE if isinstance(tested, Column) and flags[tested.place] else None
+    return case
+
+
+def of_constant(expression):
+    """The test of a constant is a truth."""
+    tested = is_null(expression)
+    return (TRUE if tested.value is None else FALSE) if isinstance(tested, Constant) else None
+
+
+def of_strict(expression):
+    """What is strict is NULL where one of its columns is."""
+    tested = is_null(expression)
+    if not isinstance(tested, Call) or not is_strict(tested):
+        return None
+    return disjunction([call("IS_NULL", Column(place)) for place in dict.fromkeys(columns_in(tested))])
+
+
+def simplify_null(plan, tables):
+    """SimplifyNull: tests for NULL become those of single columns that may be NULL."""
+    if not isinstance(plan, (Select, Project, Join, Left)):
+        return None
+    flags = sum((never_null(one, tables) for one in subplans(plan)), [])
+    return by_cases([known_column(flags), of_constant, of_strict], plan)
