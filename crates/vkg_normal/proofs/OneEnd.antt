@@ -1,11 +1,11 @@
 -- A rule has at most one end from a plan.
-use Rattle.std.proofs.Common.{◌≡◌, ℕ, zero, suc, Option, Some, None, refl, sym, ap, ◌∙◌}
+use Rattle.std.proofs.Common.{◌≡◌, ℕ, zero, suc, Option, Some, None, sym, ap, ◌∙◌}
 use Rattle.std.specs.Prelude.{option_and_then}
 use Rattle.std.proofs.lemmas.Option.{same_Some}
 use Rattle.vkg_plan.specs.Kinds.{Tables}
 use Rattle.vkg_plan.specs.Plan.{Plan}
-use Rattle.vkg_rules.specs.Ends.{IsEndOf, changed, changed_times}
 use Rattle.vkg_rules.specs.Steps.{Rule}
+use Rattle.vkg_chains.specs.Ends.{IsEndOf, changed, changed_times}
 
 module _ (r : Rule) (s : Tables) where
   -- none after no more change

@@ -2,8 +2,8 @@
 use Rattle.std.specs.Prelude.{◌≡◌}
 use Rattle.vkg_plan.specs.Kinds.{Tables}
 use Rattle.vkg_plan.specs.Plan.{Plan}
-use Rattle.vkg_rules.specs.Ends.{IsEndOf}
 use Rattle.vkg_rules.specs.Steps.{IsTyped, Keeps}
+use Rattle.vkg_chains.specs.Ends.{IsEndOf}
 use Rattle.vkg_normal.specs.NormalForm.{IsNormal, all_rules, normal_form}
 
 -- the one plan that is reached from p and that no rule changes any more; no rule applies at any subplan of it, and it has the

@@ -1,7 +1,7 @@
 ghost use Rattle.std.specs.Prelude.{◌≡◌, IfOk};
 ghost use Rattle.vkg_plan.specs.Seen.{plan_seen};
-ghost use Rattle.vkg_rules.specs.Ends.{IsEndOf};
 ghost use Rattle.vkg_rules.specs.Steps.{IsTyped, Keeps};
+ghost use Rattle.vkg_chains.specs.Ends.{IsEndOf};
 ghost use Rattle.vkg_normal.specs.NormalForm.{IsNormal, all_rules, normal_form};
 
 use crate::order::rules;

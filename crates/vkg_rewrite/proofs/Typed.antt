@@ -15,9 +15,9 @@ use Rattle.vkg_unfolded.specs.Unfolded.{start_plan}
 use Rattle.vkg_unfolded.specs.FittingRules.{FitJoins, FitsJoin, IsFitting}
 use Rattle.vkg_unfolded.proofs.AlgebraColumns.{start_plan_kinds}
 use Rattle.vkg_fine_rules.proofs.FittingRules.{has_fitting_rules}
-use Rattle.vkg_rules.specs.Ends.{IsEndOf}
-use Rattle.vkg_rules.specs.FixLaw.{typed-kept}
 use Rattle.vkg_rules.specs.Steps.{Keeps}
+use Rattle.vkg_chains.specs.Ends.{IsEndOf}
+use Rattle.vkg_chains.specs.FixLaw.{typed-kept}
 use Rattle.vkg_normal.specs.NormalForm.{IsNormal, all_rules}
 use Rattle.vkg_normal.proofs.Normal.{normal-end, normal-keeps, normal-settled}
 use Rattle.vkg_rewrite.specs.Rewritten.{rewritten}

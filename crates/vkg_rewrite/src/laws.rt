@@ -6,7 +6,7 @@ ghost use Rattle.vkg_sparql.specs.Query.{Query};
 ghost use Rattle.vkg_plan.specs.Kinds.{Tables};
 ghost use Rattle.vkg_row_rules.specs.RowRules.{row_rules};
 ghost use Rattle.vkg_unfolded.specs.Unfolded.{start_plan};
-ghost use Rattle.vkg_rules.specs.Ends.{IsEndOf};
+ghost use Rattle.vkg_chains.specs.Ends.{IsEndOf};
 ghost use Rattle.vkg_normal.specs.NormalForm.{IsNormal, all_rules};
 ghost use Rattle.vkg_rewrite.specs.Rewritten.{rewritten};
 

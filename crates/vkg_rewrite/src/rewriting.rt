@@ -7,8 +7,9 @@ ghost use Rattle.vkg_row_rules.specs.RowRules.{row_rules as rules_over_rows};
 ghost use Rattle.vkg_maps.specs.Within.{IsWithin};
 ghost use Rattle.vkg_unfolded.specs.FittingRules.{FitJoins};
 ghost use Rattle.vkg_unfolded.specs.Unfolded.{start_plan as plan_of_query};
-ghost use Rattle.vkg_rules.specs.Ends.{IsEndOf};
-ghost use Rattle.vkg_normal.specs.NormalForm.{IsNormal, all_rules};
+ghost use Rattle.vkg_rules.specs.Steps.{IsTyped};
+ghost use Rattle.vkg_chains.specs.Ends.{IsEndOf};
+ghost use Rattle.vkg_normal.specs.NormalForm.{IsNormal, all_rules, normal_form};
 ghost use Rattle.vkg_rewrite.specs.Rewritten.{HasSolutions, rewritten};
 
 use std::alloc::Global;
@@ -42,6 +43,15 @@ pub fn rewrite(
     let _tables = schema.tables();
     let rules = rules_of(alloc, schema, mapping)?;
     let start = plan_of(alloc, schema, rules.as_slice(), query)?;
+    let plan = normal_plan(alloc, schema, start)?;
+    Ok(plan)
+}
+
+/// The normal form of a plan, which is well typed as the plan is.
+fn normal_plan(alloc: Global, schema: &Schema, start: Box<Plan>) -> Result<CheckedPlan, Memory>
+    requires { IsTyped schema.now (plan_seen start) }
+    ensures { IfOk result (λ p. plan_seen p ≡ normal_form schema.now (plan_seen start)) }
+{
     let end = normalise(alloc, schema, start)?;
     Ok(CheckedPlan::new(end.into_inner(), schema))
 }

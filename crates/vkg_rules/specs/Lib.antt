@@ -8,7 +8,3 @@ pub mod Weights
 pub mod InNodes
 pub mod EverywhereLaw
 pub mod Either
-pub mod Fix
-pub mod Chains
-pub mod FixLaw
-pub mod Ends

@@ -3,19 +3,17 @@
 //!
 //! Follows the equivalences of relational algebra over bags, with SQL's three-valued conditions (SQL-92, 7 and 8). A rule is a
 //! `Rewrite`: `becomes` says what it makes of each plan, `apply` makes exactly that, and `keeps` and `falls` are its laws.
-//! `Either`, `Everywhere` and `Fix` make rules of rules, and their laws follow from those of any rules. `specs/Measure.antt`
-//! defines the measure, `specs/Ends.antt` what the end of a rule is.
+//! `Either` and `Everywhere` make rules of rules, and their laws follow from those of any rules. `specs/Measure.antt` defines
+//! the measure.
 //!
 //! Stands on vkg_plan for plans and their rows, and on vkg_schema for the tables.
 #![tactic(auto)]
 
 mod either;
 mod everywhere;
-mod fix;
 pub mod nodes;
 mod rewrite;
 
 pub use either::Either;
 pub use everywhere::Everywhere;
-pub use fix::Fix;
 pub use rewrite::{Fell, Rewrite};

@@ -20,7 +20,7 @@ mod flat_union;
 mod parts;
 mod propagate_empty;
 mod select_true;
-mod without;
+pub mod without;
 
 pub use false_condition::FalseCondition;
 pub use few_members::FewMembers;

@@ -1,4 +1,7 @@
 // A step in a plan that is owned: its parts are moved, and copied only where the rule makes a new plan.
+//
+// Where a call fails, a condition at hand is dropped by a call, and so is a member that is put back: in line, each of their many
+// forms is one more way out of the function, which the prover goes.
 ghost use Rattle.std.specs.Prelude.{◌≡◌, [], ◌∷◌, ◌++◌, IfOk, MatchOption, None, map, reverse};
 ghost use Rattle.vkg_expr.specs.Seen.{expr_seen};
 ghost use Rattle.vkg_plan.specs.Plan.{Distinct, Join, Left, Project, Select, UnionAll};
@@ -87,9 +90,21 @@ fn step_below<R: Rewrite>(
         Plan::Unit => boxed(alloc, Plan::Unit, None, Items::new(alloc)),
         Plan::Empty(kinds) => boxed(alloc, Plan::Empty(kinds), None, Items::new(alloc)),
         Plan::Scan(table) => boxed(alloc, Plan::Scan(table), None, Items::new(alloc)),
-        Plan::Select(c, p) => selected(alloc, c, step_in(rule, alloc, schema, p, place)?),
+        Plan::Select(c, p) => match step_in(rule, alloc, schema, p, place) {
+            Ok(x) => selected(alloc, c, x),
+            Err(fault) => {
+                mem::drop(c);
+                Err(fault)
+            }
+        },
         Plan::Project(es, p) => projected(alloc, es, step_in(rule, alloc, schema, p, place)?),
-        Plan::Join(ps, c) => rejoined(alloc, step_list(rule, alloc, schema, ps, place)?, c),
+        Plan::Join(ps, c) => match step_list(rule, alloc, schema, ps, place) {
+            Ok(x) => rejoined(alloc, x, c),
+            Err(fault) => {
+                mem::drop(c);
+                Err(fault)
+            }
+        },
         Plan::Left(p, q, c) => step_left(rule, alloc, schema, p, q, c, place),
         Plan::UnionAll(ps) => reunited(alloc, step_list(rule, alloc, schema, ps, place)?),
         Plan::Distinct(p) => each_once(alloc, step_in(rule, alloc, schema, p, place)?),
@@ -198,10 +213,15 @@ fn step_sides<R: Rewrite>(
     requires behind { Behind (R.becomes rule.now schema.now) (reverse place.now) (plan_seen p) }
     ensures { IfOk result (λ x. IsInside (R.becomes rule.now schema.now) (Left (plan_seen p) (plan_seen q) (expr_seen c)) (plan_seen x.plan) x.fell x.place) }
 {
-    let x = step_in(rule, alloc, schema, p, place)?;
-    match x.fell {
-        Some(_) => on_left(alloc, x, q, c),
-        None => step_right(rule, alloc, schema, x.plan, q, c, &[]),
+    match step_in(rule, alloc, schema, p, place) {
+        Ok(x) => match x.fell {
+            Some(_) => on_left(alloc, x, q, c),
+            None => step_right(rule, alloc, schema, x.plan, q, c, &[]),
+        },
+        Err(fault) => {
+            mem::drop(c);
+            Err(fault)
+        }
     }
 }
 
@@ -221,7 +241,28 @@ fn step_right<R: Rewrite>(
     requires behind { Behind (R.becomes rule.now schema.now) (reverse place.now) (plan_seen q) }
     ensures { IfOk result (λ x. IsInside (R.becomes rule.now schema.now) (Left (plan_seen p) (plan_seen q) (expr_seen c)) (plan_seen x.plan) x.fell x.place) }
 {
-    on_right(alloc, p, step_in(rule, alloc, schema, q, place)?, c)
+    match step_in(rule, alloc, schema, q, place) {
+        Ok(x) => on_right(alloc, p, x, c),
+        Err(fault) => {
+            mem::drop(c);
+            Err(fault)
+        }
+    }
+}
+
+/// A step with one more turn on the way to its place.
+fn turned(x: Stepped, turn: usize) -> Result<Stepped, Memory>
+    ensures plan { IfOk result (λ y. y.plan ≡ x.plan) }
+    ensures fell { IfOk result (λ y. y.fell ≡ x.fell) }
+    ensures place { IfOk result (λ y. y.place ≡ x.place ++ turn ∷ []) }
+{
+    let Stepped {
+        plan,
+        fell,
+        mut place,
+    } = x;
+    place.push(turn)?;
+    Ok(Stepped { plan, fell, place })
 }
 
 #[tactic(auto, using(crate::proofs::OutcomeLemmas::outcomes))]
@@ -230,13 +271,8 @@ fn on_left(alloc: Global, x: Stepped, q: Box<Plan>, c: Expr) -> Result<Stepped, 
     ensures fell { IfOk result (λ y. y.fell ≡ x.fell) }
     ensures place { IfOk result (λ y. y.place ≡ x.place ++ 0 ∷ []) }
 {
-    let Stepped {
-        plan,
-        fell,
-        mut place,
-    } = x;
-    place.push(0)?;
-    boxed(alloc, Plan::Left(plan, q, c), fell, place)
+    let Stepped { plan, fell, place } = x;
+    turned(boxed(alloc, Plan::Left(plan, q, c), fell, place)?, 0)
 }
 
 #[tactic(auto, using(crate::proofs::OutcomeLemmas::outcomes))]
@@ -245,13 +281,8 @@ fn on_right(alloc: Global, p: Box<Plan>, x: Stepped, c: Expr) -> Result<Stepped,
     ensures fell { IfOk result (λ y. y.fell ≡ x.fell) }
     ensures place { IfOk result (λ y. y.place ≡ x.place ++ 1 ∷ []) }
 {
-    let Stepped {
-        plan,
-        fell,
-        mut place,
-    } = x;
-    place.push(1)?;
-    boxed(alloc, Plan::Left(p, plan, c), fell, place)
+    let Stepped { plan, fell, place } = x;
+    turned(boxed(alloc, Plan::Left(p, plan, c), fell, place)?, 1)
 }
 
 #[cycle(in_place)]
@@ -331,6 +362,6 @@ fn step_member<R: Rewrite>(
 {
     let whole = Box::new(alloc, mem::replace(member, Plan::Unit))?;
     let Stepped { plan, fell, place } = step_in(rule, alloc, schema, whole, place)?;
-    *member = plan.into_inner();
+    mem::drop(mem::replace(member, plan.into_inner()));
     Ok((fell, place))
 }

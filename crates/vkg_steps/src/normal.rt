@@ -1,7 +1,7 @@
 ghost use Rattle.std.specs.Prelude.{◌≡◌, IfOk};
 ghost use Rattle.vkg_plan.specs.Seen.{plan_seen};
-ghost use Rattle.vkg_rules.specs.Ends.{IsEndOf, Settled, end_of};
 ghost use Rattle.vkg_rules.specs.Steps.{IsTyped, Keeps};
+ghost use Rattle.vkg_chains.specs.Ends.{IsEndOf, Settled, end_of};
 
 use crate::in_place::{Stepped, step_in};
 use std::alloc::Global;

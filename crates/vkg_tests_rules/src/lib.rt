@@ -5,7 +5,18 @@
 //! the libraries since a crate with tests is proved twice, with them and without.
 //!
 //! - `vkg_shapes`, and the rules of rules of `vkg_rules`: plans and what each rule makes of them, as texts.
+//! - `vkg_conditions`, `vkg_nulls`, `vkg_unions` and `vkg_equalities`: the same of their rules.
 #![tactic(auto)]
 
 #[cfg(test)]
+mod made;
+#[cfg(test)]
+mod of_conditions;
+#[cfg(test)]
+mod of_equalities;
+#[cfg(test)]
+mod of_nulls;
+#[cfg(test)]
 mod of_shapes;
+#[cfg(test)]
+mod of_unions;

@@ -1,30 +1,17 @@
+use crate::made::{Made, by, join, left, scan, select, truth, union};
 use std::alloc::Global;
 use std::test::Fail;
 use vkg_base::{Box, Items, Memory};
-use vkg_cells::{Cell, SqlType};
-use vkg_expr::Expr;
-use vkg_plan::{CheckedPlan, Plan, well_typed};
-use vkg_rules::{Either, Everywhere, Fix, Rewrite};
+use vkg_cells::SqlType;
+use vkg_chains::Fix;
+use vkg_plan::Plan;
+use vkg_rules::{Either, Everywhere};
 use vkg_schema::{Schema, read_schema};
 use vkg_shapes::{FalseCondition, FewMembers, FlatUnion, PropagateEmpty, SelectTrue};
-use vkg_sqltext::sql_text;
 
-fn constant(holds: bool) -> Expr {
-    Expr::Const(Cell::Bool(holds), SqlType::Bool)
-}
-
-fn select(alloc: Global, holds: bool, p: Plan) -> Result<Plan, Memory> {
-    Ok(Plan::Select(constant(holds), Box::new(alloc, p)?))
-}
-
-fn left(alloc: Global) -> Result<Plan, Memory> {
-    let p = Box::new(alloc, Plan::Scan(0))?;
-    let q = Box::new(alloc, Plan::Scan(0))?;
-    Ok(Plan::Left(p, q, constant(false)))
-}
-
-fn nothing(alloc: Global) -> Result<Plan, Memory> {
-    Ok(Plan::Empty(Items::from_slice(alloc, &[SqlType::Int])?))
+fn nothing(alloc: Global) -> Made {
+    let kinds = Items::from_slice(alloc, &[SqlType::Int])?;
+    Box::new(alloc, Plan::Empty(kinds))
 }
 
 fn one(alloc: Global) -> Result<Items<Plan>, Memory> {
@@ -33,49 +20,33 @@ fn one(alloc: Global) -> Result<Items<Plan>, Memory> {
     Ok(ps)
 }
 
-fn with(alloc: Global, p: Plan) -> Result<Items<Plan>, Memory> {
-    let p = Box::new(alloc, p)?;
-    let mut ps = one(alloc)?;
-    ps.push(p.into_inner())?;
-    Ok(ps)
+fn join_of_one(alloc: Global) -> Made {
+    let c = truth(alloc, true)?;
+    let ps = one(alloc)?;
+    Box::new(alloc, Plan::Join(ps, c.into_inner()))
 }
 
-fn union_in_union(alloc: Global) -> Result<Plan, Memory> {
-    let inner = Plan::UnionAll(one(alloc)?);
-    Ok(Plan::UnionAll(with(alloc, inner)?))
+fn union_of_one(alloc: Global) -> Made {
+    let ps = one(alloc)?;
+    Box::new(alloc, Plan::UnionAll(ps))
 }
 
-fn made(alloc: Global, plan: &str) -> Result<Plan, Memory> {
+fn unit(alloc: Global) -> Made {
+    Box::new(alloc, Plan::Unit)
+}
+
+fn made(alloc: Global, plan: &str) -> Made {
     match plan {
-        "selection by true" => select(alloc, true, Plan::Scan(0)),
-        "selection by false" => select(alloc, false, Plan::Scan(0)),
-        "left join by false" => left(alloc),
-        "selection from nothing" => select(alloc, true, nothing(alloc)?),
-        "union with nothing" => Ok(Plan::UnionAll(with(alloc, nothing(alloc)?)?)),
-        "join of one" => Ok(Plan::Join(one(alloc)?, constant(true))),
-        "join with a Unit" => Ok(Plan::Join(with(alloc, Plan::Unit)?, constant(true))),
-        "union of one" => Ok(Plan::UnionAll(one(alloc)?)),
-        "union in a union" => union_in_union(alloc),
-        _ => Ok(Plan::Scan(0)),
-    }
-}
-
-// The text of a plan that a rule made.
-fn shown(alloc: Global, schema: &Schema, plan: Plan) -> Result<String, Memory> {
-    if !well_typed(alloc, &plan, schema)? {
-        return Ok(String::from_str(alloc, "made ill typed")?);
-    }
-    let plan = CheckedPlan::new(plan, schema);
-    sql_text(alloc, &plan, schema)
-}
-
-fn by<R: Rewrite>(rule: &R, alloc: Global, schema: &Schema, plan: &Plan) -> Result<String, Memory> {
-    if !well_typed(alloc, plan, schema)? {
-        return Ok(String::from_str(alloc, "ill typed")?);
-    }
-    match rule.apply(alloc, schema, plan)? {
-        None => Ok(String::from_str(alloc, "none")?),
-        Some((made, _)) => shown(alloc, schema, made),
+        "selection by true" => select(alloc, truth(alloc, true), scan(alloc)),
+        "selection by false" => select(alloc, truth(alloc, false), scan(alloc)),
+        "left join by false" => left(alloc, scan(alloc), scan(alloc), truth(alloc, false)),
+        "selection from nothing" => select(alloc, truth(alloc, true), nothing(alloc)),
+        "union with nothing" => union(alloc, scan(alloc), nothing(alloc)),
+        "join of one" => join_of_one(alloc),
+        "join with a Unit" => join(alloc, scan(alloc), unit(alloc), truth(alloc, true)),
+        "union of one" => union_of_one(alloc),
+        "union in a union" => union(alloc, scan(alloc), union_of_one(alloc)),
+        _ => scan(alloc),
     }
 }
 
@@ -147,7 +118,7 @@ fn each_rule_makes_what_its_definition_says(rt: HostRuntime) -> Result<(), Fail>
         .ok()
         .ok_or("a schema")?;
     for (rule, plan, expected) in OUTCOMES {
-        let made = Box::new(rt.alloc(), made(rt.alloc(), plan)?)?;
+        let made = made(rt.alloc(), plan)?;
         let text = outcome(rt.alloc(), &schema, rule, &made)?;
         assert_eq!(rt; text.as_str(), expected, "{rule}, {plan}");
     }

@@ -11,32 +11,28 @@ pub plan_of-requires : goal.plan_of-requires
 plan_of-requires c =
     rw (c.as_slice.ensures, c.in_ok-rules.ensures) (joins_fit c.args.schema.now c.args.mapping.now (query_seen c.args.query.now) c.tables-tables.ensures.form c.requires)
 
-pub normalise-requires : goal.normalise-requires
-normalise-requires c =
+pub normal_plan-requires : goal.normal_plan-requires
+normal_plan-requires c =
     start_typed_as c.args.schema.now c.args.mapping.now (query_seen c.args.query.now) c.tables-tables.ensures.form c.requires (plan_seen c.in_ok-start.start)
     (rw (c.as_slice.ensures, c.in_ok-rules.ensures) at c.in_ok-start.ensures)
-
-pub new-requires : goal.new-requires
-new-requires c = rw c.into_inner.ensures c.in_ok-end.ensures.typed
 
 pub returns-clause-plan : goal.returns-clause-plan
 unfolding rewritten
 returns-clause-plan c =
-    ap plan_seen (c.new.ensures ∙ c.into_inner.ensures) ∙ c.in_ok-end.ensures.value
-    ∙ ap (normal_form c.args.schema.now) (rw (c.as_slice.ensures, c.in_ok-rules.ensures) at c.in_ok-start.ensures)
+    c.in_ok-plan.ensures ∙ ap (normal_form c.args.schema.now) (rw (c.as_slice.ensures, c.in_ok-rules.ensures) at c.in_ok-start.ensures)
 
 pub returns-clause-typed : goal.returns-clause-typed
 returns-clause-typed c =
-    typed_as c.args.schema.now c.args.mapping.now (query_seen c.args.query.now) c.tables-tables.ensures.form c.requires (plan_seen c.new.result) (returns-clause-plan c)
+    typed_as c.args.schema.now c.args.mapping.now (query_seen c.args.query.now) c.tables-tables.ensures.form c.requires (plan_seen c.in_ok-plan.plan) (returns-clause-plan c)
 
 pub returns-clause-end : goal.returns-clause-end
 returns-clause-end c =
-    end_as c.args.schema.now c.args.mapping.now (query_seen c.args.query.now) c.tables-tables.ensures.form c.requires (plan_seen c.new.result) (returns-clause-plan c)
+    end_as c.args.schema.now c.args.mapping.now (query_seen c.args.query.now) c.tables-tables.ensures.form c.requires (plan_seen c.in_ok-plan.plan) (returns-clause-plan c)
 
 pub returns-clause-settled : goal.returns-clause-settled
 returns-clause-settled c =
-    settled_as c.args.schema.now c.args.mapping.now (query_seen c.args.query.now) c.tables-tables.ensures.form c.requires (plan_seen c.new.result) (returns-clause-plan c)
+    settled_as c.args.schema.now c.args.mapping.now (query_seen c.args.query.now) c.tables-tables.ensures.form c.requires (plan_seen c.in_ok-plan.plan) (returns-clause-plan c)
 
 pub returns-clause-solutions : goal.returns-clause-solutions
 returns-clause-solutions c =
-    solutions_as c.args.schema.now c.args.mapping.now (query_seen c.args.query.now) c.tables-tables.ensures.form c.requires (plan_seen c.new.result) (returns-clause-plan c)
+    solutions_as c.args.schema.now c.args.mapping.now (query_seen c.args.query.now) c.tables-tables.ensures.form c.requires (plan_seen c.in_ok-plan.plan) (returns-clause-plan c)

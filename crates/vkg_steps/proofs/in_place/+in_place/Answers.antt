@@ -104,7 +104,7 @@ pub step_sides-step_right-requires : goal.step_sides-step_right-requires
 step_sides-step_right-requires g t c κs within =
     let r = g.R.Rewrite.becomes c.args.rule.now c.args.schema.now in
     let p = plan_seen c.args.p in
-    let q = plan_seen c.in_ok-x.x.plan in
-    let none = outcome-none p q (everywhere r p) (ap (λ (x : Option Fell). (q, x)) (sym c.in-None.is) ∙ c.in_ok-x.ensures.0) in
+    let q = plan_seen c.in-Ok.x.plan in
+    let none = outcome-none p q (everywhere r p) (ap (λ (x : Option Fell). (q, x)) (sym c.in-None.is) ∙ c.in-Ok.ensures.0) in
     let as_many = ap nodes none.1 in
     (omega (arith, as_many), (within, (ap (everywhere r) none.1 ∙ none.0, (c.requires.q, nothing_behind r (plan_seen c.args.q)))))

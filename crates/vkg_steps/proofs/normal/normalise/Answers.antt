@@ -6,13 +6,13 @@ use Rattle.vkg_plan.specs.Kinds.{Tables}
 use Rattle.vkg_plan.specs.Plan.{Plan}
 use Rattle.vkg_plan.specs.Seen.{plan_seen}
 use Rattle.vkg_rules.specs.declared.rewrite.Fell.{Fell}
-use Rattle.vkg_rules.specs.Ends.{IsEndOf, Settled, end_of}
 use Rattle.vkg_rules.specs.Everywhere.{anywhere, everywhere}
 use Rattle.vkg_rules.specs.EverywhereLaw.{anywhere-falls, anywhere-keeps}
-use Rattle.vkg_rules.specs.Fix.{more, run}
-use Rattle.vkg_rules.specs.FixLaw.{run-none, run-some, typed-after}
 use Rattle.vkg_rules.specs.Steps.{FallsAll, IsTyped, Keeps, KeepsAll, Rule}
-use Rattle.vkg_rules.proofs.EndLemmas.{end-is, end-keeps, end-settled}
+use Rattle.vkg_chains.specs.Ends.{IsEndOf, Settled, end_of}
+use Rattle.vkg_chains.specs.Fix.{more, run}
+use Rattle.vkg_chains.specs.FixLaw.{run-none, run-some, typed-after}
+use Rattle.vkg_chains.proofs.EndLemmas.{end-is, end-keeps, end-settled}
 use Rattle.vkg_steps.specs.Outcomes.{outcome}
 use Rattle.vkg_steps.specs.Behind.{Behind}
 use Rattle.vkg_steps.proofs.OutcomeLemmas.{nothing_behind, outcome-none, outcome-some}

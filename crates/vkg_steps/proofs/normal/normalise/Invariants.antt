@@ -1,9 +1,9 @@
 use Rattle.std.proofs.Common.{◌≡◌, length}
 use Rattle.vkg_plan.specs.Seen.{plan_seen}
-use Rattle.vkg_rules.specs.Ends.{end_of}
 use Rattle.vkg_rules.specs.Everywhere.{anywhere}
-use Rattle.vkg_rules.specs.Fix.{run}
 use Rattle.vkg_rules.specs.Steps.{IsTyped}
+use Rattle.vkg_chains.specs.Ends.{end_of}
+use Rattle.vkg_chains.specs.Fix.{run}
 use Rattle.std.specs.Prelude.{reverse}
 use Rattle.vkg_steps.specs.Behind.{Behind}
 use Rattle.vkg_steps.proofs.normal.normalise.Given as goal

@@ -1,0 +1,4 @@
+pub mod Fix
+pub mod Chains
+pub mod FixLaw
+pub mod Ends

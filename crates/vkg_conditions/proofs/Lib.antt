@@ -1,0 +1,4 @@
+pub mod ListLemmas
+pub mod Found
+pub mod PlaceLemmas
+pub mod Tried

@@ -1,0 +1,14 @@
+pub mod SameAs
+pub mod Changes
+pub mod FirstPlace
+pub mod FirstPlaceLess
+pub mod Gathered
+pub mod Conditions
+pub mod Junctions
+pub mod MembersLaw
+pub mod ConditionsLaw
+pub mod SimplifyCondition
+pub mod Cases
+pub mod NodesLaw
+pub mod ConjunctsLaw
+pub mod SimplifyConditionLaw

@@ -1,0 +1,9 @@
+pub mod TableColumns
+pub mod TableColumnsLaw
+pub mod Recognised
+pub mod RecognisedLaw
+pub mod Decided
+pub mod VerdictKinds
+pub mod DecidedLaw
+pub mod TermEquality
+pub mod TermEqualityLaw

@@ -1,0 +1,3 @@
+pub mod SameExpr
+pub mod SameExprLaw
+pub mod SameItself

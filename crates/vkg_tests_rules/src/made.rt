@@ -1,0 +1,130 @@
+// Expressions and plans that the rules are asked about, and what a rule makes of one.
+//
+// All are boxed: where a call fails, what is made by then is dropped, which is short of a box.
+use std::alloc::Global;
+use vkg_base::{Box, Items, Memory};
+use vkg_cells::{Cell, SqlType};
+use vkg_expr::Expr;
+use vkg_plan::{CheckedPlan, Plan, well_typed};
+use vkg_rules::Rewrite;
+use vkg_schema::Schema;
+use vkg_sqltext::sql_text;
+
+pub type MadeExpr = Result<Box<Expr>, Memory>;
+
+pub type Made = Result<Box<Plan>, Memory>;
+
+pub fn constant(alloc: Global, cell: Cell, kind: SqlType) -> MadeExpr {
+    Box::new(alloc, Expr::Const(cell, kind))
+}
+
+pub fn truth(alloc: Global, holds: bool) -> MadeExpr {
+    constant(alloc, Cell::Bool(holds), SqlType::Bool)
+}
+
+pub fn column(alloc: Global, at: usize) -> MadeExpr {
+    Box::new(alloc, Expr::Col(at))
+}
+
+// A column is NULL.
+pub fn unknown(alloc: Global, at: usize) -> MadeExpr {
+    let e = column(alloc, at)?;
+    Box::new(alloc, Expr::IsNull(e))
+}
+
+pub fn not(alloc: Global, e: MadeExpr) -> MadeExpr {
+    let e = e?;
+    Box::new(alloc, Expr::Not(e))
+}
+
+pub fn same(alloc: Global, a: MadeExpr, b: MadeExpr) -> MadeExpr {
+    let a = a?;
+    let b = b?;
+    Box::new(alloc, Expr::Same(a, b))
+}
+
+fn both(alloc: Global, a: MadeExpr, b: MadeExpr) -> Result<Items<Expr>, Memory> {
+    let a = a?;
+    let b = b?;
+    let mut es = Items::new(alloc);
+    es.push(a.into_inner())?;
+    es.push(b.into_inner())?;
+    Ok(es)
+}
+
+pub fn and(alloc: Global, a: MadeExpr, b: MadeExpr) -> MadeExpr {
+    let es = both(alloc, a, b)?;
+    Box::new(alloc, Expr::And(es))
+}
+
+pub fn or(alloc: Global, a: MadeExpr, b: MadeExpr) -> MadeExpr {
+    let es = both(alloc, a, b)?;
+    Box::new(alloc, Expr::Or(es))
+}
+
+pub fn scan(alloc: Global) -> Made {
+    Box::new(alloc, Plan::Scan(0))
+}
+
+pub fn select(alloc: Global, c: MadeExpr, p: Made) -> Made {
+    let c = c?;
+    let p = p?;
+    Box::new(alloc, Plan::Select(c.into_inner(), p))
+}
+
+pub fn distinct(alloc: Global, p: Made) -> Made {
+    let p = p?;
+    Box::new(alloc, Plan::Distinct(p))
+}
+
+fn members(alloc: Global, p: Made, q: Made) -> Result<Items<Plan>, Memory> {
+    let p = p?;
+    let q = q?;
+    let mut ps = Items::new(alloc);
+    ps.push(p.into_inner())?;
+    ps.push(q.into_inner())?;
+    Ok(ps)
+}
+
+pub fn union(alloc: Global, p: Made, q: Made) -> Made {
+    let ps = members(alloc, p, q)?;
+    Box::new(alloc, Plan::UnionAll(ps))
+}
+
+pub fn join(alloc: Global, p: Made, q: Made, c: MadeExpr) -> Made {
+    let ps = members(alloc, p, q)?;
+    let c = c?;
+    Box::new(alloc, Plan::Join(ps, c.into_inner()))
+}
+
+pub fn left(alloc: Global, p: Made, q: Made, c: MadeExpr) -> Made {
+    let p = p?;
+    let q = q?;
+    let c = c?;
+    Box::new(alloc, Plan::Left(p, q, c.into_inner()))
+}
+
+// The text of a plan that a rule made.
+fn shown(alloc: Global, schema: &Schema, plan: Plan) -> Result<String, Memory> {
+    if !well_typed(alloc, &plan, schema)? {
+        return Ok(String::from_str(alloc, "made ill typed")?);
+    }
+    let plan = CheckedPlan::new(plan, schema);
+    sql_text(alloc, &plan, schema)
+}
+
+// The text of what a rule makes of a plan.
+pub fn by<R: Rewrite>(
+    rule: &R,
+    alloc: Global,
+    schema: &Schema,
+    plan: &Plan,
+) -> Result<String, Memory> {
+    if !well_typed(alloc, plan, schema)? {
+        return Ok(String::from_str(alloc, "ill typed")?);
+    }
+    match rule.apply(alloc, schema, plan)? {
+        None => Ok(String::from_str(alloc, "none")?),
+        Some((made, _)) => shown(alloc, schema, made),
+    }
+}

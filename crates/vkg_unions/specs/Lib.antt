@@ -1,0 +1,10 @@
+pub mod MemberNodes
+pub mod InNodes
+pub mod Thinner
+pub mod DistinctDistinct
+pub mod DistinctDistinctLaw
+pub mod SamePlan
+pub mod SamePlanLaw
+pub mod Key
+pub mod EqualMembers
+pub mod EqualMembersLaw
