@@ -4,8 +4,8 @@
 //! program calls anything here: the gate proves each test as it does any function, and runs it. The tests stand apart from
 //! the libraries since a crate with tests is proved twice, with them and without.
 //!
-//! - `vkg_term_maps`: term maps read, each fault by its check.
-//! - `vkg_r2rml`: mappings read, each fault with its map, and the limits.
+//! - `vkg_term_maps`: the places of term maps in order, and constants.
+//! - `vkg_r2rml`: a mapping read, and the fault of its second map; each fault is a case of `vkg_cases`.
 #![tactic(auto)]
 
 #[cfg(test)]

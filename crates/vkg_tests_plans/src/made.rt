@@ -1,42 +1,58 @@
 // Expressions and plans that the tests of several crates are made of.
+//
+// All are boxed: where a call fails, what is made by then is dropped, which is short of a box.
 use std::alloc::Global;
 use vkg_base::{Box, Items, Memory, Text};
 use vkg_cells::{Cell, SqlType};
 use vkg_expr::Expr;
 use vkg_plan::Plan;
 
-pub type MadeExpr = Result<Expr, Memory>;
+pub type MadeExpr = Result<Box<Expr>, Memory>;
 
-pub type Made = Result<Plan, Memory>;
+pub type Made = Result<Box<Plan>, Memory>;
+
+pub fn column(alloc: Global, at: usize) -> MadeExpr {
+    Box::new(alloc, Expr::Col(at))
+}
 
 pub fn text(alloc: Global, text: &str) -> MadeExpr {
-    Ok(Expr::Const(Cell::Text(Text::new(alloc, text)?), SqlType::Text))
+    let cell = Cell::Text(Text::new(alloc, text)?);
+    Box::new(alloc, Expr::Const(cell, SqlType::Text))
 }
 
 pub fn iri_of(alloc: Global, base: &str, e: MadeExpr) -> MadeExpr {
+    let e = e?;
     let base = Text::new(alloc, base)?;
-    Ok(Expr::IriOf(base, Box::new(alloc, e?)?))
+    Box::new(alloc, Expr::IriOf(base, e))
 }
 
 // Two columns are the same.
 pub fn same(alloc: Global, a: usize, b: usize) -> MadeExpr {
-    let a = Box::new(alloc, Expr::Col(a))?;
-    Ok(Expr::Same(a, Box::new(alloc, Expr::Col(b))?))
+    let a = column(alloc, a)?;
+    let b = column(alloc, b)?;
+    Box::new(alloc, Expr::Same(a, b))
 }
 
 pub fn null_test(alloc: Global, at: usize) -> MadeExpr {
-    Ok(Expr::IsNull(Box::new(alloc, Expr::Col(at))?))
+    let e = column(alloc, at)?;
+    Box::new(alloc, Expr::IsNull(e))
+}
+
+pub fn scan(alloc: Global, table: usize) -> Made {
+    Box::new(alloc, Plan::Scan(table))
 }
 
 pub fn select(alloc: Global, c: MadeExpr, p: Made) -> Made {
-    let p = Box::new(alloc, p?)?;
-    Ok(Plan::Select(c?, p))
+    let c = c?;
+    let p = p?;
+    Box::new(alloc, Plan::Select(c.into_inner(), p))
 }
 
 pub fn left(alloc: Global, p: Made, q: Made, c: MadeExpr) -> Made {
-    let p = Box::new(alloc, p?)?;
-    let q = Box::new(alloc, q?)?;
-    Ok(Plan::Left(p, q, c?))
+    let p = p?;
+    let q = q?;
+    let c = c?;
+    Box::new(alloc, Plan::Left(p, q, c.into_inner()))
 }
 
 pub fn scans(alloc: Global, first: usize, second: usize) -> Result<Items<Plan>, Memory> {

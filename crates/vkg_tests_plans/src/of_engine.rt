@@ -1,4 +1,4 @@
-use crate::made::{Made, MadeExpr, left, null_test, same, scans, select};
+use crate::made::{Made, MadeExpr, left, null_test, same, scan, scans, select};
 use std::alloc::Global;
 use std::process::Abort;
 use std::test::Fail;
@@ -36,24 +36,28 @@ fn company(rt: &impl Abort, alloc: Global) -> Database {
 // The columns are the same, or one is NULL.
 fn same_or_null(alloc: Global, a: usize, b: usize) -> MadeExpr {
     let mut choices = Items::new(alloc);
-    choices.push(null_test(alloc, a)?)?;
-    choices.push(null_test(alloc, b)?)?;
-    choices.push(same(alloc, a, b)?)?;
-    Ok(Expr::Or(choices))
+    choices.push(null_test(alloc, a)?.into_inner())?;
+    choices.push(null_test(alloc, b)?.into_inner())?;
+    choices.push(same(alloc, a, b)?.into_inner())?;
+    Box::new(alloc, Expr::Or(choices))
 }
 
 fn project(alloc: Global, at: usize, p: Made) -> Made {
+    let p = p?;
     let mut es = Items::new(alloc);
     es.push(Expr::Col(at))?;
-    Ok(Plan::Project(es, Box::new(alloc, p?)?))
+    Box::new(alloc, Plan::Project(es, p))
 }
 
 fn distinct(alloc: Global, p: Made) -> Made {
-    Ok(Plan::Distinct(Box::new(alloc, p?)?))
+    let p = p?;
+    Box::new(alloc, Plan::Distinct(p))
 }
 
-fn join(ps: Result<Items<Plan>, Memory>, c: MadeExpr) -> Made {
-    Ok(Plan::Join(ps?, c?))
+fn join(alloc: Global, ps: Result<Items<Plan>, Memory>, c: MadeExpr) -> Made {
+    let ps = ps?;
+    let c = c?;
+    Box::new(alloc, Plan::Join(ps, c.into_inner()))
 }
 
 fn three_scans(alloc: Global) -> Result<Items<Plan>, Memory> {
@@ -65,49 +69,41 @@ fn three_scans(alloc: Global) -> Result<Items<Plan>, Memory> {
 // The first two by no columns, and the third by one of each.
 fn links_to_both(alloc: Global) -> MadeExpr {
     let mut conjuncts = Items::new(alloc);
-    conjuncts.push(same(alloc, 6, 0)?)?;
-    conjuncts.push(same(alloc, 2, 6)?)?;
-    Ok(Expr::And(conjuncts))
+    conjuncts.push(same(alloc, 6, 0)?.into_inner())?;
+    conjuncts.push(same(alloc, 2, 6)?.into_inner())?;
+    Box::new(alloc, Expr::And(conjuncts))
 }
 
 fn union(alloc: Global) -> Made {
-    Ok(Plan::UnionAll(scans(alloc, 0, 0)?))
+    let ps = scans(alloc, 0, 0)?;
+    Box::new(alloc, Plan::UnionAll(ps))
 }
 
 fn empty(alloc: Global) -> Made {
-    Ok(Plan::Empty(Items::from_slice(alloc, &[SqlType::Int])?))
+    let kinds = Items::from_slice(alloc, &[SqlType::Int])?;
+    Box::new(alloc, Plan::Empty(kinds))
+}
+
+// A left join of two tables.
+fn left_of(alloc: Global, p: usize, q: usize, c: MadeExpr) -> Made {
+    left(alloc, scan(alloc, p), scan(alloc, q), c)
 }
 
 fn made(alloc: Global, node: &str) -> Made {
     match node {
-        "Unit" => Ok(Plan::Unit),
+        "Unit" => Box::new(alloc, Plan::Unit),
         "Empty" => empty(alloc),
-        "Scan" => Ok(Plan::Scan(0)),
-        "Select" => select(alloc, null_test(alloc, 2), Ok(Plan::Scan(1))),
-        "Select of unknown" => select(alloc, same(alloc, 2, 2), Ok(Plan::Scan(1))),
-        "Project" => project(alloc, 1, Ok(Plan::Scan(1))),
-        "Join" => join(scans(alloc, 1, 0), same(alloc, 2, 3)),
-        "Join of NULL and NULL" => join(scans(alloc, 0, 0), same(alloc, 3, 1)),
-        "Join of Int and Dec" => join(scans(alloc, 0, 2), same(alloc, 0, 2)),
-        "Join of three" => join(three_scans(alloc), links_to_both(alloc)),
-        "Left" => left(
-            alloc,
-            Ok(Plan::Scan(1)),
-            Ok(Plan::Scan(0)),
-            same(alloc, 2, 3),
-        ),
-        "Left or NULL" => left(
-            alloc,
-            Ok(Plan::Scan(1)),
-            Ok(Plan::Scan(0)),
-            same_or_null(alloc, 2, 3),
-        ),
-        "Left or NULL without NULL" => left(
-            alloc,
-            Ok(Plan::Scan(0)),
-            Ok(Plan::Scan(2)),
-            same_or_null(alloc, 0, 2),
-        ),
+        "Scan" => scan(alloc, 0),
+        "Select" => select(alloc, null_test(alloc, 2), scan(alloc, 1)),
+        "Select of unknown" => select(alloc, same(alloc, 2, 2), scan(alloc, 1)),
+        "Project" => project(alloc, 1, scan(alloc, 1)),
+        "Join" => join(alloc, scans(alloc, 1, 0), same(alloc, 2, 3)),
+        "Join of NULL and NULL" => join(alloc, scans(alloc, 0, 0), same(alloc, 3, 1)),
+        "Join of Int and Dec" => join(alloc, scans(alloc, 0, 2), same(alloc, 0, 2)),
+        "Join of three" => join(alloc, three_scans(alloc), links_to_both(alloc)),
+        "Left" => left_of(alloc, 1, 0, same(alloc, 2, 3)),
+        "Left or NULL" => left_of(alloc, 1, 0, same_or_null(alloc, 2, 3)),
+        "Left or NULL without NULL" => left_of(alloc, 0, 2, same_or_null(alloc, 0, 2)),
         "UnionAll" => union(alloc),
         _ => distinct(alloc, union(alloc)),
     }
@@ -156,7 +152,7 @@ fn shown(
     database: &Database,
     node: &str,
 ) -> Result<String, Memory> {
-    match rows_of(alloc, database, made(alloc, node)?)? {
+    match rows_of(alloc, database, made(alloc, node)?.into_inner())? {
         None => Ok(String::from_str(alloc, "ill typed")?),
         Some(rows) => lines(rt, alloc, &rows),
     }

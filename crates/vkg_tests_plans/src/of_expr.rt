@@ -1,7 +1,7 @@
 ghost use Rattle.std.specs.Prelude.{IfOk};
 ghost use Rattle.vkg_expr.specs.Laws.{HasKinds};
 
-use crate::made::{MadeExpr, iri_of, text};
+use crate::made::{MadeExpr, column, iri_of, text};
 use std::alloc::Global;
 use std::test::Fail;
 use vkg_base::{Box, Items, Memory, Text};
@@ -11,97 +11,122 @@ use vkg_terms::{Annotation, term_text};
 use vkg_values::Test;
 
 fn number(alloc: Global, text: &str, kind: SqlType) -> MadeExpr {
-    Ok(Expr::Const(Cell::Int(Text::new(alloc, text)?), kind))
+    let cell = Cell::Int(Text::new(alloc, text)?);
+    Box::new(alloc, Expr::Const(cell, kind))
 }
 
 fn iri(alloc: Global, e: MadeExpr) -> MadeExpr {
-    Ok(Expr::MakeIri(Box::new(alloc, e?)?))
+    let e = e?;
+    Box::new(alloc, Expr::MakeIri(e))
 }
 
 fn blank(alloc: Global, e: MadeExpr) -> MadeExpr {
-    Ok(Expr::MakeBlank(Box::new(alloc, e?)?))
+    let e = e?;
+    Box::new(alloc, Expr::MakeBlank(e))
 }
 
 fn plain(alloc: Global, e: MadeExpr) -> MadeExpr {
-    Ok(Expr::MakeLit(Box::new(alloc, e?)?, Annotation::Plain))
+    let e = e?;
+    Box::new(alloc, Expr::MakeLit(e, Annotation::Plain))
 }
 
 fn lex(alloc: Global, e: MadeExpr) -> MadeExpr {
-    Ok(Expr::Lex(Box::new(alloc, e?)?))
+    let e = e?;
+    Box::new(alloc, Expr::Lex(e))
 }
 
 fn safe(alloc: Global, e: MadeExpr) -> MadeExpr {
-    Ok(Expr::IriSafe(Box::new(alloc, e?)?))
+    let e = e?;
+    Box::new(alloc, Expr::IriSafe(e))
 }
 
 fn same(alloc: Global, a: MadeExpr, b: MadeExpr) -> MadeExpr {
-    let a = Box::new(alloc, a?)?;
-    Ok(Expr::Same(a, Box::new(alloc, b?)?))
+    let a = a?;
+    let b = b?;
+    Box::new(alloc, Expr::Same(a, b))
 }
 
 fn is_null(alloc: Global, e: MadeExpr) -> MadeExpr {
-    Ok(Expr::IsNull(Box::new(alloc, e?)?))
+    let e = e?;
+    Box::new(alloc, Expr::IsNull(e))
 }
 
 fn not(alloc: Global, e: MadeExpr) -> MadeExpr {
-    Ok(Expr::Not(Box::new(alloc, e?)?))
+    let e = e?;
+    Box::new(alloc, Expr::Not(e))
 }
 
 fn ebv(alloc: Global, e: MadeExpr) -> MadeExpr {
-    Ok(Expr::Ebv(Box::new(alloc, e?)?))
+    let e = e?;
+    Box::new(alloc, Expr::Ebv(e))
 }
 
 fn list(alloc: Global, a: MadeExpr, b: MadeExpr) -> Result<Items<Expr>, Memory> {
+    let a = a?;
+    let b = b?;
     let mut list = Items::new(alloc);
-    list.push(a?)?;
-    list.push(b?)?;
+    list.push(a.into_inner())?;
+    list.push(b.into_inner())?;
     Ok(list)
 }
 
 fn unknown(alloc: Global) -> MadeExpr {
-    same(alloc, Ok(Expr::Col(2)), Ok(Expr::Col(2)))
+    same(alloc, column(alloc, 2), column(alloc, 2))
 }
 
-fn of_lists(alloc: Global, form: &str) -> MadeExpr {
+fn listed(alloc: Global, form: &str) -> Result<Items<Expr>, Memory> {
     match form {
-        "Concat" => Ok(Expr::Concat(list(alloc, text(alloc, "x"), lex(alloc, Ok(Expr::Col(0))))?)),
-        "And" => Ok(Expr::And(list(alloc, unknown(alloc), not(alloc, Ok(Expr::Col(3))))?)),
-        "Or" => Ok(Expr::Or(list(alloc, unknown(alloc), Ok(Expr::Col(3)))?)),
-        "Coalesce" => Ok(Expr::Coalesce(list(alloc, Ok(Expr::Col(2)), Ok(Expr::Col(0)))?)),
-        "Concat of a column" => Ok(Expr::Concat(list(alloc, text(alloc, "x"), Ok(Expr::Col(1)))?)),
-        "Coalesce of none" => Ok(Expr::Coalesce(Items::new(alloc))),
-        "Coalesce of two" => Ok(Expr::Coalesce(list(alloc, Ok(Expr::Col(0)), Ok(Expr::Col(1)))?)),
-        _ => operation(alloc),
+        "Concat" => list(alloc, text(alloc, "x"), lex(alloc, column(alloc, 0))),
+        "And" => list(alloc, unknown(alloc), not(alloc, column(alloc, 3))),
+        "Or" => list(alloc, unknown(alloc), column(alloc, 3)),
+        "Coalesce" => list(alloc, column(alloc, 2), column(alloc, 0)),
+        "Concat of a column" => list(alloc, text(alloc, "x"), column(alloc, 1)),
+        "Coalesce of two" => list(alloc, column(alloc, 0), column(alloc, 1)),
+        "Sparql" => one(alloc, iri(alloc, text(alloc, "http://e/"))),
+        _ => Ok(Items::new(alloc)),
     }
 }
 
-fn operation(alloc: Global) -> MadeExpr {
-    let mut terms = Items::new(alloc);
-    terms.push(iri(alloc, text(alloc, "http://e/"))?)?;
-    Ok(Expr::Sparql(Operator::Test(Test::IsIri), terms))
+fn one(alloc: Global, e: MadeExpr) -> Result<Items<Expr>, Memory> {
+    let mut list = Items::new(alloc);
+    list.push(e?.into_inner())?;
+    Ok(list)
+}
+
+// The form of a list of expressions.
+fn of_list(alloc: Global, form: &str) -> MadeExpr {
+    let es = listed(alloc, form)?;
+    let e = match form {
+        "Concat" | "Concat of a column" => Expr::Concat(es),
+        "And" => Expr::And(es),
+        "Or" => Expr::Or(es),
+        "Sparql" => Expr::Sparql(Operator::Test(Test::IsIri), es),
+        _ => Expr::Coalesce(es),
+    };
+    Box::new(alloc, e)
 }
 
 fn made(alloc: Global, form: &str) -> MadeExpr {
     match form {
-        "Col" => Ok(Expr::Col(0)),
+        "Col" => column(alloc, 0),
         "Const" => text(alloc, "x"),
         "MakeIri" => iri(alloc, text(alloc, "http://e/x")),
-        "IriOf" => iri_of(alloc, "http://e/", Ok(Expr::Col(1))),
+        "IriOf" => iri_of(alloc, "http://e/", column(alloc, 1)),
         "MakeBlank" => blank(alloc, text(alloc, "q1")),
-        "MakeLit" => plain(alloc, lex(alloc, Ok(Expr::Col(0)))),
-        "Lex" => lex(alloc, Ok(Expr::Col(3))),
-        "IriSafe" => safe(alloc, Ok(Expr::Col(1))),
-        "Same" => same(alloc, Ok(Expr::Col(0)), number(alloc, "7", SqlType::Int)),
+        "MakeLit" => plain(alloc, lex(alloc, column(alloc, 0))),
+        "Lex" => lex(alloc, column(alloc, 3)),
+        "IriSafe" => safe(alloc, column(alloc, 1)),
+        "Same" => same(alloc, column(alloc, 0), number(alloc, "7", SqlType::Int)),
         "Same of NULL" => unknown(alloc),
-        "IsNull" => is_null(alloc, Ok(Expr::Col(2))),
-        "Not" => not(alloc, Ok(Expr::Col(3))),
+        "IsNull" => is_null(alloc, column(alloc, 2)),
+        "Not" => not(alloc, column(alloc, 3)),
         "Ebv" => ebv(alloc, plain(alloc, text(alloc, ""))),
-        "Col past the end" => Ok(Expr::Col(9)),
+        "Col past the end" => column(alloc, 9),
         "Const of another kind" => number(alloc, "7", SqlType::Text),
         "Lex of a term" => lex(alloc, blank(alloc, text(alloc, "x"))),
-        "Not of a number" => not(alloc, Ok(Expr::Col(0))),
-        "Same of two families" => same(alloc, Ok(Expr::Col(0)), Ok(Expr::Col(1))),
-        _ => of_lists(alloc, form),
+        "Not of a number" => not(alloc, column(alloc, 0)),
+        "Same of two families" => same(alloc, column(alloc, 0), column(alloc, 1)),
+        _ => of_list(alloc, form),
     }
 }
 
@@ -161,7 +186,7 @@ fn each_form_has_its_kind_and_value(rt: HostRuntime) -> Result<(), Fail> {
     ];
     let row = row(rt.alloc())?;
     for (form, kind, value) in rows {
-        let e = Box::new(rt.alloc(), made(rt.alloc(), form)?)?;
+        let e = made(rt.alloc(), form)?;
         assert_eq!(rt; typed(&e, &KINDS), Some(kind), "{form}");
         let cell = value_on(rt.alloc(), &e, &row)?;
         assert_eq!(rt; shown(rt.alloc(), &cell)?.as_str(), value, "{form}");
@@ -182,7 +207,7 @@ fn ill_typed_forms_have_no_kind(rt: HostRuntime) -> Result<(), Fail> {
         "Coalesce of two",
     ];
     for form in forms {
-        let e = Box::new(rt.alloc(), made(rt.alloc(), form)?)?;
+        let e = made(rt.alloc(), form)?;
         assert_eq!(rt; typed(&e, &KINDS), None, "{form}");
     }
     Ok(())
@@ -198,7 +223,7 @@ fn strict_forms_name_a_column(rt: HostRuntime) -> Result<(), Fail> {
         ("Coalesce", false),
     ];
     for (form, strict) in rows {
-        let e = Box::new(rt.alloc(), made(rt.alloc(), form)?)?;
+        let e = made(rt.alloc(), form)?;
         let copy = Box::new(rt.alloc(), e.copy(rt.alloc())?)?;
         assert_eq!(rt; nulls_on_null(&copy), strict, "{form}");
     }

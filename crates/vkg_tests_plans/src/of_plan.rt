@@ -1,3 +1,4 @@
+use crate::made::{Made, column, left, scan, select};
 use std::alloc::Global;
 use std::test::Fail;
 use vkg_base::{Box, Items, Memory};
@@ -24,21 +25,11 @@ fn a_plan_is_checked_and_given_back(rt: HostRuntime) -> Result<(), Fail> {
     Ok(())
 }
 
-fn project(alloc: Global) -> Result<Plan, Memory> {
+fn project(alloc: Global) -> Made {
+    let p = scan(alloc, 0)?;
     let mut es = Items::new(alloc);
     es.push(Expr::Col(1))?;
-    Ok(Plan::Project(es, Box::new(alloc, Plan::Scan(0))?))
-}
-
-fn select(alloc: Global) -> Result<Plan, Memory> {
-    let p = Box::new(alloc, Plan::Scan(0))?;
-    Ok(Plan::Select(Expr::Col(0), p))
-}
-
-fn left(alloc: Global) -> Result<Plan, Memory> {
-    let p = Box::new(alloc, Plan::Scan(0))?;
-    let q = Box::new(alloc, Plan::Scan(0))?;
-    Ok(Plan::Left(p, q, Expr::Col(1)))
+    Box::new(alloc, Plan::Project(es, p))
 }
 
 fn two(alloc: Global) -> Result<Items<Plan>, Memory> {
@@ -48,19 +39,28 @@ fn two(alloc: Global) -> Result<Items<Plan>, Memory> {
     Ok(ps)
 }
 
-fn ill_typed(alloc: Global, rule: &str) -> Result<Plan, Memory> {
+fn join(alloc: Global, ps: Items<Plan>, c: Expr) -> Made {
+    Box::new(alloc, Plan::Join(ps, c))
+}
+
+fn union(alloc: Global, ps: Items<Plan>) -> Made {
+    Box::new(alloc, Plan::UnionAll(ps))
+}
+
+fn ill_typed(alloc: Global, rule: &str) -> Made {
     match rule {
-        "a table that is not there" => Ok(Plan::Scan(1)),
+        "a table that is not there" => scan(alloc, 1),
         "a column that is not there" => project(alloc),
-        "a condition that is no truth" => select(alloc),
-        "a join of none" => Ok(Plan::Join(
+        "a condition that is no truth" => select(alloc, column(alloc, 0), scan(alloc, 0)),
+        "a join of none" => join(
+            alloc,
             Items::new(alloc),
             Expr::Const(Cell::Bool(true), SqlType::Bool),
-        )),
-        "a join by no truth" => Ok(Plan::Join(two(alloc)?, Expr::Col(0))),
-        "a left join by no truth" => left(alloc),
-        "a union of none" => Ok(Plan::UnionAll(Items::new(alloc))),
-        _ => Ok(Plan::UnionAll(two(alloc)?)),
+        ),
+        "a join by no truth" => join(alloc, two(alloc)?, Expr::Col(0)),
+        "a left join by no truth" => left(alloc, scan(alloc, 0), scan(alloc, 0), column(alloc, 1)),
+        "a union of none" => union(alloc, Items::new(alloc)),
+        _ => union(alloc, two(alloc)?),
     }
 }
 
@@ -80,7 +80,7 @@ fn ill_typed_plans_have_no_kinds(rt: HostRuntime) -> Result<(), Fail> {
         .ok()
         .ok_or("a schema")?;
     for rule in rules {
-        let plan = Box::new(rt.alloc(), ill_typed(rt.alloc(), rule)?)?;
+        let plan = ill_typed(rt.alloc(), rule)?;
         assert!(rt; !well_typed(rt.alloc(), &plan, &schema)?, "{rule}");
     }
     Ok(())

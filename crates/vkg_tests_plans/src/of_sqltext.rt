@@ -1,4 +1,6 @@
-use crate::made::{Made, MadeExpr, iri_of, left, null_test, same, scans, select, text};
+use crate::made::{
+    Made, MadeExpr, column, iri_of, left, null_test, same, scan, scans, select, text,
+};
 use std::alloc::Global;
 use std::test::Fail;
 use vkg_base::{Box, Items, Memory, Text};
@@ -13,13 +15,18 @@ use vkg_values::Compare;
 const COMPANY: &str =
     "CREATE TABLE dept (id INTEGER PRIMARY KEY, title VARCHAR(20)); CREATE TABLE emp (id INTEGER PRIMARY KEY, name VARCHAR(20), dept INTEGER REFERENCES dept); CREATE TABLE \"a\"\"b\" (id INTEGER);";
 
+fn constant(alloc: Global, cell: Cell, kind: SqlType) -> MadeExpr {
+    Box::new(alloc, Expr::Const(cell, kind))
+}
+
 fn term(alloc: Global, iri: &str) -> MadeExpr {
-    Ok(Expr::Const(Cell::Term(Term::Iri(Text::new(alloc, iri)?)), SqlType::Term))
+    let iri = Text::new(alloc, iri)?;
+    constant(alloc, Cell::Term(Term::Iri(iri)), SqlType::Term)
 }
 
 fn lit(alloc: Global, annotation: Result<Annotation, Memory>) -> MadeExpr {
-    let e = Box::new(alloc, Expr::Col(1))?;
-    Ok(Expr::MakeLit(e, annotation?))
+    let e = column(alloc, 1)?;
+    Box::new(alloc, Expr::MakeLit(e, annotation?))
 }
 
 fn tagged(alloc: Global, tag: &str) -> Result<Annotation, Memory> {
@@ -32,7 +39,7 @@ fn of_datatype(alloc: Global, iri: &str) -> Result<Annotation, Memory> {
 
 fn not_null(alloc: Global, at: usize) -> MadeExpr {
     let inner = null_test(alloc, at)?;
-    Ok(Expr::Not(Box::new(alloc, inner)?))
+    Box::new(alloc, Expr::Not(inner))
 }
 
 fn columns(alloc: Global, count: usize) -> Result<Items<Expr>, Memory> {
@@ -43,11 +50,23 @@ fn columns(alloc: Global, count: usize) -> Result<Items<Expr>, Memory> {
     Ok(columns)
 }
 
+// The form of a list of columns.
+fn of_columns(alloc: Global, form: &str, count: usize) -> MadeExpr {
+    let es = columns(alloc, count)?;
+    let e = match form {
+        "And" => Expr::And(es),
+        "Or" => Expr::Or(es),
+        "Coalesce" => Expr::Coalesce(es),
+        _ => Expr::Sparql(Operator::Compare(Compare::LessOrEqual), es),
+    };
+    Box::new(alloc, e)
+}
+
 fn made_expr(alloc: Global, form: &str) -> MadeExpr {
     match form {
-        "Col" => Ok(Expr::Col(9)),
-        "NULL" => Ok(Expr::Const(Cell::Null, SqlType::Bin)),
-        "truth" => Ok(Expr::Const(Cell::Bool(true), SqlType::Bool)),
+        "Col" => column(alloc, 9),
+        "NULL" => constant(alloc, Cell::Null, SqlType::Bin),
+        "truth" => constant(alloc, Cell::Bool(true), SqlType::Bool),
         "text" => text(alloc, "it's"),
         "term" => term(alloc, "http://e/x"),
         "tag" => lit(alloc, tagged(alloc, "en")),
@@ -56,10 +75,10 @@ fn made_expr(alloc: Global, form: &str) -> MadeExpr {
         "IriOf" => iri_of(alloc, "http://e/", text(alloc, "x")),
         "Not" => not_null(alloc, 1),
         "Same" => same(alloc, 0, 1),
-        "And" => Ok(Expr::And(columns(alloc, 0)?)),
-        "Or" => Ok(Expr::Or(columns(alloc, 1)?)),
-        "Coalesce" => Ok(Expr::Coalesce(columns(alloc, 3)?)),
-        _ => Ok(Expr::Sparql(Operator::Compare(Compare::LessOrEqual), columns(alloc, 2)?)),
+        "And" => of_columns(alloc, form, 0),
+        "Or" => of_columns(alloc, form, 1),
+        "Coalesce" => of_columns(alloc, form, 3),
+        _ => of_columns(alloc, form, 2),
     }
 }
 
@@ -85,9 +104,9 @@ const TEXTS_OF_FORMS: [(&str, SqlType, &str); 15] = [
 // The plan of an expression over no rows, of ten columns of a kind.
 fn only(alloc: Global, form: &str, kind: SqlType) -> Made {
     let mut es = Items::new(alloc);
-    es.push(made_expr(alloc, form)?)?;
+    es.push(made_expr(alloc, form)?.into_inner())?;
     let kinds = Items::from_slice(alloc, &[kind; 10])?;
-    project(alloc, Ok(es), Ok(Plan::Empty(kinds)))
+    project(alloc, Ok(es), Box::new(alloc, Plan::Empty(kinds)))
 }
 
 // The text of a plan, if it is well typed.
@@ -106,7 +125,7 @@ fn each_form_has_its_text(rt: HostRuntime) -> Result<(), Fail> {
         .ok_or("a schema")?;
     for (form, kind, expected) in TEXTS_OF_FORMS {
         let plan = only(rt.alloc(), form, kind)?;
-        let text = shown(rt.alloc(), &schema, plan)?.ok_or("ill typed")?;
+        let text = shown(rt.alloc(), &schema, plan.into_inner())?.ok_or("ill typed")?;
         let front = format!(in rt.alloc(); "SELECT {expected} AS c1 FROM (EMPTY (")?;
         assert!(rt; text.as_str().starts_with(front.as_str()), "{form}");
     }
@@ -115,31 +134,47 @@ fn each_form_has_its_text(rt: HostRuntime) -> Result<(), Fail> {
 
 fn project(alloc: Global, es: Result<Items<Expr>, Memory>, p: Made) -> Made {
     let es = es?;
-    Ok(Plan::Project(es, Box::new(alloc, p?)?))
+    let p = p?;
+    Box::new(alloc, Plan::Project(es, p))
+}
+
+fn unit(alloc: Global) -> Made {
+    Box::new(alloc, Plan::Unit)
+}
+
+fn empty(alloc: Global) -> Made {
+    let kinds = Items::from_slice(alloc, &[SqlType::Int, SqlType::Term])?;
+    Box::new(alloc, Plan::Empty(kinds))
 }
 
 fn join(alloc: Global) -> Made {
     let ps = scans(alloc, 0, 0)?;
-    Ok(Plan::Join(ps, same(alloc, 0, 2)?))
+    let c = same(alloc, 0, 2)?;
+    Box::new(alloc, Plan::Join(ps, c.into_inner()))
+}
+
+fn union(alloc: Global) -> Made {
+    let ps = scans(alloc, 0, 0)?;
+    Box::new(alloc, Plan::UnionAll(ps))
+}
+
+fn distinct(alloc: Global, p: Made) -> Made {
+    let p = p?;
+    Box::new(alloc, Plan::Distinct(p))
 }
 
 fn made(alloc: Global, node: &str) -> Made {
     match node {
-        "Unit" => Ok(Plan::Unit),
-        "Empty" => Ok(Plan::Empty(Items::from_slice(alloc, &[SqlType::Int, SqlType::Term])?)),
-        "Scan" => Ok(Plan::Scan(2)),
-        "Select" => select(alloc, not_null(alloc, 1), Ok(Plan::Scan(1))),
-        "Project" => project(alloc, columns(alloc, 2), Ok(Plan::Scan(0))),
-        "Project of none" => project(alloc, columns(alloc, 0), Ok(Plan::Unit)),
+        "Unit" => unit(alloc),
+        "Empty" => empty(alloc),
+        "Scan" => scan(alloc, 2),
+        "Select" => select(alloc, not_null(alloc, 1), scan(alloc, 1)),
+        "Project" => project(alloc, columns(alloc, 2), scan(alloc, 0)),
+        "Project of none" => project(alloc, columns(alloc, 0), unit(alloc)),
         "Join" => join(alloc),
-        "Left" => left(
-            alloc,
-            Ok(Plan::Scan(1)),
-            Ok(Plan::Scan(0)),
-            same(alloc, 2, 3),
-        ),
-        "UnionAll" => Ok(Plan::UnionAll(scans(alloc, 0, 0)?)),
-        _ => Ok(Plan::Distinct(Box::new(alloc, Plan::Unit)?)),
+        "Left" => left(alloc, scan(alloc, 1), scan(alloc, 0), same(alloc, 2, 3)),
+        "UnionAll" => union(alloc),
+        _ => distinct(alloc, unit(alloc)),
     }
 }
 
@@ -176,7 +211,7 @@ fn each_node_has_its_text(rt: HostRuntime) -> Result<(), Fail> {
         .ok_or("a schema")?;
     for (node, expected) in TEXTS_OF_NODES {
         let plan = made(rt.alloc(), node)?;
-        let text = shown(rt.alloc(), &schema, plan)?.ok_or("ill typed")?;
+        let text = shown(rt.alloc(), &schema, plan.into_inner())?.ok_or("ill typed")?;
         assert_eq!(rt; text.as_str(), expected, "{node}");
     }
     Ok(())

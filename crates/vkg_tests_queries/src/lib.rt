@@ -4,10 +4,10 @@
 //! program calls anything here: the gate proves each test as it does any function, and runs it. The tests stand apart from
 //! the libraries since a crate with tests is proved twice, with them and without.
 //!
-//! - `vkg_algebra`: the algebra of groups, filters and OPTIONAL.
+//! - `vkg_algebra`: the variables of an algebra, and its laws.
 //! - `vkg_plain`: the plain evaluation over a few quads.
 //! - `vkg_gen`: the report on the generated company.
-//! - `vkg_cli`: the top call: words, faults of loads and writes, mappings and a data error.
+//! - `vkg_cli`: the top call where a load or a write fails; its other answers are cases of `vkg_cases`.
 #![tactic(auto)]
 
 #[cfg(test)]

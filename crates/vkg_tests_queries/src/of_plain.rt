@@ -11,7 +11,8 @@ const DATASET: &str = "<http://e/1> <http://e/name> \"Ann\" .
 _:b <http://e/age> \"7\"^^<http://www.w3.org/2001/XMLSchema#integer> _:g .
 ";
 
-fn query_of(alloc: Global, text: &str) -> Result<Query, Fail> {
+/// The query of a text.
+pub fn query_of(alloc: Global, text: &str) -> Result<Query, Fail> {
     let query = read_query(alloc, text.as_bytes(), "http://e/").ok();
     Ok(query.ok_or("no query")?)
 }

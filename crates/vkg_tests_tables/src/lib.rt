@@ -4,10 +4,10 @@
 //! program calls anything here: the gate proves each test as it does any function, and runs it. The tests stand apart from
 //! the libraries since a crate with tests is proved twice, with them and without.
 //!
-//! - `vkg_tables`: CSV files loaded, each fault with its place, keys and references.
+//! - `vkg_tables`: the rows that an error leaves; the faults of files, keys and references are cases of `vkg_cases`.
 //! - `vkg_direct`: the direct mapping of a schema, or its fault.
 //! - `vkg_company`: the generated company.
-//! - `vkg_quads`: the terms that term maps make or refuse, and the rules of a mapping.
+//! - `vkg_quads`: the terms that term maps make or refuse.
 #![tactic(auto)]
 
 #[cfg(test)]

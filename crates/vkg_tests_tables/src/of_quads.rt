@@ -2,18 +2,14 @@ use std::alloc::Global;
 use std::test::Fail;
 use vkg_base::{Items, Memory, Text};
 use vkg_cells::Cell;
-use vkg_maps::{Mapping, ObjectMap, Piece, PredicateObjectMap, TermMap, TermType, TriplesMap};
-use vkg_quads::{made_term, rules};
-use vkg_terms::{Annotation, Term, term_text};
+use vkg_maps::{Piece, TermMap, TermType};
+use vkg_quads::made_term;
+use vkg_terms::{Annotation, term_text};
 
 const INTEGER: &str = "http://www.w3.org/2001/XMLSchema#integer";
 
 fn text(alloc: Global, text: &str) -> Result<Cell, Memory> {
     Ok(Cell::Text(Text::new(alloc, text)?))
-}
-
-fn iri(alloc: Global, text: &str) -> Result<TermMap, Memory> {
-    Ok(TermMap::Constant(Term::Iri(Text::new(alloc, text)?)))
 }
 
 /// `http://e/` and the first column.
@@ -96,50 +92,5 @@ fn a_blank_node_is_labelled_by_octets(rt: HostRuntime) -> Result<(), Fail> {
     let map = TermMap::Column(0, TermType::Blank);
     let found = shown_text(rt.alloc(), &map, "q1")?;
     assert_eq!(rt; found.as_str(), "_:b7131");
-    Ok(())
-}
-
-/// A triples map with a class, a graph map, a predicate with an object and a reference to the map itself.
-fn triples_map(alloc: Global) -> Result<TriplesMap, Memory> {
-    let mut objects = Items::new(alloc);
-    objects.push(ObjectMap::Term(TermMap::Column(0, TermType::Iri)))?;
-    let conditions = Items::from_slice(alloc, &[(1, 0)])?;
-    objects.push(ObjectMap::Parent(0, conditions))?;
-    let mut predicates = Items::new(alloc);
-    predicates.push(iri(alloc, "http://e/p")?)?;
-    let mut properties = Items::new(alloc);
-    properties.push(PredicateObjectMap {
-        predicates,
-        objects,
-        graphs: Items::new(alloc),
-    })?;
-    let mut classes = Items::new(alloc);
-    classes.push(Text::new(alloc, "http://e/C")?)?;
-    let mut graphs = Items::new(alloc);
-    graphs.push(iri(alloc, "http://e/g")?)?;
-    Ok(TriplesMap {
-        table: 0,
-        subject: template(alloc, TermType::Iri)?,
-        classes,
-        graphs,
-        predicate_objects: properties,
-    })
-}
-
-#[test]
-fn a_rule_for_each_class_and_object(rt: HostRuntime) -> Result<(), Fail> {
-    let mut maps = Items::new(rt.alloc());
-    maps.push(triples_map(rt.alloc())?)?;
-    let base = Text::new(rt.alloc(), "http://e/")?;
-    let found = rules(rt.alloc(), &Mapping { base, maps })?;
-    assert_eq!(rt; found.len(), 3);
-    let mut joins = 0u8;
-    let mut named = 0u8;
-    for rule in found.as_slice() {
-        joins = joins.saturating_add(rule.join.is_some() as u8);
-        named = named.saturating_add(rule.graph.is_some() as u8);
-    }
-    assert_eq!(rt; joins, 1);
-    assert_eq!(rt; named, 3);
     Ok(())
 }

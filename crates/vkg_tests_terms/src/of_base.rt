@@ -3,8 +3,8 @@ use std::collections::HashMap;
 use std::fs;
 use std::test::Fail;
 use vkg_base::{
-    Box, FixedLine, HostSink, HostStore, Items, Lines, LoadFault, MemSink, MemStore, Sink, Status,
-    Store, Text, WriteFault, earlier, lesser, numbers_of, place_if, put,
+    Box, FixedLine, Groups, HostSink, HostStore, Items, Lines, LoadFault, MemSink, MemStore,
+    Memory, Sink, Status, Store, Text, earlier, lesser, numbers_of, place_if, put,
 };
 
 fn store(alloc: Global, failing: Vec<u64>) -> Result<MemStore, Fail> {
@@ -55,26 +55,46 @@ fn a_file_is_cut_at_the_limit(rt: HostRuntime) -> Result<(), Fail> {
     Ok(())
 }
 
+// The error of a load, if there is one.
+fn fault(alloc: Global, store: &mut MemStore, name: &str) -> Option<LoadFault> {
+    store.load(alloc, name, 20).err()
+}
+
 #[test]
 fn listed_and_missing_loads_fail(rt: HostRuntime) -> Result<(), Fail> {
-    let alloc = rt.alloc();
-    let mut store = store(alloc, Vec::from_slice(alloc, &[2])?)?;
-    assert!(rt; store.load(alloc, "greeting.txt", 20).is_ok());
-    let listed = store.load(alloc, "greeting.txt", 20);
-    assert!(rt; matches!(&listed, Err(LoadFault::Failed)));
-    assert_eq!(rt; store.faults(), 1);
-    assert!(rt; store.load(alloc, "greeting.txt", 20).is_ok());
-    let missing = store.load(alloc, "greeting", 20);
-    assert!(rt; matches!(&missing, Err(LoadFault::Failed)));
-    assert_eq!(rt; store.faults(), 2);
+    let mut store = store(rt.alloc(), Vec::from_slice(rt.alloc(), &[2])?)?;
+    for (name, expected, faults) in [
+        ("greeting.txt", None, 0),
+        ("greeting.txt", Some(LoadFault::Failed), 1),
+        ("greeting.txt", None, 1),
+        ("greeting", Some(LoadFault::Failed), 2),
+    ] {
+        assert_eq!(rt; fault(rt.alloc(), &mut store, name), expected);
+        assert_eq!(rt; store.faults(), faults);
+    }
     Ok(())
+}
+
+// What a sink of so much room takes of the lines, and how often it fails: the writing fails where the sink does.
+fn taken(
+    alloc: Global,
+    lines: &Lines,
+    room: usize,
+    listed: (u64, usize),
+) -> Result<(Vec<u8>, u64), Fail> {
+    let mut sink = MemSink::with_room(alloc, room, Vec::from_slice(alloc, &[listed])?)?;
+    let fails = lines.write_all(&mut sink).is_err();
+    let faults = sink.faults();
+    if fails == (faults == 0) {
+        return Err(Fail::new("a fault that is not told"));
+    }
+    Ok((sink.taken().to_vec(alloc)?, faults))
 }
 
 #[test]
 fn lines_go_into_a_room(rt: HostRuntime) -> Result<(), Fail> {
-    let alloc = rt.alloc();
-    let lines = lines(alloc, &["one", "two"])?;
-    for (room, listed, taken, faults) in [
+    let lines = lines(rt.alloc(), &["one", "two"])?;
+    for (room, listed, text, faults) in [
         (8, (0, 0), "one\ntwo\n", 0),
         (7, (0, 0), "one\ntwo", 1),
         (8, (1, 0), "", 1),
@@ -84,13 +104,17 @@ fn lines_go_into_a_room(rt: HostRuntime) -> Result<(), Fail> {
         (8, (2, 9), "one\ntwo\n", 1),
         (8, (3, 0), "one\ntwo\n", 0),
     ] {
-        let mut sink = MemSink::with_room(alloc, room, Vec::from_slice(alloc, &[listed])?)?;
-        let wanted = if faults == 0 { Ok(()) } else { Err(WriteFault) };
-        assert!(rt; lines.write_all(&mut sink) == wanted);
-        assert_eq!(rt; sink.taken(), taken.as_bytes());
-        assert_eq!(rt; sink.faults(), faults);
+        let (bytes, count) = taken(rt.alloc(), &lines, room, listed)?;
+        assert_eq!(rt; bytes.as_slice(), text.as_bytes());
+        assert_eq!(rt; count, faults);
     }
     Ok(())
+}
+
+// What the lines write where there is room.
+fn written(alloc: Global, lines: &Lines) -> Result<Vec<u8>, Fail> {
+    let (bytes, _) = taken(alloc, lines, 100, (0, 0))?;
+    Ok(bytes)
 }
 
 // A line comes before those that it begins, also before one that goes on with a tab, which is below the line feed.
@@ -99,16 +123,18 @@ fn lines_are_sorted_without_their_line_feeds(rt: HostRuntime) -> Result<(), Fail
     let alloc = rt.alloc();
     let mut lines = lines(alloc, &["b", "a\tb", "a", "", "a", "\u{e9}"])?;
     assert!(rt; !lines.is_empty());
-    let mut sink = MemSink::with_room(alloc, 100, Vec::new(alloc))?;
     lines.sort();
     assert_eq!(rt; lines.len(), 6);
-    assert!(rt; lines.write_all(&mut sink) == Ok(()));
-    assert_eq!(rt; sink.taken(), "\na\na\na\tb\nb\n\u{e9}\n".as_bytes());
-    let mut sink = MemSink::with_room(alloc, 100, Vec::new(alloc))?;
+    assert_eq!(rt;
+        written(alloc, &lines)?.as_slice(),
+        "\na\na\na\tb\nb\n\u{e9}\n".as_bytes()
+    );
     lines.sort_once();
     assert_eq!(rt; lines.len(), 5);
-    assert!(rt; lines.write_all(&mut sink) == Ok(()));
-    assert_eq!(rt; sink.taken(), "\na\na\tb\nb\n\u{e9}\n".as_bytes());
+    assert_eq!(rt;
+        written(alloc, &lines)?.as_slice(),
+        "\na\na\tb\nb\n\u{e9}\n".as_bytes()
+    );
     Ok(())
 }
 
@@ -148,17 +174,35 @@ fn the_system_takes_bytes(rt: HostRuntime) -> Result<(), Fail> {
 }
 
 #[test]
-fn containers_give_back_what_they_hold(rt: HostRuntime) -> Result<(), Fail> {
+fn a_box_and_a_text_give_back_what_they_hold(rt: HostRuntime) -> Result<(), Fail> {
     let alloc = rt.alloc();
     assert_eq!(rt; Box::new(alloc, 7u8)?.into_inner(), 7);
     let text = Text::new(alloc, "text")?;
     assert_eq!(rt; text.copy()?.as_str(), "text");
     assert_eq!(rt; text.into_string().as_str(), "text");
-    let mut items = Items::from_slice(alloc, &[1u8, 2, 3])?;
+    Ok(())
+}
+
+#[test]
+fn an_item_is_removed_and_another_set(rt: HostRuntime) -> Result<(), Fail> {
+    let mut items = Items::from_slice(rt.alloc(), &[1u8, 2, 3])?;
     assert_eq!(rt; items.remove(0), 1);
     items.set(0, 5);
+    assert_eq!(rt; items.as_slice(), [5, 3].as_slice());
+    Ok(())
+}
+
+// 5 and 3, with 6 and 7 put behind them.
+fn grown(alloc: Global) -> Result<Items<u8>, Memory> {
+    let mut items = Items::from_slice(alloc, &[5u8, 3])?;
     items.push(6)?;
     items.append(Items::from_slice(alloc, &[7u8])?)?;
+    Ok(items)
+}
+
+#[test]
+fn items_are_put_behind_and_taken(rt: HostRuntime) -> Result<(), Fail> {
+    let mut items = grown(rt.alloc())?;
     assert_eq!(rt; items.as_slice(), [5, 3, 6, 7].as_slice());
     assert_eq!(rt; items.pop(), Some(7));
     assert_eq!(rt; items.get(1).copied(), Some(3));
@@ -168,21 +212,30 @@ fn containers_give_back_what_they_hold(rt: HostRuntime) -> Result<(), Fail> {
 
 #[test]
 fn the_least_place_counts(rt: HostRuntime) {
-    assert_eq!(rt; lesser(Some(2), Some(1)), Some(1));
-    assert_eq!(rt; lesser(None, Some(1)), Some(1));
-    assert_eq!(rt; earlier(Some(2), 1), Some(2));
-    assert_eq!(rt; earlier(None, 1), Some(1));
-    assert_eq!(rt; place_if(true, 1), Some(1));
-    assert_eq!(rt; place_if(false, 1), None);
+    let found = [
+        lesser(Some(2), Some(1)),
+        lesser(None, Some(1)),
+        earlier(Some(2), 1),
+        earlier(None, 1),
+        place_if(true, 1),
+        place_if(false, 1),
+    ];
+    let expected = [Some(1), Some(1), Some(2), Some(1), Some(1), None];
+    assert_eq!(rt; found.as_slice(), expected.as_slice());
+}
+
+// Each text's places among these.
+fn groups(alloc: Global, texts: &[&str]) -> Result<Groups, Memory> {
+    let mut groups = HashMap::new(alloc);
+    for (number, text) in texts.iter().enumerate() {
+        put(&mut groups, String::from_str(alloc, text)?, number)?;
+    }
+    Ok(groups)
 }
 
 #[test]
 fn numbers_are_put_under_their_texts(rt: HostRuntime) -> Result<(), Fail> {
-    let alloc = rt.alloc();
-    let mut groups = HashMap::new(alloc);
-    for (number, key) in ["a", "b", "a"].into_iter().enumerate() {
-        put(&mut groups, String::from_str(alloc, key)?, number)?;
-    }
+    let groups = groups(rt.alloc(), &["a", "b", "a"])?;
     assert_eq!(rt; groups.len(), 2);
     assert_eq!(rt; numbers_of(&groups, "a"), [0, 2].as_slice());
     assert!(rt; numbers_of(&groups, "c").is_empty());

@@ -57,25 +57,36 @@ const COMPARED: [(&str, &str, &str, &str, Option<bool>, Option<bool>); 12] = [
     ),
 ];
 
+// What a comparison answers of two literals, each with its datatype.
+fn compared(
+    alloc: Global,
+    compare: Compare,
+    a: (&str, &str),
+    b: (&str, &str),
+) -> Result<Option<bool>, Memory> {
+    let a = typed(alloc, a.0, a.1)?;
+    let b = typed(alloc, b.0, b.1)?;
+    compare_terms(alloc, compare, &a, &b)
+}
+
 // SPARQL 1.1 Query, 17.3: the answers of `=` and of `<`.
 #[test]
 fn literals_compare_by_value(rt: HostRuntime) -> Result<(), Fail> {
     for (a_type, a, b_type, b, equal, less) in COMPARED {
-        let a = typed(rt.alloc(), a_type, a)?;
-        let b = typed(rt.alloc(), b_type, b)?;
-        assert_eq!(rt; compare_terms(rt.alloc(), Compare::Equal, &a, &b)?, equal);
+        let (a, b) = ((a_type, a), (b_type, b));
+        assert_eq!(rt; compared(rt.alloc(), Compare::Equal, a, b)?, equal);
         assert_eq!(rt;
-            compare_terms(rt.alloc(), Compare::NotEqual, &a, &b)?,
+            compared(rt.alloc(), Compare::NotEqual, a, b)?,
             negation(equal)
         );
-        assert_eq!(rt; compare_terms(rt.alloc(), Compare::Less, &a, &b)?, less);
-        assert_eq!(rt; compare_terms(rt.alloc(), Compare::Greater, &b, &a)?, less);
+        assert_eq!(rt; compared(rt.alloc(), Compare::Less, a, b)?, less);
+        assert_eq!(rt; compared(rt.alloc(), Compare::Greater, b, a)?, less);
         assert_eq!(rt;
-            compare_terms(rt.alloc(), Compare::GreaterOrEqual, &a, &b)?,
+            compared(rt.alloc(), Compare::GreaterOrEqual, a, b)?,
             negation(less)
         );
         assert_eq!(rt;
-            compare_terms(rt.alloc(), Compare::LessOrEqual, &b, &a)?,
+            compared(rt.alloc(), Compare::LessOrEqual, b, a)?,
             negation(less)
         );
     }
@@ -107,19 +118,39 @@ fn literals_have_truths(rt: HostRuntime) -> Result<(), Fail> {
 
 // SPARQL 1.1 Query, 17.4.2.
 #[test]
-fn terms_are_asked_and_taken_from(rt: HostRuntime) -> Result<(), Fail> {
+fn a_number_is_asked(rt: HostRuntime) -> Result<(), Fail> {
     let number = typed(rt.alloc(), "integer", "7")?;
-    assert!(rt; test_of(rt.alloc(), Test::IsNumeric, &number)?);
-    assert!(rt; test_of(rt.alloc(), Test::IsLiteral, &number)?);
-    assert!(rt; !test_of(rt.alloc(), Test::IsIri, &number)?);
-    assert!(rt; !test_of(rt.alloc(), Test::IsBlank, &number)?);
+    for (test, holds) in [
+        (Test::IsNumeric, true),
+        (Test::IsLiteral, true),
+        (Test::IsIri, false),
+        (Test::IsBlank, false),
+    ] {
+        assert!(rt; test_of(rt.alloc(), test, &number)? == holds);
+    }
     assert!(rt; known_value(rt.alloc(), &number)?.is_some());
+    Ok(())
+}
+
+// Whether the string of this text is taken from the term.
+fn is_taken(alloc: Global, take: Take, term: &Term, text: &str) -> Result<bool, Memory> {
+    let Some(taken) = take_of(alloc, take, term)? else {
+        return Ok(false);
+    };
+    Ok(taken.same(&typed(alloc, "string", text)?))
+}
+
+#[test]
+fn a_tag_and_a_text_are_taken(rt: HostRuntime) -> Result<(), Fail> {
     let hello = tagged(rt.alloc(), "hello", "en")?;
     assert!(rt; known_value(rt.alloc(), &hello)?.is_none());
-    let tag = take_of(rt.alloc(), Take::Lang, &hello)?.ok_or("no tag")?;
-    assert!(rt; tag.same(&typed(rt.alloc(), "string", "en")?));
-    let text = take_of(rt.alloc(), Take::Str, &hello)?.ok_or("no text")?;
-    assert!(rt; text.same(&typed(rt.alloc(), "string", "hello")?));
+    assert!(rt; is_taken(rt.alloc(), Take::Lang, &hello, "en")?);
+    assert!(rt; is_taken(rt.alloc(), Take::Str, &hello, "hello")?);
+    Ok(())
+}
+
+#[test]
+fn nothing_is_taken_from_a_blank_node(rt: HostRuntime) -> Result<(), Fail> {
     let blank = Term::Blank(Text::new(rt.alloc(), "b1")?);
     assert!(rt; take_of(rt.alloc(), Take::Str, &blank)?.is_none());
     assert!(rt; take_of(rt.alloc(), Take::Datatype, &blank)?.is_none());

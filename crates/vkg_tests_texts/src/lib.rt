@@ -7,8 +7,8 @@
 //! - `vkg_tokens`: tokens of the data definition language, of Turtle and of SPARQL.
 //! - `vkg_grammar`: a grammar that is LL(1) and one that is not, parsed texts and their faults.
 //! - `vkg_turtle`: the triples of documents, and each fault with its place.
-//! - `vkg_sparql`: queries read, each fault with its place, and the limits.
-//! - `vkg_schema`: schemas read, each fault with its place, and the limits.
+//! - `vkg_sparql`: queries read, each fault with its place; the limits are cases of `vkg_cases`.
+//! - `vkg_schema`: schemas read, each fault with its place; the limits are cases of `vkg_cases`.
 #![tactic(auto)]
 
 #[cfg(test)]

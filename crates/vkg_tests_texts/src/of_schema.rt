@@ -1,4 +1,3 @@
-use std::alloc::Global;
 use std::test::Fail;
 use vkg_schema::{SchemaError, SchemaFault, read_schema};
 
@@ -48,40 +47,6 @@ fn each_fault_has_its_place(rt: HostRuntime) {
         assert_eq!(rt; answer(&rt, text.as_bytes()), Err(want), "at {text}");
     }
     assert_eq!(rt; answer(&rt, b"CREATE \xff"), Err((15, 7)));
-}
-
-// `count` tables of one column.
-fn many_tables(alloc: Global, count: usize) -> Result<String, Fail> {
-    let mut text = String::new(alloc);
-    for i in 0..count {
-        text.push_str(&format!(in alloc; "CREATE TABLE t{i} (a INT);")?)?;
-    }
-    Ok(text)
-}
-
-// A table of `count` columns.
-fn many_columns(alloc: Global, count: usize) -> Result<String, Fail> {
-    let mut text = String::from_str(alloc, "CREATE TABLE t (c INT")?;
-    for i in 1..count {
-        text.push_str(&format!(in alloc; ", c{i} INT")?)?;
-    }
-    text.push_str(");")?;
-    Ok(text)
-}
-
-#[test]
-fn limits_stand_at_the_last_name(rt: HostRuntime) -> Result<(), Fail> {
-    let tables = many_tables(rt.alloc(), 256)?;
-    assert_eq!(rt; answer(&rt, tables.as_bytes()), Ok(256));
-    let tables = many_tables(rt.alloc(), 257)?;
-    let last = tables.len().saturating_sub("t256 (a INT);".len());
-    assert_eq!(rt; answer(&rt, tables.as_bytes()), Err((14, last)));
-    let columns = many_columns(rt.alloc(), 128)?;
-    assert_eq!(rt; answer(&rt, columns.as_bytes()), Ok(1));
-    let columns = many_columns(rt.alloc(), 129)?;
-    let last = columns.len().saturating_sub("c128 INT);".len());
-    assert_eq!(rt; answer(&rt, columns.as_bytes()), Err((14, last)));
-    Ok(())
 }
 
 #[test]

@@ -82,39 +82,3 @@ fn bad_bytes_have_their_place(rt: HostRuntime) -> Result<(), Fail> {
     }
     Ok(())
 }
-
-// What begins a text, so many times what goes on, and what ends it.
-fn repeated(
-    rt: &HostRuntime,
-    begin: &str,
-    text: &str,
-    times: usize,
-    end: &str,
-) -> Result<String, Fail> {
-    let mut out = String::from_str(rt.alloc(), begin)?;
-    out.push_str(text.repeat(rt.alloc(), times)?.as_str())?;
-    out.push_str(end)?;
-    Ok(out)
-}
-
-#[test]
-fn limits_are_named(rt: HostRuntime) -> Result<(), Fail> {
-    let closed = repeated(&rt, "", "}", 64, "")?;
-    let deep = repeated(&rt, "SELECT * ", "{", 64, closed.as_str())?;
-    let too_deep = repeated(&rt, "SELECT * {", "{", 64, "")?;
-    let full = repeated(&rt, "SELECT * { ?s ?p 1", ", 1", 127, " }")?;
-    let too_full = repeated(&rt, "SELECT * { ?s ?p 1", ", 1", 128, " }")?;
-    let too_many = repeated(&rt, "SELECT * {", "{}", 1024, "}")?;
-    let rows = [
-        (deep.as_str(), "0 1 false"),
-        (too_deep.as_str(), "Q03 73"),
-        (full.as_str(), "2 1 false"),
-        (too_full.as_str(), "Q09 11"),
-        (too_many.as_str(), "Q09 2056"),
-    ];
-    for (text, want) in rows.iter() {
-        let found = shown(&rt, text.as_bytes())?;
-        assert_eq!(rt; found.as_str(), *want);
-    }
-    Ok(())
-}

@@ -6,7 +6,7 @@ use vkg_algebra::translate;
 use vkg_sparql::{Query, read_query};
 
 // Queries and their algebra by the rules of SPARQL 1.1, 18.2.2.
-const ROWS: [(&str, &str); 7] = [
+const ROWS: [(&str, &str); 11] = [
     ("SELECT * {}", "Bgp"),
     (
         "SELECT ?n ?d { ?e <name> ?n OPTIONAL { ?e <ref-dept> ?d } }",
@@ -27,6 +27,22 @@ const ROWS: [(&str, &str); 7] = [
     (
         "SELECT * { { ?a <p> ?b } ?b <q> ?c ; <r> _:x , \"y\"@en . }",
         "Join(Bgp[?a <http://e/p> ?b], Bgp[?b <http://e/q> ?c][?b <http://e/r> _:x][?b <http://e/r> \"y\"@en])",
+    ),
+    (
+        "SELECT * { ?s <q> ?o FILTER(BOUND(?x)) OPTIONAL { ?s <q> ?x FILTER(?x = ?o) } }",
+        "Filter(Bound ?x, LeftJoin(Bgp[?s <http://e/q> ?o], Bgp[?s <http://e/q> ?x], Equal(?x, ?o)))",
+    ),
+    (
+        "SELECT * { ?s <q> ?o OPTIONAL { { ?s <q> ?x FILTER(?x = ?o) } } }",
+        "LeftJoin(Bgp[?s <http://e/q> ?o], Filter(Equal(?x, ?o), Bgp[?s <http://e/q> ?x]), true)",
+    ),
+    (
+        "SELECT * { ?a <q> ?b FILTER(?a = ?b) ?b <q> ?c FILTER(?b = ?c) }",
+        "Filter(And(Equal(?a, ?b), Equal(?b, ?c)), Bgp[?a <http://e/q> ?b][?b <http://e/q> ?c])",
+    ),
+    (
+        "SELECT * { { ?s <q> ?o } UNION { ?s <q> ?o } UNION {} }",
+        "Union(Union(Bgp[?s <http://e/q> ?o], Bgp[?s <http://e/q> ?o]), Bgp)",
     ),
     (
         "SELECT ?s { ?s <d> 01 FILTER(?s != <a> && isIRI(?s) && (LANG(?s) = \"en\" || sameTerm(?s, ?s))) FILTER(?s) }",

@@ -1,0 +1,2 @@
+CREATE TABLE t ("a
+b" TEXT, c TEXT);

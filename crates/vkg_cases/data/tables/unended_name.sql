@@ -1,0 +1,2 @@
+CREATE TABLE t ("abc,d
+e" TEXT);

@@ -1,0 +1,1 @@
+CREATE TABLE t (a INT PRIMARY KEY, b INT, c INT, UNIQUE (b, c));
