@@ -51,7 +51,8 @@ fn no_part(alloc: Global) -> Result<Part, Memory>
     Ok(Part::Triples(Items::new(alloc)))
 }
 
-// group = "{" [ block ] { part [ "." ] [ block ] } "}"
+/// The parts of the group whose tree is at `at` (SPARQL 1.1, 19.8, GroupGraphPattern), in the order in which they are written:
+/// `"{" [ block ] { part [ "." ] [ block ] } "}"`.
 #[cycle(group)]
 pub fn read_group(
     alloc: Global,
@@ -174,9 +175,10 @@ fn read_graph(
     Ok(Part::Graph(name_of(alloc, meanings, token)?, parts))
 }
 
-// group { UNION group }
+/// The groups that UNION joins, whose tree is at `at` (SPARQL 1.1, 19.8, GroupOrUnionGraphPattern), the first one and all others:
+/// `group { UNION group }`.
 #[cycle(group)]
-fn read_groups(
+pub fn read_groups(
     alloc: Global,
     meanings: &[Meaning],
     forest: &Forest,

@@ -34,6 +34,7 @@ pub use condition::{Condition, copy_conditions};
 pub use environment::Environment;
 pub use fault::{QueryError, QueryFault};
 pub use grammar_table::SPARQL;
+pub use group_reader::{read_group, read_groups};
 pub use lexeme::Lexeme;
 pub use meaning::{Meaning, TripleTokens};
 pub use names::{Named, Names};
