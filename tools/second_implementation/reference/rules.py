@@ -114,10 +114,10 @@ def equal_members(plan, tables):
 
 
 # The program's rules: of two that change a plan the first one does.
-RULES = [select_true, false_condition, propagate_empty, flatten]
+RULES = [select_true, false_condition, propagate_empty, flatten, distinct_distinct, equal_members, term_equality, simplify_condition, simplify_null]
 
 # What the program does not have yet, in the order in which it is to follow.
-LATER = [distinct_distinct, equal_members, term_equality, simplify_condition, simplify_null]
+LATER = []
 
 
 # ---- the end ----
