@@ -1,12 +1,16 @@
 #!/usr/bin/env python3
-"""Print the rules, the roles and the claims of a grammar, for a crate of its language.
+"""Print the kinds of tokens of a language, the symbols, rules and roles of its grammar, and what is claimed of them.
 
-    grammar_table.py FILE rules | roles | claims
+    grammar_table.py FILE kinds | symbols | rules | roles | claims
 
 FILE has a line `kinds:` with the kinds of tokens in the order of their numbers, and a line `name = ..` for each production, the
 first of which makes the texts. A production is written with `|`, `[ option ]`, `{ repetition }`, `( group )`, the names of
 productions and the kinds of tokens, which may stand in quotes. `KIND@role` is a token with a role and a symbol of its own;
 `name@role` is the production with this role at each `@*` in it. `#` begins a comment.
+
+Kinds and symbols are printed as constants, and the rest names them: code, definitions and proofs cite the constants, so that no
+number is written by hand. A production has its own name, a token's symbol begins with `TOKEN_`, the alternatives of a production
+from the second on are `.._FROM_2` and so on, and another part has the name of the production where it is first met, and a count; each constant's line of doc says what it stands for.
 
 That the printed claims hold together is proved where they are used (`IsCertified` of vkg_grammar). The printed rules and roles become part
 of the language's definition: they are to be read.
@@ -16,6 +20,12 @@ import sys
 
 WORD = re.compile(r'"[^"]*"(?:@[a-z_*]+)?|[A-Za-z_]+(?:@[a-z_*]+)?|[\[\]{}()|]')
 ENDS = {"[": "]", "{": "}", "(": ")"}
+SIGNS = {
+    "{": "OPEN_BRACE", "}": "CLOSE_BRACE", "(": "OPEN", ")": "CLOSE", "[": "OPEN_BRACKET", "]": "CLOSE_BRACKET", ".": "DOT",
+    ";": "SEMICOLON", ",": "COMMA", "=": "EQUAL", "!=": "NOT_EQUAL", "<": "LESS", ">": "GREATER", "<=": "LESS_EQUAL",
+    ">=": "GREATER_EQUAL", "!": "NOT", "&&": "AND", "||": "OR", "*": "STAR", "/": "SLASH", "|": "BAR", "^": "CARET",
+    "^^": "CARETS", "+": "PLUS_SIGN", "-": "MINUS_SIGN", "?": "QUESTION", "a": "IS_A",
+}
 
 
 def read(path):
@@ -38,18 +48,38 @@ class Table:
         self.kinds, self.productions = kinds, productions
         self.rules, self.roles = [], {}
         self.of_part, self.of_production = {}, {}
+        self.names, self.texts, self.counts, self.choices = [], [], {}, {}
         self.number_of(next(iter(productions)), "")
 
     def number_of(self, name, role):
         if (name, role) not in self.of_production:
             number = len(self.rules)
             self.of_production[name, role] = number
-            self.rules.append(None)
+            self.add(f"{name}_{role}".strip("_").upper(), None)
             part, end = self.choice(self.productions[name], 0)
             if end != len(self.productions[name]):
                 sys.exit(f"{name}: {self.productions[name][end]} is not expected")
-            self.rules[number] = self.rule(placed(part, role))
+            part = placed(part, role)
+            self.texts[number] = f"{name} = {text_of(part)}"
+            self.name_choices(part, self.names[number])
+            self.rules[number] = self.rule(part, name)
         return self.of_production[name, role]
+
+    def name_choices(self, part, name):
+        """The names of what is left of a choice behind its first, second .. alternative: one more at the end changes none of them."""
+        behind = 2
+        while part[0] == "Either":
+            part = part[2]
+            self.choices.setdefault(part, f"{name}_FROM_{behind}")
+            behind += 1
+
+    def add(self, name, text):
+        """A symbol more, whose rule is still to come."""
+        if name in self.names:
+            sys.exit(f"two symbols have the name {name}")
+        self.rules.append(None)
+        self.names.append(name)
+        self.texts.append(text)
 
     def choice(self, words, at):
         first, at = self.sequence(words, at)
@@ -79,23 +109,33 @@ class Table:
             whole = ("Then", parts.pop(), whole)
         return whole, at
 
-    def symbol(self, part):
+    def symbol(self, part, within):
         if part[0] == "Production":
             return self.number_of(part[1], part[2])
         if part not in self.of_part:
-            rule = self.rule(part)
+            rule = self.rule(part, within)
             self.of_part[part] = len(self.rules)
-            self.rules.append(rule)
+            self.add(self.name_of(part, within), text_of(part))
+            self.rules[-1] = rule
             if part[0] == "Token":
                 self.roles[self.of_part[part]] = part[2]
         return self.of_part[part]
 
-    def rule(self, part):
+    def name_of(self, part, within):
+        """The name of a part of this production."""
+        if part[0] == "Token":
+            return f"TOKEN_{kind_name(part[1])}_{part[2].upper()}".strip("_")
+        if part[0] == "Either" and part in self.choices:
+            return self.choices[part]
+        self.counts[within] = self.counts.get(within, 0) + 1
+        return f"{within.upper()}_{self.counts[within]}"
+
+    def rule(self, part, within):
         if part[0] == "Token":
             return ("Token", self.kinds[part[1]])
         if part[0] == "Production":
             sys.exit(f"a production that is {part[1]} alone has no rule: name {part[1]} in its place")
-        return (part[0],) + tuple(self.symbol(inner) for inner in part[1:])
+        return (part[0],) + tuple(self.symbol(inner, within) for inner in part[1:])
 
 
 def placed(part, role):
@@ -103,6 +143,23 @@ def placed(part, role):
     if part[0] in ("Token", "Production"):
         return (part[0], part[1], role if part[2] == "*" else part[2])
     return (part[0],) + tuple(placed(inner, role) for inner in part[1:])
+
+
+def kind_name(kind):
+    """The name of the constant of a kind."""
+    return SIGNS.get(kind) or kind.upper()
+
+
+def text_of(part):
+    """The part as it is written in the file."""
+    form, *inner = part
+    if form in ("Token", "Production"):
+        text = inner[0] if form == "Production" or inner[0] not in SIGNS or inner[0] == "a" else f'"{inner[0]}"'
+        return f"{text}@{inner[1]}" if inner[1] else text
+    texts = [text_of(each) for each in inner]
+    if form == "Then":
+        return " ".join(f"( {text} )" if each[0] == "Either" else text for each, text in zip(inner, texts))
+    return {"Either": "{} | {}", "Optional": "[ {} ]", "Repeated": "{{ {} }}"}[form].format(*texts)
 
 
 def ways(number, rule):
@@ -165,11 +222,10 @@ def levels(rules):
     return level
 
 
-def listed(kinds):
-    return " ∷ ".join([str(kind) for kind in sorted(kinds)] + ["[]"])
+def claims(rules, names):
+    def listed(kinds):
+        return " ∷ ".join([names[kind] for kind in sorted(kinds)] + ["[]"])
 
-
-def claims(rules):
     begin = begin_sets(rules)
     follow, level = follow_sets(rules, begin), levels(rules)
     for number in range(len(rules)):
@@ -178,19 +234,37 @@ def claims(rules):
         yield f"record {{ empty = {empty}; begin = {first}; follow = {behind}; level = {level[number]} }}"
 
 
+def constants(texts, names):
+    for number, (text, name) in enumerate(zip(texts, names)):
+        yield f"/// `{text}`\npub const {name}: usize = {number};\n"
+
+
+def rule_text(table, rule):
+    if rule[0] == "Token":
+        return f"Rule::Token(kinds::{kind_name(list(table.kinds)[rule[1]])})"
+    return f"Rule::{rule[0]}({', '.join('symbols::' + table.names[part] for part in rule[1:])})"
+
+
 def main(path, what):
     table = Table(*read(path))
-    if what == "rules":
-        print("".join(f"    Rule::{rule[0]}({', '.join(map(str, rule[1:]))}),\n" for rule in table.rules), end="")
+    kinds = [kind_name(kind) for kind in table.kinds]
+    if what == "kinds":
+        print("\n".join(constants(table.kinds, kinds)))
+        print(f"/// How many kinds there are.\npub const KIND_COUNT: usize = {len(kinds)};")
+    elif what == "symbols":
+        print("\n".join(constants(table.texts, table.names)))
+        print(f"/// How many symbols there are.\npub const SYMBOL_COUNT: usize = {len(table.rules)};")
+    elif what == "rules":
+        print("".join(f"    {rule_text(table, rule)},\n" for rule in table.rules), end="")
     elif what == "roles":
         for number, rule in enumerate(table.rules):
             role = "choice" if rule[0] != "Token" else table.roles.get(number) or "other"
             print(f"    Role::{''.join(word.capitalize() for word in role.split('_'))},")
     else:
-        print("    " + "\n    ∷ ".join(claims(table.rules)) + "\n    ∷ []")
+        print("    " + "\n    ∷ ".join(claims(table.rules, kinds)) + "\n    ∷ []")
 
 
 if __name__ == "__main__":
-    if len(sys.argv) != 3 or sys.argv[2] not in ("rules", "roles", "claims"):
+    if len(sys.argv) != 3 or sys.argv[2] not in ("kinds", "symbols", "rules", "roles", "claims"):
         sys.exit(__doc__)
     main(*sys.argv[1:])

@@ -11,6 +11,7 @@ use Rattle.std.proofs.Math.Bool.{and-false, and-true}
 use Rattle.vkg_lists.proofs.Bools.{and_parts, not_true}
 use Rattle.vkg_terms.proofs.Octets.{encode_all, scalar_below}
 use Rattle.vkg_tokens.specs.declared.cutting.Token.{Token}
+use Rattle.vkg_tokens.specs.declared.ddl_kinds.TheConstants.{DELIMITED}
 use Rattle.vkg_ddl.specs.Names.{HasAsciiEnds, undoubled_from, undoubled, within, name_bytes}
 use Rattle.vkg_ddl.proofs.Naming.{first_byte}
 
@@ -57,11 +58,11 @@ between_ends bs i j u s l first last =
 within_ends : (bs : List ℕ) → IsUtf8 bs → 2 ≤ length bs → get_or bs 0 0 < 128 → get_or bs (length bs - 1) 0 < 128 → IsUtf8 (within bs)
 within_ends bs u s first last = IsUtf8-between bs 1 (length bs - 1) u (omega (arith, s)) (IsCharBoundary-after_ascii bs 0 u (omega (arith, s)) first) (IsCharBoundary-before_ascii bs (length bs - 1) (omega (arith, s)) last)
 
-said_utf8 : (kind : ℕ) (bs : List ℕ) → IsUtf8 bs → get_or bs 0 0 < 128 → get_or bs (length bs - 1) 0 < 128 → IsUtf8 (if (kind == 16) && nat_le 2 (length bs) then undoubled (within bs) else bs)
-said_utf8 kind bs u first last = by_test ((kind == 16) && nat_le 2 (length bs)) refl
+said_utf8 : (kind : ℕ) (bs : List ℕ) → IsUtf8 bs → get_or bs 0 0 < 128 → get_or bs (length bs - 1) 0 < 128 → IsUtf8 (if (kind == DELIMITED) && nat_le 2 (length bs) then undoubled (within bs) else bs)
+said_utf8 kind bs u first last = by_test ((kind == DELIMITED) && nat_le 2 (length bs)) refl
   where
-    by_test : (b : Bool) → ((kind == 16) && nat_le 2 (length bs)) ≡ b → IsUtf8 (if b then undoubled (within bs) else bs)
-    by_test true e = let two = (and_parts (kind == 16) (nat_le 2 (length bs)) e).1 in undoubled_utf8 (within bs) (within_ends bs u (grind (arith, nat_tests)) first last)
+    by_test : (b : Bool) → ((kind == DELIMITED) && nat_le 2 (length bs)) ≡ b → IsUtf8 (if b then undoubled (within bs) else bs)
+    by_test true e = let two = (and_parts (kind == DELIMITED) (nat_le 2 (length bs)) e).1 in undoubled_utf8 (within bs) (within_ends bs u (grind (arith, nat_tests)) first last)
     by_test false e = u
 
 -- what a token says, where it begins and ends with ASCII bytes

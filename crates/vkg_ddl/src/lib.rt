@@ -15,6 +15,7 @@ mod matching;
 mod name;
 mod reading;
 mod role;
+mod symbols;
 mod targets;
 mod twice;
 mod type_word;

@@ -7,6 +7,7 @@ ghost use Rattle.vkg_ddl.specs.Names.{is_second, undoubled, undoubled_from, name
 use std::alloc::Global;
 use vkg_base::{Memory, Text};
 use vkg_tokens::Token;
+use vkg_tokens::ddl_kinds::DELIMITED;
 
 /// A word as it is written: what it says, whether it stood in quotes, and where it begins.
 #[derive(Drop)]
@@ -66,7 +67,7 @@ fn name_bytes(alloc: Global, text: &[u8], token: Token) -> Result<Vec<u8>, Memor
     ensures { IfOk result (λ out. out.items ≡ name_bytes text.now token) }
 {
     let bytes = slice(text, token.start, token.end);
-    if token.kind == 16 && bytes.len() >= 2 {
+    if token.kind == DELIMITED && bytes.len() >= 2 {
         return undoubled(alloc, slice(bytes, 1, bytes.len() - 1));
     }
     Ok(Vec::from_slice(alloc, bytes)?)
@@ -84,7 +85,7 @@ fn name_at(alloc: Global, text: &[u8], token: Token) -> Result<Name, Memory>
     match String::from_utf8(bytes) {
         Ok(string) => Ok(Name {
             text: Text::from_string(string),
-            delimited: token.kind == 16,
+            delimited: token.kind == DELIMITED,
             at: token.start,
         }),
         Err(_) => unreachable!(),

@@ -14,6 +14,7 @@ use std::alloc::Global;
 use thiserror::Error;
 use vkg_base::{Items, Memory};
 use vkg_grammar::{Grammar, Note, ParseFault, Rule, parse, role_in, start_of};
+use vkg_tokens::ddl_kinds::KIND_COUNT;
 use vkg_tokens::{Lang, Token, TokensError, tokens};
 
 /// Why a text is none of the grammar.
@@ -84,11 +85,11 @@ fn rules() -> &'static [Rule]
 
 // The notes of the derivation of these tokens.
 fn notes_of(alloc: Global, tokens: &[Token]) -> Result<Vec<Note>, ParseFault>
-    requires { AreBelow 17 tokens.now }
+    requires { AreBelow KIND_COUNT tokens.now }
     ensures text { IfOk result (λ notes. IsTheText DDL (kinds_of tokens.now) notes.items) }
     ensures stops { IfErr result (Stops DDL (kinds_of tokens.now)) }
 {
-    let grammar = Grammar::new(rules(), 17);
+    let grammar = Grammar::new(rules(), KIND_COUNT);
     parse(alloc, &grammar, tokens)
 }
 

@@ -15,7 +15,7 @@ use Rattle.vkg_tokens.specs.declared.cutting.Token.{Token}
 use Rattle.vkg_tokens.specs.Characters.{is_base, is_base_or_low_line, is_label_start, is_variable_part, is_name_part, is_escaped_sign, is_iri_part, is_escaped_letter, code_point_more}
 use Rattle.vkg_tokens.specs.Cut.{cut, piece}
 use Rattle.vkg_tokens.specs.Lang.{token_class}
-use Rattle.vkg_tokens.specs.Words.{turtle_word, turtle_tag, is_outside_form, is_outside_call, is_outside_text, outside_word, call_word, sparql_word}
+use Rattle.vkg_tokens.specs.Words.{turtle_word, turtle_tag, is_outside_form, is_outside_call, outside_word, modifier_word, pattern_word, string_word, call_word, sparql_word}
 use Rattle.vkg_turtle.specs.Escapes.{text_meant}
 use Rattle.vkg_sparql.specs.declared.grammar_table.TheConstants.{SPARQL}
 use Rattle.vkg_sparql.specs.declared.query.Query.{Query}
@@ -29,7 +29,7 @@ use Rattle.vkg_gen.specs.Readable.{IsFaultless}
 use Rattle.vkg_gen.proofs.QueryTexts.{no_query_fault, same_query, shallow}
 
 unfoldable opened : Unit {0}
-unfolding chars encode_utf8 cut piece token_class sparql_word outside_word call_word is_outside_form is_outside_call is_outside_text turtle_word turtle_tag is_base is_base_or_low_line is_label_start is_variable_part is_name_part is_escaped_sign is_iri_part is_escaped_letter code_point_more text_meant meaning_of fails deepened
+unfolding chars encode_utf8 cut piece token_class sparql_word outside_word modifier_word pattern_word string_word call_word is_outside_form is_outside_call turtle_word turtle_tag is_base is_base_or_low_line is_label_start is_variable_part is_name_part is_escaped_sign is_iri_part is_escaped_letter code_point_more text_meant meaning_of fails deepened
 opened = tt
 
 -- ---- names

@@ -17,6 +17,7 @@ use Rattle.vkg_sparql.specs.declared.grammar_table.TheConstants.{SPARQL}
 use Rattle.vkg_sparql.specs.declared.meaning.Meaning.{Meaning}
 use Rattle.vkg_sparql.specs.declared.pattern.Node.{Node}
 use Rattle.vkg_sparql.specs.declared.pattern.Node.TheVariants as node
+use Rattle.vkg_sparql.specs.declared.symbols.TheConstants.{QUERY_12, QUERY}
 use Rattle.vkg_sparql.specs.declared.query.Query.{Query}
 use Rattle.vkg_sparql.specs.Checks.{first_place}
 use Rattle.vkg_sparql.specs.Groups.{query_value}
@@ -69,19 +70,19 @@ names_stay names ms (pair prologue (pair select (pair kind (pair selection (pair
 names_stay names ms t = refl
 
 -- where what is behind the prologue begins
-begins : (ks : List ℕ) (at : ℕ) (t : Tree) → Has SPARQL ks 0 t 166 → IsFrom at t → first_token t ≡ at
+begins : (ks : List ℕ) (at : ℕ) (t : Tree) → Has SPARQL ks 0 t QUERY_12 → IsFrom at t → first_token t ≡ at
 begins ks at (pair (leaf i) t) h f = f.0
 begins ks at (pair t u) h f = absurd (h.0)
 begins ks at t h f = absurd (h)
 
 record Behind (ks : List ℕ) (prologue rest : Tree) : Type 0 where
-  has : Has SPARQL ks (first_token rest) rest 166
+  has : Has SPARQL ks (first_token rest) rest QUERY_12
 
-behind : (ks : List ℕ) (prologue rest : Tree) → IsTree SPARQL ks 166 rest → IsFrom 0 (pair prologue rest) → Behind ks prologue rest
+behind : (ks : List ℕ) (prologue rest : Tree) → IsTree SPARQL ks QUERY_12 rest → IsFrom 0 (pair prologue rest) → Behind ks prologue rest
 behind ks prologue rest w f =
     let at : ℕ = 0 + size prologue in
-    let begun : first_token rest ≡ at = begins ks at rest (has SPARQL ks 0 rest 166 at w f.1 (omega arith)) f.1 in
-    record { has = has SPARQL ks (first_token rest) rest 166 at w f.1 (omega (arith, begun)) }
+    let begun : first_token rest ≡ at = begins ks at rest (has SPARQL ks 0 rest QUERY_12 at w f.1 (omega arith)) f.1 in
+    record { has = has SPARQL ks (first_token rest) rest QUERY_12 at w f.1 (omega (arith, begun)) }
 
 module _ (text base : List ℕ) (tokens : List Token) where
   lawful_pair : (prologue rest : Tree) → Behind (kinds_of tokens) prologue rest → fault_of (read text tokens base (pair prologue rest)) ≡ None
@@ -98,7 +99,7 @@ module _ (text base : List ℕ) (tokens : List Token) where
       (λ i k t p. variable_at text tokens r.environment start fine i k t.behind t.kind p)
       r.named.names prologue rest w.has)
 
-  lawful_tree : (t : Tree) → IsTree SPARQL (kinds_of tokens) 0 t → IsFrom 0 t → fault_of (read text tokens base t) ≡ None → IsLawfulQuery (query_seen (query_of (read text tokens base t)))
+  lawful_tree : (t : Tree) → IsTree SPARQL (kinds_of tokens) QUERY t → IsFrom 0 t → fault_of (read text tokens base t) ≡ None → IsLawfulQuery (query_seen (query_of (read text tokens base t)))
   lawful_tree (pair prologue rest) w f h = lawful_pair prologue rest (behind (kinds_of tokens) prologue rest (made w).1 f) h
   lawful_tree t w f h = absurd (made w)
 

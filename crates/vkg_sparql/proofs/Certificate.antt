@@ -4,181 +4,182 @@ use Rattle.vkg_grammar.specs.Certified.{Claim}
 use Rattle.vkg_grammar.specs.Form.{IsWellFormed}
 use Rattle.vkg_grammar.specs.Grammar.{IsLL1}
 use Rattle.vkg_grammar.proofs.Certifying.{passes_ll1, is_grammar, has_kinds}
+use Rattle.vkg_tokens.specs.declared.sparql_kinds.TheConstants.{OPEN_BRACE, CLOSE_BRACE, OPEN, CLOSE, OPEN_BRACKET, CLOSE_BRACKET, DOT, SEMICOLON, COMMA, EQUAL, NOT_EQUAL, LESS, GREATER, LESS_EQUAL, GREATER_EQUAL, NOT, AND, OR, STAR, CARETS, IRIREF, PNAME_NS, PNAME_LN, BLANK, VAR, STRING, LANGTAG, INTEGER, DECIMAL, IS_A, TRUE, FALSE, BASE, PREFIX, SELECT, DISTINCT, REDUCED, WHERE, OPTIONAL, GRAPH, FILTER, UNION, BOUND, SAMETERM, ISIRI, ISURI, ISBLANK, ISLITERAL, ISNUMERIC, STR, LANG, DATATYPE, KIND_COUNT}
 use Rattle.vkg_sparql.specs.declared.grammar_table.TheConstants.{SPARQL}
 
 abbrev claims : List Claim
 claims =
-    record { empty = false; begin = 39 ∷ 40 ∷ 41 ∷ []; follow = []; level = 9 }
-    ∷ record { empty = false; begin = 39 ∷ []; follow = 26 ∷ []; level = 1 }
-    ∷ record { empty = false; begin = 26 ∷ []; follow = 0 ∷ 1 ∷ 3 ∷ 4 ∷ 5 ∷ 6 ∷ 7 ∷ 8 ∷ 9 ∷ 10 ∷ 11 ∷ 12 ∷ 13 ∷ 14 ∷ 16 ∷ 17 ∷ 26 ∷ 27 ∷ 28 ∷ 29 ∷ 30 ∷ 31 ∷ 33 ∷ 34 ∷ 36 ∷ 37 ∷ 38 ∷ 39 ∷ 40 ∷ 41 ∷ 45 ∷ 46 ∷ 47 ∷ []; level = 1 }
-    ∷ record { empty = false; begin = 39 ∷ []; follow = 39 ∷ 40 ∷ 41 ∷ []; level = 2 }
-    ∷ record { empty = false; begin = 40 ∷ []; follow = 27 ∷ []; level = 1 }
-    ∷ record { empty = false; begin = 27 ∷ []; follow = 0 ∷ 1 ∷ 3 ∷ 4 ∷ 5 ∷ 6 ∷ 7 ∷ 8 ∷ 9 ∷ 10 ∷ 11 ∷ 12 ∷ 13 ∷ 14 ∷ 16 ∷ 17 ∷ 26 ∷ 27 ∷ 28 ∷ 29 ∷ 30 ∷ 31 ∷ 33 ∷ 34 ∷ 36 ∷ 37 ∷ 38 ∷ 45 ∷ 46 ∷ 47 ∷ []; level = 1 }
-    ∷ record { empty = false; begin = 27 ∷ []; follow = 39 ∷ 40 ∷ 41 ∷ []; level = 2 }
-    ∷ record { empty = false; begin = 40 ∷ []; follow = 39 ∷ 40 ∷ 41 ∷ []; level = 3 }
-    ∷ record { empty = false; begin = 39 ∷ 40 ∷ []; follow = 39 ∷ 40 ∷ 41 ∷ []; level = 3 }
-    ∷ record { empty = true; begin = 39 ∷ 40 ∷ []; follow = 41 ∷ []; level = 1 }
-    ∷ record { empty = false; begin = 41 ∷ []; follow = 18 ∷ 30 ∷ 42 ∷ 43 ∷ []; level = 1 }
-    ∷ record { empty = false; begin = 42 ∷ []; follow = 18 ∷ 30 ∷ []; level = 1 }
-    ∷ record { empty = false; begin = 43 ∷ []; follow = 18 ∷ 30 ∷ []; level = 1 }
-    ∷ record { empty = false; begin = 42 ∷ 43 ∷ []; follow = 18 ∷ 30 ∷ []; level = 2 }
-    ∷ record { empty = true; begin = 42 ∷ 43 ∷ []; follow = 18 ∷ 30 ∷ []; level = 1 }
-    ∷ record { empty = false; begin = 18 ∷ 30 ∷ []; follow = 0 ∷ 44 ∷ []; level = 2 }
-    ∷ record { empty = false; begin = 30 ∷ []; follow = 0 ∷ 1 ∷ 3 ∷ 4 ∷ 5 ∷ 6 ∷ 7 ∷ 8 ∷ 9 ∷ 10 ∷ 11 ∷ 12 ∷ 13 ∷ 14 ∷ 16 ∷ 17 ∷ 26 ∷ 27 ∷ 28 ∷ 29 ∷ 30 ∷ 31 ∷ 33 ∷ 34 ∷ 36 ∷ 37 ∷ 38 ∷ 44 ∷ 45 ∷ 46 ∷ 47 ∷ []; level = 1 }
-    ∷ record { empty = true; begin = 30 ∷ []; follow = 0 ∷ 44 ∷ []; level = 1 }
-    ∷ record { empty = false; begin = 30 ∷ []; follow = 0 ∷ 44 ∷ []; level = 2 }
-    ∷ record { empty = false; begin = 18 ∷ []; follow = 0 ∷ 44 ∷ []; level = 1 }
-    ∷ record { empty = false; begin = 44 ∷ []; follow = 0 ∷ []; level = 1 }
-    ∷ record { empty = true; begin = 44 ∷ []; follow = 0 ∷ []; level = 1 }
-    ∷ record { empty = false; begin = 0 ∷ []; follow = 0 ∷ 1 ∷ 4 ∷ 6 ∷ 26 ∷ 27 ∷ 28 ∷ 29 ∷ 30 ∷ 31 ∷ 33 ∷ 34 ∷ 37 ∷ 38 ∷ 45 ∷ 46 ∷ 47 ∷ 48 ∷ []; level = 4 }
-    ∷ record { empty = false; begin = 0 ∷ []; follow = 0 ∷ 1 ∷ 4 ∷ 26 ∷ 27 ∷ 28 ∷ 29 ∷ 30 ∷ 31 ∷ 33 ∷ 34 ∷ 37 ∷ 38 ∷ 45 ∷ 46 ∷ 47 ∷ []; level = 1 }
-    ∷ record { empty = false; begin = 4 ∷ 26 ∷ 27 ∷ 28 ∷ 29 ∷ 30 ∷ 31 ∷ 33 ∷ 34 ∷ 37 ∷ 38 ∷ []; follow = 0 ∷ 1 ∷ 45 ∷ 46 ∷ 47 ∷ []; level = 9 }
-    ∷ record { empty = false; begin = 4 ∷ 26 ∷ 27 ∷ 28 ∷ 29 ∷ 30 ∷ 31 ∷ 33 ∷ 34 ∷ 37 ∷ 38 ∷ []; follow = 0 ∷ 1 ∷ 6 ∷ 45 ∷ 46 ∷ 47 ∷ []; level = 8 }
-    ∷ record { empty = false; begin = 26 ∷ 27 ∷ 28 ∷ 29 ∷ 30 ∷ 31 ∷ 33 ∷ 34 ∷ 37 ∷ 38 ∷ []; follow = 0 ∷ 1 ∷ 5 ∷ 6 ∷ 7 ∷ 8 ∷ 26 ∷ 27 ∷ 28 ∷ 30 ∷ 36 ∷ 45 ∷ 46 ∷ 47 ∷ []; level = 2 }
-    ∷ record { empty = false; begin = 26 ∷ 27 ∷ 28 ∷ []; follow = 0 ∷ 1 ∷ 3 ∷ 4 ∷ 5 ∷ 6 ∷ 7 ∷ 8 ∷ 9 ∷ 10 ∷ 11 ∷ 12 ∷ 13 ∷ 14 ∷ 16 ∷ 17 ∷ 26 ∷ 27 ∷ 28 ∷ 29 ∷ 30 ∷ 31 ∷ 33 ∷ 34 ∷ 36 ∷ 37 ∷ 38 ∷ 45 ∷ 46 ∷ 47 ∷ []; level = 2 }
-    ∷ record { empty = false; begin = 28 ∷ []; follow = 0 ∷ 1 ∷ 3 ∷ 4 ∷ 5 ∷ 6 ∷ 7 ∷ 8 ∷ 9 ∷ 10 ∷ 11 ∷ 12 ∷ 13 ∷ 14 ∷ 16 ∷ 17 ∷ 26 ∷ 27 ∷ 28 ∷ 29 ∷ 30 ∷ 31 ∷ 33 ∷ 34 ∷ 36 ∷ 37 ∷ 38 ∷ 45 ∷ 46 ∷ 47 ∷ []; level = 1 }
-    ∷ record { empty = false; begin = 27 ∷ 28 ∷ []; follow = 0 ∷ 1 ∷ 3 ∷ 4 ∷ 5 ∷ 6 ∷ 7 ∷ 8 ∷ 9 ∷ 10 ∷ 11 ∷ 12 ∷ 13 ∷ 14 ∷ 16 ∷ 17 ∷ 26 ∷ 27 ∷ 28 ∷ 29 ∷ 30 ∷ 31 ∷ 33 ∷ 34 ∷ 36 ∷ 37 ∷ 38 ∷ 45 ∷ 46 ∷ 47 ∷ []; level = 2 }
-    ∷ record { empty = false; begin = 29 ∷ []; follow = 0 ∷ 1 ∷ 5 ∷ 6 ∷ 7 ∷ 8 ∷ 26 ∷ 27 ∷ 28 ∷ 30 ∷ 36 ∷ 45 ∷ 46 ∷ 47 ∷ []; level = 1 }
-    ∷ record { empty = false; begin = 31 ∷ 33 ∷ 34 ∷ 37 ∷ 38 ∷ []; follow = 0 ∷ 1 ∷ 3 ∷ 5 ∷ 6 ∷ 7 ∷ 8 ∷ 9 ∷ 10 ∷ 11 ∷ 12 ∷ 13 ∷ 14 ∷ 16 ∷ 17 ∷ 26 ∷ 27 ∷ 28 ∷ 30 ∷ 36 ∷ 45 ∷ 46 ∷ 47 ∷ []; level = 3 }
-    ∷ record { empty = false; begin = 31 ∷ []; follow = 0 ∷ 1 ∷ 3 ∷ 5 ∷ 6 ∷ 7 ∷ 8 ∷ 9 ∷ 10 ∷ 11 ∷ 12 ∷ 13 ∷ 14 ∷ 16 ∷ 17 ∷ 22 ∷ 26 ∷ 27 ∷ 28 ∷ 30 ∷ 32 ∷ 36 ∷ 45 ∷ 46 ∷ 47 ∷ []; level = 1 }
-    ∷ record { empty = false; begin = 32 ∷ []; follow = 0 ∷ 1 ∷ 3 ∷ 5 ∷ 6 ∷ 7 ∷ 8 ∷ 9 ∷ 10 ∷ 11 ∷ 12 ∷ 13 ∷ 14 ∷ 16 ∷ 17 ∷ 26 ∷ 27 ∷ 28 ∷ 30 ∷ 36 ∷ 45 ∷ 46 ∷ 47 ∷ []; level = 1 }
-    ∷ record { empty = false; begin = 22 ∷ []; follow = 26 ∷ 27 ∷ 28 ∷ []; level = 1 }
-    ∷ record { empty = false; begin = 22 ∷ []; follow = 0 ∷ 1 ∷ 3 ∷ 5 ∷ 6 ∷ 7 ∷ 8 ∷ 9 ∷ 10 ∷ 11 ∷ 12 ∷ 13 ∷ 14 ∷ 16 ∷ 17 ∷ 26 ∷ 27 ∷ 28 ∷ 30 ∷ 36 ∷ 45 ∷ 46 ∷ 47 ∷ []; level = 3 }
-    ∷ record { empty = false; begin = 22 ∷ 32 ∷ []; follow = 0 ∷ 1 ∷ 3 ∷ 5 ∷ 6 ∷ 7 ∷ 8 ∷ 9 ∷ 10 ∷ 11 ∷ 12 ∷ 13 ∷ 14 ∷ 16 ∷ 17 ∷ 26 ∷ 27 ∷ 28 ∷ 30 ∷ 36 ∷ 45 ∷ 46 ∷ 47 ∷ []; level = 2 }
-    ∷ record { empty = true; begin = 22 ∷ 32 ∷ []; follow = 0 ∷ 1 ∷ 3 ∷ 5 ∷ 6 ∷ 7 ∷ 8 ∷ 9 ∷ 10 ∷ 11 ∷ 12 ∷ 13 ∷ 14 ∷ 16 ∷ 17 ∷ 26 ∷ 27 ∷ 28 ∷ 30 ∷ 36 ∷ 45 ∷ 46 ∷ 47 ∷ []; level = 1 }
-    ∷ record { empty = false; begin = 31 ∷ []; follow = 0 ∷ 1 ∷ 3 ∷ 5 ∷ 6 ∷ 7 ∷ 8 ∷ 9 ∷ 10 ∷ 11 ∷ 12 ∷ 13 ∷ 14 ∷ 16 ∷ 17 ∷ 26 ∷ 27 ∷ 28 ∷ 30 ∷ 36 ∷ 45 ∷ 46 ∷ 47 ∷ []; level = 2 }
-    ∷ record { empty = false; begin = 33 ∷ []; follow = 0 ∷ 1 ∷ 3 ∷ 5 ∷ 6 ∷ 7 ∷ 8 ∷ 9 ∷ 10 ∷ 11 ∷ 12 ∷ 13 ∷ 14 ∷ 16 ∷ 17 ∷ 26 ∷ 27 ∷ 28 ∷ 30 ∷ 36 ∷ 45 ∷ 46 ∷ 47 ∷ []; level = 1 }
-    ∷ record { empty = false; begin = 34 ∷ []; follow = 0 ∷ 1 ∷ 3 ∷ 5 ∷ 6 ∷ 7 ∷ 8 ∷ 9 ∷ 10 ∷ 11 ∷ 12 ∷ 13 ∷ 14 ∷ 16 ∷ 17 ∷ 26 ∷ 27 ∷ 28 ∷ 30 ∷ 36 ∷ 45 ∷ 46 ∷ 47 ∷ []; level = 1 }
-    ∷ record { empty = false; begin = 37 ∷ []; follow = 0 ∷ 1 ∷ 3 ∷ 5 ∷ 6 ∷ 7 ∷ 8 ∷ 9 ∷ 10 ∷ 11 ∷ 12 ∷ 13 ∷ 14 ∷ 16 ∷ 17 ∷ 26 ∷ 27 ∷ 28 ∷ 30 ∷ 36 ∷ 45 ∷ 46 ∷ 47 ∷ []; level = 1 }
-    ∷ record { empty = false; begin = 38 ∷ []; follow = 0 ∷ 1 ∷ 3 ∷ 5 ∷ 6 ∷ 7 ∷ 8 ∷ 9 ∷ 10 ∷ 11 ∷ 12 ∷ 13 ∷ 14 ∷ 16 ∷ 17 ∷ 26 ∷ 27 ∷ 28 ∷ 30 ∷ 36 ∷ 45 ∷ 46 ∷ 47 ∷ []; level = 1 }
-    ∷ record { empty = false; begin = 37 ∷ 38 ∷ []; follow = 0 ∷ 1 ∷ 3 ∷ 5 ∷ 6 ∷ 7 ∷ 8 ∷ 9 ∷ 10 ∷ 11 ∷ 12 ∷ 13 ∷ 14 ∷ 16 ∷ 17 ∷ 26 ∷ 27 ∷ 28 ∷ 30 ∷ 36 ∷ 45 ∷ 46 ∷ 47 ∷ []; level = 2 }
-    ∷ record { empty = false; begin = 34 ∷ 37 ∷ 38 ∷ []; follow = 0 ∷ 1 ∷ 3 ∷ 5 ∷ 6 ∷ 7 ∷ 8 ∷ 9 ∷ 10 ∷ 11 ∷ 12 ∷ 13 ∷ 14 ∷ 16 ∷ 17 ∷ 26 ∷ 27 ∷ 28 ∷ 30 ∷ 36 ∷ 45 ∷ 46 ∷ 47 ∷ []; level = 2 }
-    ∷ record { empty = false; begin = 33 ∷ 34 ∷ 37 ∷ 38 ∷ []; follow = 0 ∷ 1 ∷ 3 ∷ 5 ∷ 6 ∷ 7 ∷ 8 ∷ 9 ∷ 10 ∷ 11 ∷ 12 ∷ 13 ∷ 14 ∷ 16 ∷ 17 ∷ 26 ∷ 27 ∷ 28 ∷ 30 ∷ 36 ∷ 45 ∷ 46 ∷ 47 ∷ []; level = 2 }
-    ∷ record { empty = false; begin = 29 ∷ 31 ∷ 33 ∷ 34 ∷ 37 ∷ 38 ∷ []; follow = 0 ∷ 1 ∷ 5 ∷ 6 ∷ 7 ∷ 8 ∷ 26 ∷ 27 ∷ 28 ∷ 30 ∷ 36 ∷ 45 ∷ 46 ∷ 47 ∷ []; level = 2 }
-    ∷ record { empty = false; begin = 26 ∷ 27 ∷ 28 ∷ 29 ∷ 31 ∷ 33 ∷ 34 ∷ 37 ∷ 38 ∷ []; follow = 0 ∷ 1 ∷ 5 ∷ 6 ∷ 7 ∷ 8 ∷ 26 ∷ 27 ∷ 28 ∷ 30 ∷ 36 ∷ 45 ∷ 46 ∷ 47 ∷ []; level = 3 }
-    ∷ record { empty = false; begin = 26 ∷ 27 ∷ 28 ∷ 30 ∷ 36 ∷ []; follow = 0 ∷ 1 ∷ 5 ∷ 6 ∷ 45 ∷ 46 ∷ 47 ∷ []; level = 6 }
-    ∷ record { empty = false; begin = 26 ∷ 27 ∷ 28 ∷ 30 ∷ 36 ∷ []; follow = 4 ∷ 26 ∷ 27 ∷ 28 ∷ 29 ∷ 30 ∷ 31 ∷ 33 ∷ 34 ∷ 37 ∷ 38 ∷ []; level = 2 }
-    ∷ record { empty = false; begin = 36 ∷ []; follow = 4 ∷ 26 ∷ 27 ∷ 28 ∷ 29 ∷ 30 ∷ 31 ∷ 33 ∷ 34 ∷ 37 ∷ 38 ∷ []; level = 1 }
-    ∷ record { empty = false; begin = 26 ∷ 27 ∷ 28 ∷ 36 ∷ []; follow = 4 ∷ 26 ∷ 27 ∷ 28 ∷ 29 ∷ 30 ∷ 31 ∷ 33 ∷ 34 ∷ 37 ∷ 38 ∷ []; level = 2 }
-    ∷ record { empty = false; begin = 4 ∷ 26 ∷ 27 ∷ 28 ∷ 29 ∷ 30 ∷ 31 ∷ 33 ∷ 34 ∷ 37 ∷ 38 ∷ []; follow = 0 ∷ 1 ∷ 5 ∷ 6 ∷ 7 ∷ 45 ∷ 46 ∷ 47 ∷ []; level = 4 }
-    ∷ record { empty = false; begin = 4 ∷ 26 ∷ 27 ∷ 28 ∷ 29 ∷ 30 ∷ 31 ∷ 33 ∷ 34 ∷ 37 ∷ 38 ∷ []; follow = 0 ∷ 1 ∷ 5 ∷ 6 ∷ 7 ∷ 8 ∷ 45 ∷ 46 ∷ 47 ∷ []; level = 3 }
-    ∷ record { empty = false; begin = 4 ∷ []; follow = 5 ∷ 26 ∷ 27 ∷ 28 ∷ 30 ∷ 36 ∷ []; level = 1 }
-    ∷ record { empty = true; begin = 26 ∷ 27 ∷ 28 ∷ 30 ∷ 36 ∷ []; follow = 0 ∷ 1 ∷ 5 ∷ 6 ∷ 45 ∷ 46 ∷ 47 ∷ []; level = 1 }
-    ∷ record { empty = false; begin = 5 ∷ []; follow = 0 ∷ 1 ∷ 5 ∷ 6 ∷ 7 ∷ 8 ∷ 26 ∷ 27 ∷ 28 ∷ 30 ∷ 36 ∷ 45 ∷ 46 ∷ 47 ∷ []; level = 1 }
-    ∷ record { empty = false; begin = 5 ∷ 26 ∷ 27 ∷ 28 ∷ 30 ∷ 36 ∷ []; follow = 0 ∷ 1 ∷ 5 ∷ 6 ∷ 7 ∷ 8 ∷ 45 ∷ 46 ∷ 47 ∷ []; level = 2 }
-    ∷ record { empty = false; begin = 4 ∷ []; follow = 0 ∷ 1 ∷ 5 ∷ 6 ∷ 7 ∷ 8 ∷ 45 ∷ 46 ∷ 47 ∷ []; level = 3 }
-    ∷ record { empty = false; begin = 8 ∷ []; follow = 2 ∷ 4 ∷ 15 ∷ 26 ∷ 27 ∷ 28 ∷ 29 ∷ 30 ∷ 31 ∷ 33 ∷ 34 ∷ 37 ∷ 38 ∷ 49 ∷ 50 ∷ 51 ∷ 52 ∷ 53 ∷ 54 ∷ 55 ∷ 56 ∷ 57 ∷ 58 ∷ []; level = 1 }
-    ∷ record { empty = false; begin = 8 ∷ []; follow = 0 ∷ 1 ∷ 5 ∷ 6 ∷ 7 ∷ 8 ∷ 45 ∷ 46 ∷ 47 ∷ []; level = 4 }
-    ∷ record { empty = true; begin = 8 ∷ []; follow = 0 ∷ 1 ∷ 5 ∷ 6 ∷ 7 ∷ 45 ∷ 46 ∷ 47 ∷ []; level = 1 }
-    ∷ record { empty = false; begin = 7 ∷ []; follow = 0 ∷ 1 ∷ 5 ∷ 6 ∷ 7 ∷ 26 ∷ 27 ∷ 28 ∷ 30 ∷ 36 ∷ 45 ∷ 46 ∷ 47 ∷ []; level = 1 }
-    ∷ record { empty = false; begin = 26 ∷ 27 ∷ 28 ∷ 30 ∷ 36 ∷ []; follow = 0 ∷ 1 ∷ 5 ∷ 6 ∷ 7 ∷ 45 ∷ 46 ∷ 47 ∷ []; level = 5 }
-    ∷ record { empty = true; begin = 26 ∷ 27 ∷ 28 ∷ 30 ∷ 36 ∷ []; follow = 0 ∷ 1 ∷ 5 ∷ 6 ∷ 7 ∷ 45 ∷ 46 ∷ 47 ∷ []; level = 1 }
-    ∷ record { empty = false; begin = 7 ∷ []; follow = 0 ∷ 1 ∷ 5 ∷ 6 ∷ 7 ∷ 45 ∷ 46 ∷ 47 ∷ []; level = 2 }
-    ∷ record { empty = true; begin = 7 ∷ []; follow = 0 ∷ 1 ∷ 5 ∷ 6 ∷ 45 ∷ 46 ∷ 47 ∷ []; level = 1 }
-    ∷ record { empty = false; begin = 4 ∷ 26 ∷ 27 ∷ 28 ∷ 29 ∷ 30 ∷ 31 ∷ 33 ∷ 34 ∷ 37 ∷ 38 ∷ []; follow = 0 ∷ 1 ∷ 5 ∷ 6 ∷ 45 ∷ 46 ∷ 47 ∷ []; level = 5 }
-    ∷ record { empty = false; begin = 26 ∷ 27 ∷ 28 ∷ 29 ∷ 30 ∷ 31 ∷ 33 ∷ 34 ∷ 37 ∷ 38 ∷ []; follow = 0 ∷ 1 ∷ 6 ∷ 45 ∷ 46 ∷ 47 ∷ []; level = 7 }
-    ∷ record { empty = false; begin = 5 ∷ []; follow = 0 ∷ 1 ∷ 6 ∷ 45 ∷ 46 ∷ 47 ∷ []; level = 7 }
-    ∷ record { empty = false; begin = 5 ∷ []; follow = 0 ∷ 1 ∷ 6 ∷ 45 ∷ 46 ∷ 47 ∷ []; level = 2 }
-    ∷ record { empty = false; begin = 26 ∷ 27 ∷ 28 ∷ 30 ∷ 36 ∷ []; follow = 0 ∷ 1 ∷ 6 ∷ 45 ∷ 46 ∷ 47 ∷ []; level = 7 }
-    ∷ record { empty = false; begin = 5 ∷ 26 ∷ 27 ∷ 28 ∷ 30 ∷ 36 ∷ []; follow = 0 ∷ 1 ∷ 6 ∷ 45 ∷ 46 ∷ 47 ∷ []; level = 8 }
-    ∷ record { empty = false; begin = 4 ∷ []; follow = 0 ∷ 1 ∷ 6 ∷ 45 ∷ 46 ∷ 47 ∷ []; level = 9 }
-    ∷ record { empty = false; begin = 6 ∷ []; follow = 0 ∷ 1 ∷ 4 ∷ 26 ∷ 27 ∷ 28 ∷ 29 ∷ 30 ∷ 31 ∷ 33 ∷ 34 ∷ 37 ∷ 38 ∷ 45 ∷ 46 ∷ 47 ∷ []; level = 1 }
-    ∷ record { empty = true; begin = 4 ∷ 26 ∷ 27 ∷ 28 ∷ 29 ∷ 30 ∷ 31 ∷ 33 ∷ 34 ∷ 37 ∷ 38 ∷ []; follow = 0 ∷ 1 ∷ 45 ∷ 46 ∷ 47 ∷ []; level = 1 }
-    ∷ record { empty = false; begin = 6 ∷ []; follow = 0 ∷ 1 ∷ 45 ∷ 46 ∷ 47 ∷ []; level = 2 }
-    ∷ record { empty = true; begin = 6 ∷ []; follow = 0 ∷ 1 ∷ 45 ∷ 46 ∷ 47 ∷ []; level = 1 }
-    ∷ record { empty = true; begin = 4 ∷ 26 ∷ 27 ∷ 28 ∷ 29 ∷ 30 ∷ 31 ∷ 33 ∷ 34 ∷ 37 ∷ 38 ∷ []; follow = 0 ∷ 1 ∷ 45 ∷ 46 ∷ 47 ∷ []; level = 1 }
-    ∷ record { empty = false; begin = 0 ∷ 45 ∷ 46 ∷ 47 ∷ []; follow = 0 ∷ 1 ∷ 4 ∷ 6 ∷ 26 ∷ 27 ∷ 28 ∷ 29 ∷ 30 ∷ 31 ∷ 33 ∷ 34 ∷ 37 ∷ 38 ∷ 45 ∷ 46 ∷ 47 ∷ []; level = 6 }
-    ∷ record { empty = false; begin = 45 ∷ []; follow = 0 ∷ []; level = 1 }
-    ∷ record { empty = false; begin = 45 ∷ []; follow = 0 ∷ 1 ∷ 4 ∷ 6 ∷ 26 ∷ 27 ∷ 28 ∷ 29 ∷ 30 ∷ 31 ∷ 33 ∷ 34 ∷ 37 ∷ 38 ∷ 45 ∷ 46 ∷ 47 ∷ []; level = 5 }
-    ∷ record { empty = false; begin = 46 ∷ []; follow = 26 ∷ 27 ∷ 28 ∷ 30 ∷ []; level = 1 }
-    ∷ record { empty = false; begin = 26 ∷ 27 ∷ 28 ∷ 30 ∷ []; follow = 0 ∷ []; level = 2 }
-    ∷ record { empty = false; begin = 26 ∷ 27 ∷ 28 ∷ 30 ∷ []; follow = 0 ∷ 1 ∷ 4 ∷ 6 ∷ 26 ∷ 27 ∷ 28 ∷ 29 ∷ 30 ∷ 31 ∷ 33 ∷ 34 ∷ 37 ∷ 38 ∷ 45 ∷ 46 ∷ 47 ∷ []; level = 5 }
-    ∷ record { empty = false; begin = 46 ∷ []; follow = 0 ∷ 1 ∷ 4 ∷ 6 ∷ 26 ∷ 27 ∷ 28 ∷ 29 ∷ 30 ∷ 31 ∷ 33 ∷ 34 ∷ 37 ∷ 38 ∷ 45 ∷ 46 ∷ 47 ∷ []; level = 6 }
-    ∷ record { empty = false; begin = 47 ∷ []; follow = 2 ∷ 49 ∷ 50 ∷ 51 ∷ 52 ∷ 53 ∷ 54 ∷ 55 ∷ 56 ∷ 57 ∷ 58 ∷ []; level = 1 }
-    ∷ record { empty = false; begin = 2 ∷ 49 ∷ 50 ∷ 51 ∷ 52 ∷ 53 ∷ 54 ∷ 55 ∷ 56 ∷ 57 ∷ 58 ∷ []; follow = 0 ∷ 1 ∷ 4 ∷ 6 ∷ 26 ∷ 27 ∷ 28 ∷ 29 ∷ 30 ∷ 31 ∷ 33 ∷ 34 ∷ 37 ∷ 38 ∷ 45 ∷ 46 ∷ 47 ∷ []; level = 6 }
-    ∷ record { empty = false; begin = 2 ∷ []; follow = 0 ∷ 1 ∷ 3 ∷ 4 ∷ 6 ∷ 8 ∷ 9 ∷ 10 ∷ 11 ∷ 12 ∷ 13 ∷ 14 ∷ 16 ∷ 17 ∷ 26 ∷ 27 ∷ 28 ∷ 29 ∷ 30 ∷ 31 ∷ 33 ∷ 34 ∷ 37 ∷ 38 ∷ 45 ∷ 46 ∷ 47 ∷ []; level = 10 }
-    ∷ record { empty = false; begin = 2 ∷ []; follow = 2 ∷ 15 ∷ 26 ∷ 27 ∷ 28 ∷ 30 ∷ 31 ∷ 33 ∷ 34 ∷ 37 ∷ 38 ∷ 49 ∷ 50 ∷ 51 ∷ 52 ∷ 53 ∷ 54 ∷ 55 ∷ 56 ∷ 57 ∷ 58 ∷ []; level = 1 }
-    ∷ record { empty = false; begin = 2 ∷ 15 ∷ 26 ∷ 27 ∷ 28 ∷ 30 ∷ 31 ∷ 33 ∷ 34 ∷ 37 ∷ 38 ∷ 49 ∷ 50 ∷ 51 ∷ 52 ∷ 53 ∷ 54 ∷ 55 ∷ 56 ∷ 57 ∷ 58 ∷ []; follow = 3 ∷ 8 ∷ []; level = 8 }
-    ∷ record { empty = false; begin = 2 ∷ 15 ∷ 26 ∷ 27 ∷ 28 ∷ 30 ∷ 31 ∷ 33 ∷ 34 ∷ 37 ∷ 38 ∷ 49 ∷ 50 ∷ 51 ∷ 52 ∷ 53 ∷ 54 ∷ 55 ∷ 56 ∷ 57 ∷ 58 ∷ []; follow = 3 ∷ 8 ∷ 17 ∷ []; level = 7 }
-    ∷ record { empty = false; begin = 2 ∷ 15 ∷ 26 ∷ 27 ∷ 28 ∷ 30 ∷ 31 ∷ 33 ∷ 34 ∷ 37 ∷ 38 ∷ 49 ∷ 50 ∷ 51 ∷ 52 ∷ 53 ∷ 54 ∷ 55 ∷ 56 ∷ 57 ∷ 58 ∷ []; follow = 3 ∷ 8 ∷ 16 ∷ 17 ∷ []; level = 6 }
-    ∷ record { empty = false; begin = 2 ∷ 15 ∷ 26 ∷ 27 ∷ 28 ∷ 30 ∷ 31 ∷ 33 ∷ 34 ∷ 37 ∷ 38 ∷ 49 ∷ 50 ∷ 51 ∷ 52 ∷ 53 ∷ 54 ∷ 55 ∷ 56 ∷ 57 ∷ 58 ∷ []; follow = 3 ∷ 8 ∷ 9 ∷ 10 ∷ 11 ∷ 12 ∷ 13 ∷ 14 ∷ 16 ∷ 17 ∷ []; level = 5 }
-    ∷ record { empty = false; begin = 15 ∷ []; follow = 2 ∷ 26 ∷ 27 ∷ 28 ∷ 30 ∷ 31 ∷ 33 ∷ 34 ∷ 37 ∷ 38 ∷ 49 ∷ 50 ∷ 51 ∷ 52 ∷ 53 ∷ 54 ∷ 55 ∷ 56 ∷ 57 ∷ 58 ∷ []; level = 1 }
-    ∷ record { empty = true; begin = 15 ∷ []; follow = 2 ∷ 26 ∷ 27 ∷ 28 ∷ 30 ∷ 31 ∷ 33 ∷ 34 ∷ 37 ∷ 38 ∷ 49 ∷ 50 ∷ 51 ∷ 52 ∷ 53 ∷ 54 ∷ 55 ∷ 56 ∷ 57 ∷ 58 ∷ []; level = 1 }
-    ∷ record { empty = false; begin = 2 ∷ 26 ∷ 27 ∷ 28 ∷ 30 ∷ 31 ∷ 33 ∷ 34 ∷ 37 ∷ 38 ∷ 49 ∷ 50 ∷ 51 ∷ 52 ∷ 53 ∷ 54 ∷ 55 ∷ 56 ∷ 57 ∷ 58 ∷ []; follow = 3 ∷ 8 ∷ 9 ∷ 10 ∷ 11 ∷ 12 ∷ 13 ∷ 14 ∷ 16 ∷ 17 ∷ []; level = 4 }
-    ∷ record { empty = false; begin = 49 ∷ 50 ∷ 51 ∷ 52 ∷ 53 ∷ 54 ∷ 55 ∷ 56 ∷ 57 ∷ 58 ∷ []; follow = 0 ∷ 1 ∷ 3 ∷ 4 ∷ 6 ∷ 8 ∷ 9 ∷ 10 ∷ 11 ∷ 12 ∷ 13 ∷ 14 ∷ 16 ∷ 17 ∷ 26 ∷ 27 ∷ 28 ∷ 29 ∷ 30 ∷ 31 ∷ 33 ∷ 34 ∷ 37 ∷ 38 ∷ 45 ∷ 46 ∷ 47 ∷ []; level = 5 }
-    ∷ record { empty = false; begin = 49 ∷ []; follow = 2 ∷ []; level = 1 }
-    ∷ record { empty = false; begin = 3 ∷ []; follow = 0 ∷ 1 ∷ 3 ∷ 4 ∷ 6 ∷ 8 ∷ 9 ∷ 10 ∷ 11 ∷ 12 ∷ 13 ∷ 14 ∷ 16 ∷ 17 ∷ 26 ∷ 27 ∷ 28 ∷ 29 ∷ 30 ∷ 31 ∷ 33 ∷ 34 ∷ 37 ∷ 38 ∷ 45 ∷ 46 ∷ 47 ∷ []; level = 1 }
-    ∷ record { empty = false; begin = 30 ∷ []; follow = 0 ∷ 1 ∷ 3 ∷ 4 ∷ 6 ∷ 8 ∷ 9 ∷ 10 ∷ 11 ∷ 12 ∷ 13 ∷ 14 ∷ 16 ∷ 17 ∷ 26 ∷ 27 ∷ 28 ∷ 29 ∷ 30 ∷ 31 ∷ 33 ∷ 34 ∷ 37 ∷ 38 ∷ 45 ∷ 46 ∷ 47 ∷ []; level = 2 }
-    ∷ record { empty = false; begin = 2 ∷ []; follow = 0 ∷ 1 ∷ 3 ∷ 4 ∷ 6 ∷ 8 ∷ 9 ∷ 10 ∷ 11 ∷ 12 ∷ 13 ∷ 14 ∷ 16 ∷ 17 ∷ 26 ∷ 27 ∷ 28 ∷ 29 ∷ 30 ∷ 31 ∷ 33 ∷ 34 ∷ 37 ∷ 38 ∷ 45 ∷ 46 ∷ 47 ∷ []; level = 3 }
-    ∷ record { empty = false; begin = 49 ∷ []; follow = 0 ∷ 1 ∷ 3 ∷ 4 ∷ 6 ∷ 8 ∷ 9 ∷ 10 ∷ 11 ∷ 12 ∷ 13 ∷ 14 ∷ 16 ∷ 17 ∷ 26 ∷ 27 ∷ 28 ∷ 29 ∷ 30 ∷ 31 ∷ 33 ∷ 34 ∷ 37 ∷ 38 ∷ 45 ∷ 46 ∷ 47 ∷ []; level = 4 }
-    ∷ record { empty = false; begin = 50 ∷ []; follow = 2 ∷ []; level = 1 }
-    ∷ record { empty = false; begin = 2 ∷ 15 ∷ 26 ∷ 27 ∷ 28 ∷ 30 ∷ 31 ∷ 33 ∷ 34 ∷ 37 ∷ 38 ∷ 49 ∷ 50 ∷ 51 ∷ 52 ∷ 53 ∷ 54 ∷ 55 ∷ 56 ∷ 57 ∷ 58 ∷ []; follow = 0 ∷ 1 ∷ 3 ∷ 4 ∷ 6 ∷ 8 ∷ 9 ∷ 10 ∷ 11 ∷ 12 ∷ 13 ∷ 14 ∷ 16 ∷ 17 ∷ 26 ∷ 27 ∷ 28 ∷ 29 ∷ 30 ∷ 31 ∷ 33 ∷ 34 ∷ 37 ∷ 38 ∷ 45 ∷ 46 ∷ 47 ∷ []; level = 9 }
-    ∷ record { empty = false; begin = 8 ∷ []; follow = 0 ∷ 1 ∷ 3 ∷ 4 ∷ 6 ∷ 8 ∷ 9 ∷ 10 ∷ 11 ∷ 12 ∷ 13 ∷ 14 ∷ 16 ∷ 17 ∷ 26 ∷ 27 ∷ 28 ∷ 29 ∷ 30 ∷ 31 ∷ 33 ∷ 34 ∷ 37 ∷ 38 ∷ 45 ∷ 46 ∷ 47 ∷ []; level = 10 }
-    ∷ record { empty = false; begin = 2 ∷ 15 ∷ 26 ∷ 27 ∷ 28 ∷ 30 ∷ 31 ∷ 33 ∷ 34 ∷ 37 ∷ 38 ∷ 49 ∷ 50 ∷ 51 ∷ 52 ∷ 53 ∷ 54 ∷ 55 ∷ 56 ∷ 57 ∷ 58 ∷ []; follow = 0 ∷ 1 ∷ 3 ∷ 4 ∷ 6 ∷ 8 ∷ 9 ∷ 10 ∷ 11 ∷ 12 ∷ 13 ∷ 14 ∷ 16 ∷ 17 ∷ 26 ∷ 27 ∷ 28 ∷ 29 ∷ 30 ∷ 31 ∷ 33 ∷ 34 ∷ 37 ∷ 38 ∷ 45 ∷ 46 ∷ 47 ∷ []; level = 11 }
-    ∷ record { empty = false; begin = 2 ∷ []; follow = 0 ∷ 1 ∷ 3 ∷ 4 ∷ 6 ∷ 8 ∷ 9 ∷ 10 ∷ 11 ∷ 12 ∷ 13 ∷ 14 ∷ 16 ∷ 17 ∷ 26 ∷ 27 ∷ 28 ∷ 29 ∷ 30 ∷ 31 ∷ 33 ∷ 34 ∷ 37 ∷ 38 ∷ 45 ∷ 46 ∷ 47 ∷ []; level = 12 }
-    ∷ record { empty = false; begin = 50 ∷ []; follow = 0 ∷ 1 ∷ 3 ∷ 4 ∷ 6 ∷ 8 ∷ 9 ∷ 10 ∷ 11 ∷ 12 ∷ 13 ∷ 14 ∷ 16 ∷ 17 ∷ 26 ∷ 27 ∷ 28 ∷ 29 ∷ 30 ∷ 31 ∷ 33 ∷ 34 ∷ 37 ∷ 38 ∷ 45 ∷ 46 ∷ 47 ∷ []; level = 13 }
-    ∷ record { empty = false; begin = 51 ∷ 52 ∷ 53 ∷ 54 ∷ 55 ∷ 56 ∷ 57 ∷ 58 ∷ []; follow = 2 ∷ []; level = 2 }
-    ∷ record { empty = false; begin = 51 ∷ []; follow = 2 ∷ []; level = 1 }
-    ∷ record { empty = false; begin = 52 ∷ []; follow = 2 ∷ []; level = 1 }
-    ∷ record { empty = false; begin = 53 ∷ []; follow = 2 ∷ []; level = 1 }
-    ∷ record { empty = false; begin = 54 ∷ []; follow = 2 ∷ []; level = 1 }
-    ∷ record { empty = false; begin = 55 ∷ []; follow = 2 ∷ []; level = 1 }
-    ∷ record { empty = false; begin = 56 ∷ []; follow = 2 ∷ []; level = 1 }
-    ∷ record { empty = false; begin = 57 ∷ []; follow = 2 ∷ []; level = 1 }
-    ∷ record { empty = false; begin = 58 ∷ []; follow = 2 ∷ []; level = 1 }
-    ∷ record { empty = false; begin = 57 ∷ 58 ∷ []; follow = 2 ∷ []; level = 2 }
-    ∷ record { empty = false; begin = 56 ∷ 57 ∷ 58 ∷ []; follow = 2 ∷ []; level = 2 }
-    ∷ record { empty = false; begin = 55 ∷ 56 ∷ 57 ∷ 58 ∷ []; follow = 2 ∷ []; level = 2 }
-    ∷ record { empty = false; begin = 54 ∷ 55 ∷ 56 ∷ 57 ∷ 58 ∷ []; follow = 2 ∷ []; level = 2 }
-    ∷ record { empty = false; begin = 53 ∷ 54 ∷ 55 ∷ 56 ∷ 57 ∷ 58 ∷ []; follow = 2 ∷ []; level = 2 }
-    ∷ record { empty = false; begin = 52 ∷ 53 ∷ 54 ∷ 55 ∷ 56 ∷ 57 ∷ 58 ∷ []; follow = 2 ∷ []; level = 2 }
-    ∷ record { empty = false; begin = 51 ∷ 52 ∷ 53 ∷ 54 ∷ 55 ∷ 56 ∷ 57 ∷ 58 ∷ []; follow = 0 ∷ 1 ∷ 3 ∷ 4 ∷ 6 ∷ 8 ∷ 9 ∷ 10 ∷ 11 ∷ 12 ∷ 13 ∷ 14 ∷ 16 ∷ 17 ∷ 26 ∷ 27 ∷ 28 ∷ 29 ∷ 30 ∷ 31 ∷ 33 ∷ 34 ∷ 37 ∷ 38 ∷ 45 ∷ 46 ∷ 47 ∷ []; level = 11 }
-    ∷ record { empty = false; begin = 50 ∷ 51 ∷ 52 ∷ 53 ∷ 54 ∷ 55 ∷ 56 ∷ 57 ∷ 58 ∷ []; follow = 0 ∷ 1 ∷ 3 ∷ 4 ∷ 6 ∷ 8 ∷ 9 ∷ 10 ∷ 11 ∷ 12 ∷ 13 ∷ 14 ∷ 16 ∷ 17 ∷ 26 ∷ 27 ∷ 28 ∷ 29 ∷ 30 ∷ 31 ∷ 33 ∷ 34 ∷ 37 ∷ 38 ∷ 45 ∷ 46 ∷ 47 ∷ []; level = 12 }
-    ∷ record { empty = false; begin = 26 ∷ 27 ∷ 28 ∷ 31 ∷ 33 ∷ 34 ∷ 37 ∷ 38 ∷ []; follow = 3 ∷ 8 ∷ 9 ∷ 10 ∷ 11 ∷ 12 ∷ 13 ∷ 14 ∷ 16 ∷ 17 ∷ []; level = 3 }
-    ∷ record { empty = false; begin = 26 ∷ 27 ∷ 28 ∷ 30 ∷ 31 ∷ 33 ∷ 34 ∷ 37 ∷ 38 ∷ []; follow = 3 ∷ 8 ∷ 9 ∷ 10 ∷ 11 ∷ 12 ∷ 13 ∷ 14 ∷ 16 ∷ 17 ∷ []; level = 2 }
-    ∷ record { empty = false; begin = 26 ∷ 27 ∷ 28 ∷ 30 ∷ 31 ∷ 33 ∷ 34 ∷ 37 ∷ 38 ∷ 49 ∷ 50 ∷ 51 ∷ 52 ∷ 53 ∷ 54 ∷ 55 ∷ 56 ∷ 57 ∷ 58 ∷ []; follow = 3 ∷ 8 ∷ 9 ∷ 10 ∷ 11 ∷ 12 ∷ 13 ∷ 14 ∷ 16 ∷ 17 ∷ []; level = 3 }
-    ∷ record { empty = false; begin = 9 ∷ 10 ∷ 11 ∷ 12 ∷ 13 ∷ 14 ∷ []; follow = 2 ∷ 15 ∷ 26 ∷ 27 ∷ 28 ∷ 30 ∷ 31 ∷ 33 ∷ 34 ∷ 37 ∷ 38 ∷ 49 ∷ 50 ∷ 51 ∷ 52 ∷ 53 ∷ 54 ∷ 55 ∷ 56 ∷ 57 ∷ 58 ∷ []; level = 2 }
-    ∷ record { empty = false; begin = 9 ∷ []; follow = 2 ∷ 15 ∷ 26 ∷ 27 ∷ 28 ∷ 30 ∷ 31 ∷ 33 ∷ 34 ∷ 37 ∷ 38 ∷ 49 ∷ 50 ∷ 51 ∷ 52 ∷ 53 ∷ 54 ∷ 55 ∷ 56 ∷ 57 ∷ 58 ∷ []; level = 1 }
-    ∷ record { empty = false; begin = 10 ∷ []; follow = 2 ∷ 15 ∷ 26 ∷ 27 ∷ 28 ∷ 30 ∷ 31 ∷ 33 ∷ 34 ∷ 37 ∷ 38 ∷ 49 ∷ 50 ∷ 51 ∷ 52 ∷ 53 ∷ 54 ∷ 55 ∷ 56 ∷ 57 ∷ 58 ∷ []; level = 1 }
-    ∷ record { empty = false; begin = 11 ∷ []; follow = 2 ∷ 15 ∷ 26 ∷ 27 ∷ 28 ∷ 30 ∷ 31 ∷ 33 ∷ 34 ∷ 37 ∷ 38 ∷ 49 ∷ 50 ∷ 51 ∷ 52 ∷ 53 ∷ 54 ∷ 55 ∷ 56 ∷ 57 ∷ 58 ∷ []; level = 1 }
-    ∷ record { empty = false; begin = 12 ∷ []; follow = 2 ∷ 15 ∷ 26 ∷ 27 ∷ 28 ∷ 30 ∷ 31 ∷ 33 ∷ 34 ∷ 37 ∷ 38 ∷ 49 ∷ 50 ∷ 51 ∷ 52 ∷ 53 ∷ 54 ∷ 55 ∷ 56 ∷ 57 ∷ 58 ∷ []; level = 1 }
-    ∷ record { empty = false; begin = 13 ∷ []; follow = 2 ∷ 15 ∷ 26 ∷ 27 ∷ 28 ∷ 30 ∷ 31 ∷ 33 ∷ 34 ∷ 37 ∷ 38 ∷ 49 ∷ 50 ∷ 51 ∷ 52 ∷ 53 ∷ 54 ∷ 55 ∷ 56 ∷ 57 ∷ 58 ∷ []; level = 1 }
-    ∷ record { empty = false; begin = 14 ∷ []; follow = 2 ∷ 15 ∷ 26 ∷ 27 ∷ 28 ∷ 30 ∷ 31 ∷ 33 ∷ 34 ∷ 37 ∷ 38 ∷ 49 ∷ 50 ∷ 51 ∷ 52 ∷ 53 ∷ 54 ∷ 55 ∷ 56 ∷ 57 ∷ 58 ∷ []; level = 1 }
-    ∷ record { empty = false; begin = 13 ∷ 14 ∷ []; follow = 2 ∷ 15 ∷ 26 ∷ 27 ∷ 28 ∷ 30 ∷ 31 ∷ 33 ∷ 34 ∷ 37 ∷ 38 ∷ 49 ∷ 50 ∷ 51 ∷ 52 ∷ 53 ∷ 54 ∷ 55 ∷ 56 ∷ 57 ∷ 58 ∷ []; level = 2 }
-    ∷ record { empty = false; begin = 12 ∷ 13 ∷ 14 ∷ []; follow = 2 ∷ 15 ∷ 26 ∷ 27 ∷ 28 ∷ 30 ∷ 31 ∷ 33 ∷ 34 ∷ 37 ∷ 38 ∷ 49 ∷ 50 ∷ 51 ∷ 52 ∷ 53 ∷ 54 ∷ 55 ∷ 56 ∷ 57 ∷ 58 ∷ []; level = 2 }
-    ∷ record { empty = false; begin = 11 ∷ 12 ∷ 13 ∷ 14 ∷ []; follow = 2 ∷ 15 ∷ 26 ∷ 27 ∷ 28 ∷ 30 ∷ 31 ∷ 33 ∷ 34 ∷ 37 ∷ 38 ∷ 49 ∷ 50 ∷ 51 ∷ 52 ∷ 53 ∷ 54 ∷ 55 ∷ 56 ∷ 57 ∷ 58 ∷ []; level = 2 }
-    ∷ record { empty = false; begin = 10 ∷ 11 ∷ 12 ∷ 13 ∷ 14 ∷ []; follow = 2 ∷ 15 ∷ 26 ∷ 27 ∷ 28 ∷ 30 ∷ 31 ∷ 33 ∷ 34 ∷ 37 ∷ 38 ∷ 49 ∷ 50 ∷ 51 ∷ 52 ∷ 53 ∷ 54 ∷ 55 ∷ 56 ∷ 57 ∷ 58 ∷ []; level = 2 }
-    ∷ record { empty = false; begin = 9 ∷ 10 ∷ 11 ∷ 12 ∷ 13 ∷ 14 ∷ []; follow = 3 ∷ 8 ∷ 16 ∷ 17 ∷ []; level = 6 }
-    ∷ record { empty = true; begin = 9 ∷ 10 ∷ 11 ∷ 12 ∷ 13 ∷ 14 ∷ []; follow = 3 ∷ 8 ∷ 16 ∷ 17 ∷ []; level = 1 }
-    ∷ record { empty = false; begin = 16 ∷ []; follow = 2 ∷ 15 ∷ 26 ∷ 27 ∷ 28 ∷ 30 ∷ 31 ∷ 33 ∷ 34 ∷ 37 ∷ 38 ∷ 49 ∷ 50 ∷ 51 ∷ 52 ∷ 53 ∷ 54 ∷ 55 ∷ 56 ∷ 57 ∷ 58 ∷ []; level = 1 }
-    ∷ record { empty = false; begin = 16 ∷ []; follow = 3 ∷ 8 ∷ 16 ∷ 17 ∷ []; level = 7 }
-    ∷ record { empty = true; begin = 16 ∷ []; follow = 3 ∷ 8 ∷ 17 ∷ []; level = 1 }
-    ∷ record { empty = false; begin = 17 ∷ []; follow = 2 ∷ 15 ∷ 26 ∷ 27 ∷ 28 ∷ 30 ∷ 31 ∷ 33 ∷ 34 ∷ 37 ∷ 38 ∷ 49 ∷ 50 ∷ 51 ∷ 52 ∷ 53 ∷ 54 ∷ 55 ∷ 56 ∷ 57 ∷ 58 ∷ []; level = 1 }
-    ∷ record { empty = false; begin = 17 ∷ []; follow = 3 ∷ 8 ∷ 17 ∷ []; level = 8 }
-    ∷ record { empty = true; begin = 17 ∷ []; follow = 3 ∷ 8 ∷ []; level = 1 }
-    ∷ record { empty = false; begin = 2 ∷ 15 ∷ 26 ∷ 27 ∷ 28 ∷ 30 ∷ 31 ∷ 33 ∷ 34 ∷ 37 ∷ 38 ∷ 49 ∷ 50 ∷ 51 ∷ 52 ∷ 53 ∷ 54 ∷ 55 ∷ 56 ∷ 57 ∷ 58 ∷ []; follow = 0 ∷ 1 ∷ 3 ∷ 4 ∷ 6 ∷ 8 ∷ 9 ∷ 10 ∷ 11 ∷ 12 ∷ 13 ∷ 14 ∷ 16 ∷ 17 ∷ 26 ∷ 27 ∷ 28 ∷ 29 ∷ 30 ∷ 31 ∷ 33 ∷ 34 ∷ 37 ∷ 38 ∷ 45 ∷ 46 ∷ 47 ∷ []; level = 9 }
-    ∷ record { empty = false; begin = 47 ∷ []; follow = 0 ∷ 1 ∷ 4 ∷ 6 ∷ 26 ∷ 27 ∷ 28 ∷ 29 ∷ 30 ∷ 31 ∷ 33 ∷ 34 ∷ 37 ∷ 38 ∷ 45 ∷ 46 ∷ 47 ∷ []; level = 7 }
-    ∷ record { empty = false; begin = 48 ∷ []; follow = 0 ∷ []; level = 1 }
-    ∷ record { empty = false; begin = 48 ∷ []; follow = 0 ∷ 1 ∷ 4 ∷ 6 ∷ 26 ∷ 27 ∷ 28 ∷ 29 ∷ 30 ∷ 31 ∷ 33 ∷ 34 ∷ 37 ∷ 38 ∷ 45 ∷ 46 ∷ 47 ∷ 48 ∷ []; level = 5 }
-    ∷ record { empty = true; begin = 48 ∷ []; follow = 0 ∷ 1 ∷ 4 ∷ 6 ∷ 26 ∷ 27 ∷ 28 ∷ 29 ∷ 30 ∷ 31 ∷ 33 ∷ 34 ∷ 37 ∷ 38 ∷ 45 ∷ 46 ∷ 47 ∷ []; level = 1 }
-    ∷ record { empty = false; begin = 0 ∷ []; follow = 0 ∷ 1 ∷ 4 ∷ 6 ∷ 26 ∷ 27 ∷ 28 ∷ 29 ∷ 30 ∷ 31 ∷ 33 ∷ 34 ∷ 37 ∷ 38 ∷ 45 ∷ 46 ∷ 47 ∷ []; level = 5 }
-    ∷ record { empty = false; begin = 0 ∷ 47 ∷ []; follow = 0 ∷ 1 ∷ 4 ∷ 6 ∷ 26 ∷ 27 ∷ 28 ∷ 29 ∷ 30 ∷ 31 ∷ 33 ∷ 34 ∷ 37 ∷ 38 ∷ 45 ∷ 46 ∷ 47 ∷ []; level = 6 }
-    ∷ record { empty = false; begin = 0 ∷ 46 ∷ 47 ∷ []; follow = 0 ∷ 1 ∷ 4 ∷ 6 ∷ 26 ∷ 27 ∷ 28 ∷ 29 ∷ 30 ∷ 31 ∷ 33 ∷ 34 ∷ 37 ∷ 38 ∷ 45 ∷ 46 ∷ 47 ∷ []; level = 7 }
-    ∷ record { empty = true; begin = 6 ∷ []; follow = 0 ∷ 1 ∷ 4 ∷ 26 ∷ 27 ∷ 28 ∷ 29 ∷ 30 ∷ 31 ∷ 33 ∷ 34 ∷ 37 ∷ 38 ∷ 45 ∷ 46 ∷ 47 ∷ []; level = 1 }
-    ∷ record { empty = true; begin = 4 ∷ 6 ∷ 26 ∷ 27 ∷ 28 ∷ 29 ∷ 30 ∷ 31 ∷ 33 ∷ 34 ∷ 37 ∷ 38 ∷ []; follow = 0 ∷ 1 ∷ 45 ∷ 46 ∷ 47 ∷ []; level = 2 }
-    ∷ record { empty = false; begin = 0 ∷ 45 ∷ 46 ∷ 47 ∷ []; follow = 0 ∷ 1 ∷ 45 ∷ 46 ∷ 47 ∷ []; level = 7 }
-    ∷ record { empty = true; begin = 0 ∷ 45 ∷ 46 ∷ 47 ∷ []; follow = 1 ∷ []; level = 1 }
-    ∷ record { empty = false; begin = 1 ∷ []; follow = 0 ∷ 1 ∷ 4 ∷ 6 ∷ 26 ∷ 27 ∷ 28 ∷ 29 ∷ 30 ∷ 31 ∷ 33 ∷ 34 ∷ 37 ∷ 38 ∷ 45 ∷ 46 ∷ 47 ∷ 48 ∷ []; level = 1 }
-    ∷ record { empty = false; begin = 0 ∷ 1 ∷ 45 ∷ 46 ∷ 47 ∷ []; follow = 0 ∷ 1 ∷ 4 ∷ 6 ∷ 26 ∷ 27 ∷ 28 ∷ 29 ∷ 30 ∷ 31 ∷ 33 ∷ 34 ∷ 37 ∷ 38 ∷ 45 ∷ 46 ∷ 47 ∷ 48 ∷ []; level = 2 }
-    ∷ record { empty = false; begin = 0 ∷ 1 ∷ 4 ∷ 26 ∷ 27 ∷ 28 ∷ 29 ∷ 30 ∷ 31 ∷ 33 ∷ 34 ∷ 37 ∷ 38 ∷ 45 ∷ 46 ∷ 47 ∷ []; follow = 0 ∷ 1 ∷ 4 ∷ 6 ∷ 26 ∷ 27 ∷ 28 ∷ 29 ∷ 30 ∷ 31 ∷ 33 ∷ 34 ∷ 37 ∷ 38 ∷ 45 ∷ 46 ∷ 47 ∷ 48 ∷ []; level = 3 }
-    ∷ record { empty = false; begin = 0 ∷ 44 ∷ []; follow = []; level = 5 }
-    ∷ record { empty = false; begin = 18 ∷ 30 ∷ []; follow = []; level = 6 }
-    ∷ record { empty = false; begin = 18 ∷ 30 ∷ 42 ∷ 43 ∷ []; follow = []; level = 7 }
-    ∷ record { empty = false; begin = 41 ∷ []; follow = []; level = 8 }
+    record { empty = false; begin = BASE ∷ PREFIX ∷ SELECT ∷ []; follow = []; level = 9 }
+    ∷ record { empty = false; begin = BASE ∷ []; follow = IRIREF ∷ []; level = 1 }
+    ∷ record { empty = false; begin = IRIREF ∷ []; follow = OPEN_BRACE ∷ CLOSE_BRACE ∷ CLOSE ∷ OPEN_BRACKET ∷ CLOSE_BRACKET ∷ DOT ∷ SEMICOLON ∷ COMMA ∷ EQUAL ∷ NOT_EQUAL ∷ LESS ∷ GREATER ∷ LESS_EQUAL ∷ GREATER_EQUAL ∷ AND ∷ OR ∷ IRIREF ∷ PNAME_NS ∷ PNAME_LN ∷ BLANK ∷ VAR ∷ STRING ∷ INTEGER ∷ DECIMAL ∷ IS_A ∷ TRUE ∷ FALSE ∷ BASE ∷ PREFIX ∷ SELECT ∷ OPTIONAL ∷ GRAPH ∷ FILTER ∷ []; level = 1 }
+    ∷ record { empty = false; begin = BASE ∷ []; follow = BASE ∷ PREFIX ∷ SELECT ∷ []; level = 2 }
+    ∷ record { empty = false; begin = PREFIX ∷ []; follow = PNAME_NS ∷ []; level = 1 }
+    ∷ record { empty = false; begin = PNAME_NS ∷ []; follow = OPEN_BRACE ∷ CLOSE_BRACE ∷ CLOSE ∷ OPEN_BRACKET ∷ CLOSE_BRACKET ∷ DOT ∷ SEMICOLON ∷ COMMA ∷ EQUAL ∷ NOT_EQUAL ∷ LESS ∷ GREATER ∷ LESS_EQUAL ∷ GREATER_EQUAL ∷ AND ∷ OR ∷ IRIREF ∷ PNAME_NS ∷ PNAME_LN ∷ BLANK ∷ VAR ∷ STRING ∷ INTEGER ∷ DECIMAL ∷ IS_A ∷ TRUE ∷ FALSE ∷ OPTIONAL ∷ GRAPH ∷ FILTER ∷ []; level = 1 }
+    ∷ record { empty = false; begin = PNAME_NS ∷ []; follow = BASE ∷ PREFIX ∷ SELECT ∷ []; level = 2 }
+    ∷ record { empty = false; begin = PREFIX ∷ []; follow = BASE ∷ PREFIX ∷ SELECT ∷ []; level = 3 }
+    ∷ record { empty = false; begin = BASE ∷ PREFIX ∷ []; follow = BASE ∷ PREFIX ∷ SELECT ∷ []; level = 3 }
+    ∷ record { empty = true; begin = BASE ∷ PREFIX ∷ []; follow = SELECT ∷ []; level = 1 }
+    ∷ record { empty = false; begin = SELECT ∷ []; follow = STAR ∷ VAR ∷ DISTINCT ∷ REDUCED ∷ []; level = 1 }
+    ∷ record { empty = false; begin = DISTINCT ∷ []; follow = STAR ∷ VAR ∷ []; level = 1 }
+    ∷ record { empty = false; begin = REDUCED ∷ []; follow = STAR ∷ VAR ∷ []; level = 1 }
+    ∷ record { empty = false; begin = DISTINCT ∷ REDUCED ∷ []; follow = STAR ∷ VAR ∷ []; level = 2 }
+    ∷ record { empty = true; begin = DISTINCT ∷ REDUCED ∷ []; follow = STAR ∷ VAR ∷ []; level = 1 }
+    ∷ record { empty = false; begin = STAR ∷ VAR ∷ []; follow = OPEN_BRACE ∷ WHERE ∷ []; level = 2 }
+    ∷ record { empty = false; begin = VAR ∷ []; follow = OPEN_BRACE ∷ CLOSE_BRACE ∷ CLOSE ∷ OPEN_BRACKET ∷ CLOSE_BRACKET ∷ DOT ∷ SEMICOLON ∷ COMMA ∷ EQUAL ∷ NOT_EQUAL ∷ LESS ∷ GREATER ∷ LESS_EQUAL ∷ GREATER_EQUAL ∷ AND ∷ OR ∷ IRIREF ∷ PNAME_NS ∷ PNAME_LN ∷ BLANK ∷ VAR ∷ STRING ∷ INTEGER ∷ DECIMAL ∷ IS_A ∷ TRUE ∷ FALSE ∷ WHERE ∷ OPTIONAL ∷ GRAPH ∷ FILTER ∷ []; level = 1 }
+    ∷ record { empty = true; begin = VAR ∷ []; follow = OPEN_BRACE ∷ WHERE ∷ []; level = 1 }
+    ∷ record { empty = false; begin = VAR ∷ []; follow = OPEN_BRACE ∷ WHERE ∷ []; level = 2 }
+    ∷ record { empty = false; begin = STAR ∷ []; follow = OPEN_BRACE ∷ WHERE ∷ []; level = 1 }
+    ∷ record { empty = false; begin = WHERE ∷ []; follow = OPEN_BRACE ∷ []; level = 1 }
+    ∷ record { empty = true; begin = WHERE ∷ []; follow = OPEN_BRACE ∷ []; level = 1 }
+    ∷ record { empty = false; begin = OPEN_BRACE ∷ []; follow = OPEN_BRACE ∷ CLOSE_BRACE ∷ OPEN_BRACKET ∷ DOT ∷ IRIREF ∷ PNAME_NS ∷ PNAME_LN ∷ BLANK ∷ VAR ∷ STRING ∷ INTEGER ∷ DECIMAL ∷ TRUE ∷ FALSE ∷ OPTIONAL ∷ GRAPH ∷ FILTER ∷ UNION ∷ []; level = 4 }
+    ∷ record { empty = false; begin = OPEN_BRACE ∷ []; follow = OPEN_BRACE ∷ CLOSE_BRACE ∷ OPEN_BRACKET ∷ IRIREF ∷ PNAME_NS ∷ PNAME_LN ∷ BLANK ∷ VAR ∷ STRING ∷ INTEGER ∷ DECIMAL ∷ TRUE ∷ FALSE ∷ OPTIONAL ∷ GRAPH ∷ FILTER ∷ []; level = 1 }
+    ∷ record { empty = false; begin = OPEN_BRACKET ∷ IRIREF ∷ PNAME_NS ∷ PNAME_LN ∷ BLANK ∷ VAR ∷ STRING ∷ INTEGER ∷ DECIMAL ∷ TRUE ∷ FALSE ∷ []; follow = OPEN_BRACE ∷ CLOSE_BRACE ∷ OPTIONAL ∷ GRAPH ∷ FILTER ∷ []; level = 9 }
+    ∷ record { empty = false; begin = OPEN_BRACKET ∷ IRIREF ∷ PNAME_NS ∷ PNAME_LN ∷ BLANK ∷ VAR ∷ STRING ∷ INTEGER ∷ DECIMAL ∷ TRUE ∷ FALSE ∷ []; follow = OPEN_BRACE ∷ CLOSE_BRACE ∷ DOT ∷ OPTIONAL ∷ GRAPH ∷ FILTER ∷ []; level = 8 }
+    ∷ record { empty = false; begin = IRIREF ∷ PNAME_NS ∷ PNAME_LN ∷ BLANK ∷ VAR ∷ STRING ∷ INTEGER ∷ DECIMAL ∷ TRUE ∷ FALSE ∷ []; follow = OPEN_BRACE ∷ CLOSE_BRACE ∷ CLOSE_BRACKET ∷ DOT ∷ SEMICOLON ∷ COMMA ∷ IRIREF ∷ PNAME_NS ∷ PNAME_LN ∷ VAR ∷ IS_A ∷ OPTIONAL ∷ GRAPH ∷ FILTER ∷ []; level = 2 }
+    ∷ record { empty = false; begin = IRIREF ∷ PNAME_NS ∷ PNAME_LN ∷ []; follow = OPEN_BRACE ∷ CLOSE_BRACE ∷ CLOSE ∷ OPEN_BRACKET ∷ CLOSE_BRACKET ∷ DOT ∷ SEMICOLON ∷ COMMA ∷ EQUAL ∷ NOT_EQUAL ∷ LESS ∷ GREATER ∷ LESS_EQUAL ∷ GREATER_EQUAL ∷ AND ∷ OR ∷ IRIREF ∷ PNAME_NS ∷ PNAME_LN ∷ BLANK ∷ VAR ∷ STRING ∷ INTEGER ∷ DECIMAL ∷ IS_A ∷ TRUE ∷ FALSE ∷ OPTIONAL ∷ GRAPH ∷ FILTER ∷ []; level = 2 }
+    ∷ record { empty = false; begin = PNAME_LN ∷ []; follow = OPEN_BRACE ∷ CLOSE_BRACE ∷ CLOSE ∷ OPEN_BRACKET ∷ CLOSE_BRACKET ∷ DOT ∷ SEMICOLON ∷ COMMA ∷ EQUAL ∷ NOT_EQUAL ∷ LESS ∷ GREATER ∷ LESS_EQUAL ∷ GREATER_EQUAL ∷ AND ∷ OR ∷ IRIREF ∷ PNAME_NS ∷ PNAME_LN ∷ BLANK ∷ VAR ∷ STRING ∷ INTEGER ∷ DECIMAL ∷ IS_A ∷ TRUE ∷ FALSE ∷ OPTIONAL ∷ GRAPH ∷ FILTER ∷ []; level = 1 }
+    ∷ record { empty = false; begin = PNAME_NS ∷ PNAME_LN ∷ []; follow = OPEN_BRACE ∷ CLOSE_BRACE ∷ CLOSE ∷ OPEN_BRACKET ∷ CLOSE_BRACKET ∷ DOT ∷ SEMICOLON ∷ COMMA ∷ EQUAL ∷ NOT_EQUAL ∷ LESS ∷ GREATER ∷ LESS_EQUAL ∷ GREATER_EQUAL ∷ AND ∷ OR ∷ IRIREF ∷ PNAME_NS ∷ PNAME_LN ∷ BLANK ∷ VAR ∷ STRING ∷ INTEGER ∷ DECIMAL ∷ IS_A ∷ TRUE ∷ FALSE ∷ OPTIONAL ∷ GRAPH ∷ FILTER ∷ []; level = 2 }
+    ∷ record { empty = false; begin = BLANK ∷ []; follow = OPEN_BRACE ∷ CLOSE_BRACE ∷ CLOSE_BRACKET ∷ DOT ∷ SEMICOLON ∷ COMMA ∷ IRIREF ∷ PNAME_NS ∷ PNAME_LN ∷ VAR ∷ IS_A ∷ OPTIONAL ∷ GRAPH ∷ FILTER ∷ []; level = 1 }
+    ∷ record { empty = false; begin = STRING ∷ INTEGER ∷ DECIMAL ∷ TRUE ∷ FALSE ∷ []; follow = OPEN_BRACE ∷ CLOSE_BRACE ∷ CLOSE ∷ CLOSE_BRACKET ∷ DOT ∷ SEMICOLON ∷ COMMA ∷ EQUAL ∷ NOT_EQUAL ∷ LESS ∷ GREATER ∷ LESS_EQUAL ∷ GREATER_EQUAL ∷ AND ∷ OR ∷ IRIREF ∷ PNAME_NS ∷ PNAME_LN ∷ VAR ∷ IS_A ∷ OPTIONAL ∷ GRAPH ∷ FILTER ∷ []; level = 3 }
+    ∷ record { empty = false; begin = STRING ∷ []; follow = OPEN_BRACE ∷ CLOSE_BRACE ∷ CLOSE ∷ CLOSE_BRACKET ∷ DOT ∷ SEMICOLON ∷ COMMA ∷ EQUAL ∷ NOT_EQUAL ∷ LESS ∷ GREATER ∷ LESS_EQUAL ∷ GREATER_EQUAL ∷ AND ∷ OR ∷ CARETS ∷ IRIREF ∷ PNAME_NS ∷ PNAME_LN ∷ VAR ∷ LANGTAG ∷ IS_A ∷ OPTIONAL ∷ GRAPH ∷ FILTER ∷ []; level = 1 }
+    ∷ record { empty = false; begin = LANGTAG ∷ []; follow = OPEN_BRACE ∷ CLOSE_BRACE ∷ CLOSE ∷ CLOSE_BRACKET ∷ DOT ∷ SEMICOLON ∷ COMMA ∷ EQUAL ∷ NOT_EQUAL ∷ LESS ∷ GREATER ∷ LESS_EQUAL ∷ GREATER_EQUAL ∷ AND ∷ OR ∷ IRIREF ∷ PNAME_NS ∷ PNAME_LN ∷ VAR ∷ IS_A ∷ OPTIONAL ∷ GRAPH ∷ FILTER ∷ []; level = 1 }
+    ∷ record { empty = false; begin = CARETS ∷ []; follow = IRIREF ∷ PNAME_NS ∷ PNAME_LN ∷ []; level = 1 }
+    ∷ record { empty = false; begin = CARETS ∷ []; follow = OPEN_BRACE ∷ CLOSE_BRACE ∷ CLOSE ∷ CLOSE_BRACKET ∷ DOT ∷ SEMICOLON ∷ COMMA ∷ EQUAL ∷ NOT_EQUAL ∷ LESS ∷ GREATER ∷ LESS_EQUAL ∷ GREATER_EQUAL ∷ AND ∷ OR ∷ IRIREF ∷ PNAME_NS ∷ PNAME_LN ∷ VAR ∷ IS_A ∷ OPTIONAL ∷ GRAPH ∷ FILTER ∷ []; level = 3 }
+    ∷ record { empty = false; begin = CARETS ∷ LANGTAG ∷ []; follow = OPEN_BRACE ∷ CLOSE_BRACE ∷ CLOSE ∷ CLOSE_BRACKET ∷ DOT ∷ SEMICOLON ∷ COMMA ∷ EQUAL ∷ NOT_EQUAL ∷ LESS ∷ GREATER ∷ LESS_EQUAL ∷ GREATER_EQUAL ∷ AND ∷ OR ∷ IRIREF ∷ PNAME_NS ∷ PNAME_LN ∷ VAR ∷ IS_A ∷ OPTIONAL ∷ GRAPH ∷ FILTER ∷ []; level = 2 }
+    ∷ record { empty = true; begin = CARETS ∷ LANGTAG ∷ []; follow = OPEN_BRACE ∷ CLOSE_BRACE ∷ CLOSE ∷ CLOSE_BRACKET ∷ DOT ∷ SEMICOLON ∷ COMMA ∷ EQUAL ∷ NOT_EQUAL ∷ LESS ∷ GREATER ∷ LESS_EQUAL ∷ GREATER_EQUAL ∷ AND ∷ OR ∷ IRIREF ∷ PNAME_NS ∷ PNAME_LN ∷ VAR ∷ IS_A ∷ OPTIONAL ∷ GRAPH ∷ FILTER ∷ []; level = 1 }
+    ∷ record { empty = false; begin = STRING ∷ []; follow = OPEN_BRACE ∷ CLOSE_BRACE ∷ CLOSE ∷ CLOSE_BRACKET ∷ DOT ∷ SEMICOLON ∷ COMMA ∷ EQUAL ∷ NOT_EQUAL ∷ LESS ∷ GREATER ∷ LESS_EQUAL ∷ GREATER_EQUAL ∷ AND ∷ OR ∷ IRIREF ∷ PNAME_NS ∷ PNAME_LN ∷ VAR ∷ IS_A ∷ OPTIONAL ∷ GRAPH ∷ FILTER ∷ []; level = 2 }
+    ∷ record { empty = false; begin = INTEGER ∷ []; follow = OPEN_BRACE ∷ CLOSE_BRACE ∷ CLOSE ∷ CLOSE_BRACKET ∷ DOT ∷ SEMICOLON ∷ COMMA ∷ EQUAL ∷ NOT_EQUAL ∷ LESS ∷ GREATER ∷ LESS_EQUAL ∷ GREATER_EQUAL ∷ AND ∷ OR ∷ IRIREF ∷ PNAME_NS ∷ PNAME_LN ∷ VAR ∷ IS_A ∷ OPTIONAL ∷ GRAPH ∷ FILTER ∷ []; level = 1 }
+    ∷ record { empty = false; begin = DECIMAL ∷ []; follow = OPEN_BRACE ∷ CLOSE_BRACE ∷ CLOSE ∷ CLOSE_BRACKET ∷ DOT ∷ SEMICOLON ∷ COMMA ∷ EQUAL ∷ NOT_EQUAL ∷ LESS ∷ GREATER ∷ LESS_EQUAL ∷ GREATER_EQUAL ∷ AND ∷ OR ∷ IRIREF ∷ PNAME_NS ∷ PNAME_LN ∷ VAR ∷ IS_A ∷ OPTIONAL ∷ GRAPH ∷ FILTER ∷ []; level = 1 }
+    ∷ record { empty = false; begin = TRUE ∷ []; follow = OPEN_BRACE ∷ CLOSE_BRACE ∷ CLOSE ∷ CLOSE_BRACKET ∷ DOT ∷ SEMICOLON ∷ COMMA ∷ EQUAL ∷ NOT_EQUAL ∷ LESS ∷ GREATER ∷ LESS_EQUAL ∷ GREATER_EQUAL ∷ AND ∷ OR ∷ IRIREF ∷ PNAME_NS ∷ PNAME_LN ∷ VAR ∷ IS_A ∷ OPTIONAL ∷ GRAPH ∷ FILTER ∷ []; level = 1 }
+    ∷ record { empty = false; begin = FALSE ∷ []; follow = OPEN_BRACE ∷ CLOSE_BRACE ∷ CLOSE ∷ CLOSE_BRACKET ∷ DOT ∷ SEMICOLON ∷ COMMA ∷ EQUAL ∷ NOT_EQUAL ∷ LESS ∷ GREATER ∷ LESS_EQUAL ∷ GREATER_EQUAL ∷ AND ∷ OR ∷ IRIREF ∷ PNAME_NS ∷ PNAME_LN ∷ VAR ∷ IS_A ∷ OPTIONAL ∷ GRAPH ∷ FILTER ∷ []; level = 1 }
+    ∷ record { empty = false; begin = TRUE ∷ FALSE ∷ []; follow = OPEN_BRACE ∷ CLOSE_BRACE ∷ CLOSE ∷ CLOSE_BRACKET ∷ DOT ∷ SEMICOLON ∷ COMMA ∷ EQUAL ∷ NOT_EQUAL ∷ LESS ∷ GREATER ∷ LESS_EQUAL ∷ GREATER_EQUAL ∷ AND ∷ OR ∷ IRIREF ∷ PNAME_NS ∷ PNAME_LN ∷ VAR ∷ IS_A ∷ OPTIONAL ∷ GRAPH ∷ FILTER ∷ []; level = 2 }
+    ∷ record { empty = false; begin = DECIMAL ∷ TRUE ∷ FALSE ∷ []; follow = OPEN_BRACE ∷ CLOSE_BRACE ∷ CLOSE ∷ CLOSE_BRACKET ∷ DOT ∷ SEMICOLON ∷ COMMA ∷ EQUAL ∷ NOT_EQUAL ∷ LESS ∷ GREATER ∷ LESS_EQUAL ∷ GREATER_EQUAL ∷ AND ∷ OR ∷ IRIREF ∷ PNAME_NS ∷ PNAME_LN ∷ VAR ∷ IS_A ∷ OPTIONAL ∷ GRAPH ∷ FILTER ∷ []; level = 2 }
+    ∷ record { empty = false; begin = INTEGER ∷ DECIMAL ∷ TRUE ∷ FALSE ∷ []; follow = OPEN_BRACE ∷ CLOSE_BRACE ∷ CLOSE ∷ CLOSE_BRACKET ∷ DOT ∷ SEMICOLON ∷ COMMA ∷ EQUAL ∷ NOT_EQUAL ∷ LESS ∷ GREATER ∷ LESS_EQUAL ∷ GREATER_EQUAL ∷ AND ∷ OR ∷ IRIREF ∷ PNAME_NS ∷ PNAME_LN ∷ VAR ∷ IS_A ∷ OPTIONAL ∷ GRAPH ∷ FILTER ∷ []; level = 2 }
+    ∷ record { empty = false; begin = BLANK ∷ STRING ∷ INTEGER ∷ DECIMAL ∷ TRUE ∷ FALSE ∷ []; follow = OPEN_BRACE ∷ CLOSE_BRACE ∷ CLOSE_BRACKET ∷ DOT ∷ SEMICOLON ∷ COMMA ∷ IRIREF ∷ PNAME_NS ∷ PNAME_LN ∷ VAR ∷ IS_A ∷ OPTIONAL ∷ GRAPH ∷ FILTER ∷ []; level = 2 }
+    ∷ record { empty = false; begin = IRIREF ∷ PNAME_NS ∷ PNAME_LN ∷ BLANK ∷ STRING ∷ INTEGER ∷ DECIMAL ∷ TRUE ∷ FALSE ∷ []; follow = OPEN_BRACE ∷ CLOSE_BRACE ∷ CLOSE_BRACKET ∷ DOT ∷ SEMICOLON ∷ COMMA ∷ IRIREF ∷ PNAME_NS ∷ PNAME_LN ∷ VAR ∷ IS_A ∷ OPTIONAL ∷ GRAPH ∷ FILTER ∷ []; level = 3 }
+    ∷ record { empty = false; begin = IRIREF ∷ PNAME_NS ∷ PNAME_LN ∷ VAR ∷ IS_A ∷ []; follow = OPEN_BRACE ∷ CLOSE_BRACE ∷ CLOSE_BRACKET ∷ DOT ∷ OPTIONAL ∷ GRAPH ∷ FILTER ∷ []; level = 6 }
+    ∷ record { empty = false; begin = IRIREF ∷ PNAME_NS ∷ PNAME_LN ∷ VAR ∷ IS_A ∷ []; follow = OPEN_BRACKET ∷ IRIREF ∷ PNAME_NS ∷ PNAME_LN ∷ BLANK ∷ VAR ∷ STRING ∷ INTEGER ∷ DECIMAL ∷ TRUE ∷ FALSE ∷ []; level = 2 }
+    ∷ record { empty = false; begin = IS_A ∷ []; follow = OPEN_BRACKET ∷ IRIREF ∷ PNAME_NS ∷ PNAME_LN ∷ BLANK ∷ VAR ∷ STRING ∷ INTEGER ∷ DECIMAL ∷ TRUE ∷ FALSE ∷ []; level = 1 }
+    ∷ record { empty = false; begin = IRIREF ∷ PNAME_NS ∷ PNAME_LN ∷ IS_A ∷ []; follow = OPEN_BRACKET ∷ IRIREF ∷ PNAME_NS ∷ PNAME_LN ∷ BLANK ∷ VAR ∷ STRING ∷ INTEGER ∷ DECIMAL ∷ TRUE ∷ FALSE ∷ []; level = 2 }
+    ∷ record { empty = false; begin = OPEN_BRACKET ∷ IRIREF ∷ PNAME_NS ∷ PNAME_LN ∷ BLANK ∷ VAR ∷ STRING ∷ INTEGER ∷ DECIMAL ∷ TRUE ∷ FALSE ∷ []; follow = OPEN_BRACE ∷ CLOSE_BRACE ∷ CLOSE_BRACKET ∷ DOT ∷ SEMICOLON ∷ OPTIONAL ∷ GRAPH ∷ FILTER ∷ []; level = 4 }
+    ∷ record { empty = false; begin = OPEN_BRACKET ∷ IRIREF ∷ PNAME_NS ∷ PNAME_LN ∷ BLANK ∷ VAR ∷ STRING ∷ INTEGER ∷ DECIMAL ∷ TRUE ∷ FALSE ∷ []; follow = OPEN_BRACE ∷ CLOSE_BRACE ∷ CLOSE_BRACKET ∷ DOT ∷ SEMICOLON ∷ COMMA ∷ OPTIONAL ∷ GRAPH ∷ FILTER ∷ []; level = 3 }
+    ∷ record { empty = false; begin = OPEN_BRACKET ∷ []; follow = CLOSE_BRACKET ∷ IRIREF ∷ PNAME_NS ∷ PNAME_LN ∷ VAR ∷ IS_A ∷ []; level = 1 }
+    ∷ record { empty = true; begin = IRIREF ∷ PNAME_NS ∷ PNAME_LN ∷ VAR ∷ IS_A ∷ []; follow = OPEN_BRACE ∷ CLOSE_BRACE ∷ CLOSE_BRACKET ∷ DOT ∷ OPTIONAL ∷ GRAPH ∷ FILTER ∷ []; level = 1 }
+    ∷ record { empty = false; begin = CLOSE_BRACKET ∷ []; follow = OPEN_BRACE ∷ CLOSE_BRACE ∷ CLOSE_BRACKET ∷ DOT ∷ SEMICOLON ∷ COMMA ∷ IRIREF ∷ PNAME_NS ∷ PNAME_LN ∷ VAR ∷ IS_A ∷ OPTIONAL ∷ GRAPH ∷ FILTER ∷ []; level = 1 }
+    ∷ record { empty = false; begin = CLOSE_BRACKET ∷ IRIREF ∷ PNAME_NS ∷ PNAME_LN ∷ VAR ∷ IS_A ∷ []; follow = OPEN_BRACE ∷ CLOSE_BRACE ∷ CLOSE_BRACKET ∷ DOT ∷ SEMICOLON ∷ COMMA ∷ OPTIONAL ∷ GRAPH ∷ FILTER ∷ []; level = 2 }
+    ∷ record { empty = false; begin = OPEN_BRACKET ∷ []; follow = OPEN_BRACE ∷ CLOSE_BRACE ∷ CLOSE_BRACKET ∷ DOT ∷ SEMICOLON ∷ COMMA ∷ OPTIONAL ∷ GRAPH ∷ FILTER ∷ []; level = 3 }
+    ∷ record { empty = false; begin = COMMA ∷ []; follow = OPEN ∷ OPEN_BRACKET ∷ NOT ∷ IRIREF ∷ PNAME_NS ∷ PNAME_LN ∷ BLANK ∷ VAR ∷ STRING ∷ INTEGER ∷ DECIMAL ∷ TRUE ∷ FALSE ∷ BOUND ∷ SAMETERM ∷ ISIRI ∷ ISURI ∷ ISBLANK ∷ ISLITERAL ∷ ISNUMERIC ∷ STR ∷ LANG ∷ DATATYPE ∷ []; level = 1 }
+    ∷ record { empty = false; begin = COMMA ∷ []; follow = OPEN_BRACE ∷ CLOSE_BRACE ∷ CLOSE_BRACKET ∷ DOT ∷ SEMICOLON ∷ COMMA ∷ OPTIONAL ∷ GRAPH ∷ FILTER ∷ []; level = 4 }
+    ∷ record { empty = true; begin = COMMA ∷ []; follow = OPEN_BRACE ∷ CLOSE_BRACE ∷ CLOSE_BRACKET ∷ DOT ∷ SEMICOLON ∷ OPTIONAL ∷ GRAPH ∷ FILTER ∷ []; level = 1 }
+    ∷ record { empty = false; begin = SEMICOLON ∷ []; follow = OPEN_BRACE ∷ CLOSE_BRACE ∷ CLOSE_BRACKET ∷ DOT ∷ SEMICOLON ∷ IRIREF ∷ PNAME_NS ∷ PNAME_LN ∷ VAR ∷ IS_A ∷ OPTIONAL ∷ GRAPH ∷ FILTER ∷ []; level = 1 }
+    ∷ record { empty = false; begin = IRIREF ∷ PNAME_NS ∷ PNAME_LN ∷ VAR ∷ IS_A ∷ []; follow = OPEN_BRACE ∷ CLOSE_BRACE ∷ CLOSE_BRACKET ∷ DOT ∷ SEMICOLON ∷ OPTIONAL ∷ GRAPH ∷ FILTER ∷ []; level = 5 }
+    ∷ record { empty = true; begin = IRIREF ∷ PNAME_NS ∷ PNAME_LN ∷ VAR ∷ IS_A ∷ []; follow = OPEN_BRACE ∷ CLOSE_BRACE ∷ CLOSE_BRACKET ∷ DOT ∷ SEMICOLON ∷ OPTIONAL ∷ GRAPH ∷ FILTER ∷ []; level = 1 }
+    ∷ record { empty = false; begin = SEMICOLON ∷ []; follow = OPEN_BRACE ∷ CLOSE_BRACE ∷ CLOSE_BRACKET ∷ DOT ∷ SEMICOLON ∷ OPTIONAL ∷ GRAPH ∷ FILTER ∷ []; level = 2 }
+    ∷ record { empty = true; begin = SEMICOLON ∷ []; follow = OPEN_BRACE ∷ CLOSE_BRACE ∷ CLOSE_BRACKET ∷ DOT ∷ OPTIONAL ∷ GRAPH ∷ FILTER ∷ []; level = 1 }
+    ∷ record { empty = false; begin = OPEN_BRACKET ∷ IRIREF ∷ PNAME_NS ∷ PNAME_LN ∷ BLANK ∷ VAR ∷ STRING ∷ INTEGER ∷ DECIMAL ∷ TRUE ∷ FALSE ∷ []; follow = OPEN_BRACE ∷ CLOSE_BRACE ∷ CLOSE_BRACKET ∷ DOT ∷ OPTIONAL ∷ GRAPH ∷ FILTER ∷ []; level = 5 }
+    ∷ record { empty = false; begin = IRIREF ∷ PNAME_NS ∷ PNAME_LN ∷ BLANK ∷ VAR ∷ STRING ∷ INTEGER ∷ DECIMAL ∷ TRUE ∷ FALSE ∷ []; follow = OPEN_BRACE ∷ CLOSE_BRACE ∷ DOT ∷ OPTIONAL ∷ GRAPH ∷ FILTER ∷ []; level = 7 }
+    ∷ record { empty = false; begin = CLOSE_BRACKET ∷ []; follow = OPEN_BRACE ∷ CLOSE_BRACE ∷ DOT ∷ OPTIONAL ∷ GRAPH ∷ FILTER ∷ []; level = 7 }
+    ∷ record { empty = false; begin = CLOSE_BRACKET ∷ []; follow = OPEN_BRACE ∷ CLOSE_BRACE ∷ DOT ∷ OPTIONAL ∷ GRAPH ∷ FILTER ∷ []; level = 2 }
+    ∷ record { empty = false; begin = IRIREF ∷ PNAME_NS ∷ PNAME_LN ∷ VAR ∷ IS_A ∷ []; follow = OPEN_BRACE ∷ CLOSE_BRACE ∷ DOT ∷ OPTIONAL ∷ GRAPH ∷ FILTER ∷ []; level = 7 }
+    ∷ record { empty = false; begin = CLOSE_BRACKET ∷ IRIREF ∷ PNAME_NS ∷ PNAME_LN ∷ VAR ∷ IS_A ∷ []; follow = OPEN_BRACE ∷ CLOSE_BRACE ∷ DOT ∷ OPTIONAL ∷ GRAPH ∷ FILTER ∷ []; level = 8 }
+    ∷ record { empty = false; begin = OPEN_BRACKET ∷ []; follow = OPEN_BRACE ∷ CLOSE_BRACE ∷ DOT ∷ OPTIONAL ∷ GRAPH ∷ FILTER ∷ []; level = 9 }
+    ∷ record { empty = false; begin = DOT ∷ []; follow = OPEN_BRACE ∷ CLOSE_BRACE ∷ OPEN_BRACKET ∷ IRIREF ∷ PNAME_NS ∷ PNAME_LN ∷ BLANK ∷ VAR ∷ STRING ∷ INTEGER ∷ DECIMAL ∷ TRUE ∷ FALSE ∷ OPTIONAL ∷ GRAPH ∷ FILTER ∷ []; level = 1 }
+    ∷ record { empty = true; begin = OPEN_BRACKET ∷ IRIREF ∷ PNAME_NS ∷ PNAME_LN ∷ BLANK ∷ VAR ∷ STRING ∷ INTEGER ∷ DECIMAL ∷ TRUE ∷ FALSE ∷ []; follow = OPEN_BRACE ∷ CLOSE_BRACE ∷ OPTIONAL ∷ GRAPH ∷ FILTER ∷ []; level = 1 }
+    ∷ record { empty = false; begin = DOT ∷ []; follow = OPEN_BRACE ∷ CLOSE_BRACE ∷ OPTIONAL ∷ GRAPH ∷ FILTER ∷ []; level = 2 }
+    ∷ record { empty = true; begin = DOT ∷ []; follow = OPEN_BRACE ∷ CLOSE_BRACE ∷ OPTIONAL ∷ GRAPH ∷ FILTER ∷ []; level = 1 }
+    ∷ record { empty = true; begin = OPEN_BRACKET ∷ IRIREF ∷ PNAME_NS ∷ PNAME_LN ∷ BLANK ∷ VAR ∷ STRING ∷ INTEGER ∷ DECIMAL ∷ TRUE ∷ FALSE ∷ []; follow = OPEN_BRACE ∷ CLOSE_BRACE ∷ OPTIONAL ∷ GRAPH ∷ FILTER ∷ []; level = 1 }
+    ∷ record { empty = false; begin = OPEN_BRACE ∷ OPTIONAL ∷ GRAPH ∷ FILTER ∷ []; follow = OPEN_BRACE ∷ CLOSE_BRACE ∷ OPEN_BRACKET ∷ DOT ∷ IRIREF ∷ PNAME_NS ∷ PNAME_LN ∷ BLANK ∷ VAR ∷ STRING ∷ INTEGER ∷ DECIMAL ∷ TRUE ∷ FALSE ∷ OPTIONAL ∷ GRAPH ∷ FILTER ∷ []; level = 6 }
+    ∷ record { empty = false; begin = OPTIONAL ∷ []; follow = OPEN_BRACE ∷ []; level = 1 }
+    ∷ record { empty = false; begin = OPTIONAL ∷ []; follow = OPEN_BRACE ∷ CLOSE_BRACE ∷ OPEN_BRACKET ∷ DOT ∷ IRIREF ∷ PNAME_NS ∷ PNAME_LN ∷ BLANK ∷ VAR ∷ STRING ∷ INTEGER ∷ DECIMAL ∷ TRUE ∷ FALSE ∷ OPTIONAL ∷ GRAPH ∷ FILTER ∷ []; level = 5 }
+    ∷ record { empty = false; begin = GRAPH ∷ []; follow = IRIREF ∷ PNAME_NS ∷ PNAME_LN ∷ VAR ∷ []; level = 1 }
+    ∷ record { empty = false; begin = IRIREF ∷ PNAME_NS ∷ PNAME_LN ∷ VAR ∷ []; follow = OPEN_BRACE ∷ []; level = 2 }
+    ∷ record { empty = false; begin = IRIREF ∷ PNAME_NS ∷ PNAME_LN ∷ VAR ∷ []; follow = OPEN_BRACE ∷ CLOSE_BRACE ∷ OPEN_BRACKET ∷ DOT ∷ IRIREF ∷ PNAME_NS ∷ PNAME_LN ∷ BLANK ∷ VAR ∷ STRING ∷ INTEGER ∷ DECIMAL ∷ TRUE ∷ FALSE ∷ OPTIONAL ∷ GRAPH ∷ FILTER ∷ []; level = 5 }
+    ∷ record { empty = false; begin = GRAPH ∷ []; follow = OPEN_BRACE ∷ CLOSE_BRACE ∷ OPEN_BRACKET ∷ DOT ∷ IRIREF ∷ PNAME_NS ∷ PNAME_LN ∷ BLANK ∷ VAR ∷ STRING ∷ INTEGER ∷ DECIMAL ∷ TRUE ∷ FALSE ∷ OPTIONAL ∷ GRAPH ∷ FILTER ∷ []; level = 6 }
+    ∷ record { empty = false; begin = FILTER ∷ []; follow = OPEN ∷ BOUND ∷ SAMETERM ∷ ISIRI ∷ ISURI ∷ ISBLANK ∷ ISLITERAL ∷ ISNUMERIC ∷ STR ∷ LANG ∷ DATATYPE ∷ []; level = 1 }
+    ∷ record { empty = false; begin = OPEN ∷ BOUND ∷ SAMETERM ∷ ISIRI ∷ ISURI ∷ ISBLANK ∷ ISLITERAL ∷ ISNUMERIC ∷ STR ∷ LANG ∷ DATATYPE ∷ []; follow = OPEN_BRACE ∷ CLOSE_BRACE ∷ OPEN_BRACKET ∷ DOT ∷ IRIREF ∷ PNAME_NS ∷ PNAME_LN ∷ BLANK ∷ VAR ∷ STRING ∷ INTEGER ∷ DECIMAL ∷ TRUE ∷ FALSE ∷ OPTIONAL ∷ GRAPH ∷ FILTER ∷ []; level = 6 }
+    ∷ record { empty = false; begin = OPEN ∷ []; follow = OPEN_BRACE ∷ CLOSE_BRACE ∷ CLOSE ∷ OPEN_BRACKET ∷ DOT ∷ COMMA ∷ EQUAL ∷ NOT_EQUAL ∷ LESS ∷ GREATER ∷ LESS_EQUAL ∷ GREATER_EQUAL ∷ AND ∷ OR ∷ IRIREF ∷ PNAME_NS ∷ PNAME_LN ∷ BLANK ∷ VAR ∷ STRING ∷ INTEGER ∷ DECIMAL ∷ TRUE ∷ FALSE ∷ OPTIONAL ∷ GRAPH ∷ FILTER ∷ []; level = 10 }
+    ∷ record { empty = false; begin = OPEN ∷ []; follow = OPEN ∷ NOT ∷ IRIREF ∷ PNAME_NS ∷ PNAME_LN ∷ VAR ∷ STRING ∷ INTEGER ∷ DECIMAL ∷ TRUE ∷ FALSE ∷ BOUND ∷ SAMETERM ∷ ISIRI ∷ ISURI ∷ ISBLANK ∷ ISLITERAL ∷ ISNUMERIC ∷ STR ∷ LANG ∷ DATATYPE ∷ []; level = 1 }
+    ∷ record { empty = false; begin = OPEN ∷ NOT ∷ IRIREF ∷ PNAME_NS ∷ PNAME_LN ∷ VAR ∷ STRING ∷ INTEGER ∷ DECIMAL ∷ TRUE ∷ FALSE ∷ BOUND ∷ SAMETERM ∷ ISIRI ∷ ISURI ∷ ISBLANK ∷ ISLITERAL ∷ ISNUMERIC ∷ STR ∷ LANG ∷ DATATYPE ∷ []; follow = CLOSE ∷ COMMA ∷ []; level = 8 }
+    ∷ record { empty = false; begin = OPEN ∷ NOT ∷ IRIREF ∷ PNAME_NS ∷ PNAME_LN ∷ VAR ∷ STRING ∷ INTEGER ∷ DECIMAL ∷ TRUE ∷ FALSE ∷ BOUND ∷ SAMETERM ∷ ISIRI ∷ ISURI ∷ ISBLANK ∷ ISLITERAL ∷ ISNUMERIC ∷ STR ∷ LANG ∷ DATATYPE ∷ []; follow = CLOSE ∷ COMMA ∷ OR ∷ []; level = 7 }
+    ∷ record { empty = false; begin = OPEN ∷ NOT ∷ IRIREF ∷ PNAME_NS ∷ PNAME_LN ∷ VAR ∷ STRING ∷ INTEGER ∷ DECIMAL ∷ TRUE ∷ FALSE ∷ BOUND ∷ SAMETERM ∷ ISIRI ∷ ISURI ∷ ISBLANK ∷ ISLITERAL ∷ ISNUMERIC ∷ STR ∷ LANG ∷ DATATYPE ∷ []; follow = CLOSE ∷ COMMA ∷ AND ∷ OR ∷ []; level = 6 }
+    ∷ record { empty = false; begin = OPEN ∷ NOT ∷ IRIREF ∷ PNAME_NS ∷ PNAME_LN ∷ VAR ∷ STRING ∷ INTEGER ∷ DECIMAL ∷ TRUE ∷ FALSE ∷ BOUND ∷ SAMETERM ∷ ISIRI ∷ ISURI ∷ ISBLANK ∷ ISLITERAL ∷ ISNUMERIC ∷ STR ∷ LANG ∷ DATATYPE ∷ []; follow = CLOSE ∷ COMMA ∷ EQUAL ∷ NOT_EQUAL ∷ LESS ∷ GREATER ∷ LESS_EQUAL ∷ GREATER_EQUAL ∷ AND ∷ OR ∷ []; level = 5 }
+    ∷ record { empty = false; begin = NOT ∷ []; follow = OPEN ∷ IRIREF ∷ PNAME_NS ∷ PNAME_LN ∷ VAR ∷ STRING ∷ INTEGER ∷ DECIMAL ∷ TRUE ∷ FALSE ∷ BOUND ∷ SAMETERM ∷ ISIRI ∷ ISURI ∷ ISBLANK ∷ ISLITERAL ∷ ISNUMERIC ∷ STR ∷ LANG ∷ DATATYPE ∷ []; level = 1 }
+    ∷ record { empty = true; begin = NOT ∷ []; follow = OPEN ∷ IRIREF ∷ PNAME_NS ∷ PNAME_LN ∷ VAR ∷ STRING ∷ INTEGER ∷ DECIMAL ∷ TRUE ∷ FALSE ∷ BOUND ∷ SAMETERM ∷ ISIRI ∷ ISURI ∷ ISBLANK ∷ ISLITERAL ∷ ISNUMERIC ∷ STR ∷ LANG ∷ DATATYPE ∷ []; level = 1 }
+    ∷ record { empty = false; begin = OPEN ∷ IRIREF ∷ PNAME_NS ∷ PNAME_LN ∷ VAR ∷ STRING ∷ INTEGER ∷ DECIMAL ∷ TRUE ∷ FALSE ∷ BOUND ∷ SAMETERM ∷ ISIRI ∷ ISURI ∷ ISBLANK ∷ ISLITERAL ∷ ISNUMERIC ∷ STR ∷ LANG ∷ DATATYPE ∷ []; follow = CLOSE ∷ COMMA ∷ EQUAL ∷ NOT_EQUAL ∷ LESS ∷ GREATER ∷ LESS_EQUAL ∷ GREATER_EQUAL ∷ AND ∷ OR ∷ []; level = 4 }
+    ∷ record { empty = false; begin = BOUND ∷ SAMETERM ∷ ISIRI ∷ ISURI ∷ ISBLANK ∷ ISLITERAL ∷ ISNUMERIC ∷ STR ∷ LANG ∷ DATATYPE ∷ []; follow = OPEN_BRACE ∷ CLOSE_BRACE ∷ CLOSE ∷ OPEN_BRACKET ∷ DOT ∷ COMMA ∷ EQUAL ∷ NOT_EQUAL ∷ LESS ∷ GREATER ∷ LESS_EQUAL ∷ GREATER_EQUAL ∷ AND ∷ OR ∷ IRIREF ∷ PNAME_NS ∷ PNAME_LN ∷ BLANK ∷ VAR ∷ STRING ∷ INTEGER ∷ DECIMAL ∷ TRUE ∷ FALSE ∷ OPTIONAL ∷ GRAPH ∷ FILTER ∷ []; level = 5 }
+    ∷ record { empty = false; begin = BOUND ∷ []; follow = OPEN ∷ []; level = 1 }
+    ∷ record { empty = false; begin = CLOSE ∷ []; follow = OPEN_BRACE ∷ CLOSE_BRACE ∷ CLOSE ∷ OPEN_BRACKET ∷ DOT ∷ COMMA ∷ EQUAL ∷ NOT_EQUAL ∷ LESS ∷ GREATER ∷ LESS_EQUAL ∷ GREATER_EQUAL ∷ AND ∷ OR ∷ IRIREF ∷ PNAME_NS ∷ PNAME_LN ∷ BLANK ∷ VAR ∷ STRING ∷ INTEGER ∷ DECIMAL ∷ TRUE ∷ FALSE ∷ OPTIONAL ∷ GRAPH ∷ FILTER ∷ []; level = 1 }
+    ∷ record { empty = false; begin = VAR ∷ []; follow = OPEN_BRACE ∷ CLOSE_BRACE ∷ CLOSE ∷ OPEN_BRACKET ∷ DOT ∷ COMMA ∷ EQUAL ∷ NOT_EQUAL ∷ LESS ∷ GREATER ∷ LESS_EQUAL ∷ GREATER_EQUAL ∷ AND ∷ OR ∷ IRIREF ∷ PNAME_NS ∷ PNAME_LN ∷ BLANK ∷ VAR ∷ STRING ∷ INTEGER ∷ DECIMAL ∷ TRUE ∷ FALSE ∷ OPTIONAL ∷ GRAPH ∷ FILTER ∷ []; level = 2 }
+    ∷ record { empty = false; begin = OPEN ∷ []; follow = OPEN_BRACE ∷ CLOSE_BRACE ∷ CLOSE ∷ OPEN_BRACKET ∷ DOT ∷ COMMA ∷ EQUAL ∷ NOT_EQUAL ∷ LESS ∷ GREATER ∷ LESS_EQUAL ∷ GREATER_EQUAL ∷ AND ∷ OR ∷ IRIREF ∷ PNAME_NS ∷ PNAME_LN ∷ BLANK ∷ VAR ∷ STRING ∷ INTEGER ∷ DECIMAL ∷ TRUE ∷ FALSE ∷ OPTIONAL ∷ GRAPH ∷ FILTER ∷ []; level = 3 }
+    ∷ record { empty = false; begin = BOUND ∷ []; follow = OPEN_BRACE ∷ CLOSE_BRACE ∷ CLOSE ∷ OPEN_BRACKET ∷ DOT ∷ COMMA ∷ EQUAL ∷ NOT_EQUAL ∷ LESS ∷ GREATER ∷ LESS_EQUAL ∷ GREATER_EQUAL ∷ AND ∷ OR ∷ IRIREF ∷ PNAME_NS ∷ PNAME_LN ∷ BLANK ∷ VAR ∷ STRING ∷ INTEGER ∷ DECIMAL ∷ TRUE ∷ FALSE ∷ OPTIONAL ∷ GRAPH ∷ FILTER ∷ []; level = 4 }
+    ∷ record { empty = false; begin = SAMETERM ∷ []; follow = OPEN ∷ []; level = 1 }
+    ∷ record { empty = false; begin = OPEN ∷ NOT ∷ IRIREF ∷ PNAME_NS ∷ PNAME_LN ∷ VAR ∷ STRING ∷ INTEGER ∷ DECIMAL ∷ TRUE ∷ FALSE ∷ BOUND ∷ SAMETERM ∷ ISIRI ∷ ISURI ∷ ISBLANK ∷ ISLITERAL ∷ ISNUMERIC ∷ STR ∷ LANG ∷ DATATYPE ∷ []; follow = OPEN_BRACE ∷ CLOSE_BRACE ∷ CLOSE ∷ OPEN_BRACKET ∷ DOT ∷ COMMA ∷ EQUAL ∷ NOT_EQUAL ∷ LESS ∷ GREATER ∷ LESS_EQUAL ∷ GREATER_EQUAL ∷ AND ∷ OR ∷ IRIREF ∷ PNAME_NS ∷ PNAME_LN ∷ BLANK ∷ VAR ∷ STRING ∷ INTEGER ∷ DECIMAL ∷ TRUE ∷ FALSE ∷ OPTIONAL ∷ GRAPH ∷ FILTER ∷ []; level = 9 }
+    ∷ record { empty = false; begin = COMMA ∷ []; follow = OPEN_BRACE ∷ CLOSE_BRACE ∷ CLOSE ∷ OPEN_BRACKET ∷ DOT ∷ COMMA ∷ EQUAL ∷ NOT_EQUAL ∷ LESS ∷ GREATER ∷ LESS_EQUAL ∷ GREATER_EQUAL ∷ AND ∷ OR ∷ IRIREF ∷ PNAME_NS ∷ PNAME_LN ∷ BLANK ∷ VAR ∷ STRING ∷ INTEGER ∷ DECIMAL ∷ TRUE ∷ FALSE ∷ OPTIONAL ∷ GRAPH ∷ FILTER ∷ []; level = 10 }
+    ∷ record { empty = false; begin = OPEN ∷ NOT ∷ IRIREF ∷ PNAME_NS ∷ PNAME_LN ∷ VAR ∷ STRING ∷ INTEGER ∷ DECIMAL ∷ TRUE ∷ FALSE ∷ BOUND ∷ SAMETERM ∷ ISIRI ∷ ISURI ∷ ISBLANK ∷ ISLITERAL ∷ ISNUMERIC ∷ STR ∷ LANG ∷ DATATYPE ∷ []; follow = OPEN_BRACE ∷ CLOSE_BRACE ∷ CLOSE ∷ OPEN_BRACKET ∷ DOT ∷ COMMA ∷ EQUAL ∷ NOT_EQUAL ∷ LESS ∷ GREATER ∷ LESS_EQUAL ∷ GREATER_EQUAL ∷ AND ∷ OR ∷ IRIREF ∷ PNAME_NS ∷ PNAME_LN ∷ BLANK ∷ VAR ∷ STRING ∷ INTEGER ∷ DECIMAL ∷ TRUE ∷ FALSE ∷ OPTIONAL ∷ GRAPH ∷ FILTER ∷ []; level = 11 }
+    ∷ record { empty = false; begin = OPEN ∷ []; follow = OPEN_BRACE ∷ CLOSE_BRACE ∷ CLOSE ∷ OPEN_BRACKET ∷ DOT ∷ COMMA ∷ EQUAL ∷ NOT_EQUAL ∷ LESS ∷ GREATER ∷ LESS_EQUAL ∷ GREATER_EQUAL ∷ AND ∷ OR ∷ IRIREF ∷ PNAME_NS ∷ PNAME_LN ∷ BLANK ∷ VAR ∷ STRING ∷ INTEGER ∷ DECIMAL ∷ TRUE ∷ FALSE ∷ OPTIONAL ∷ GRAPH ∷ FILTER ∷ []; level = 12 }
+    ∷ record { empty = false; begin = SAMETERM ∷ []; follow = OPEN_BRACE ∷ CLOSE_BRACE ∷ CLOSE ∷ OPEN_BRACKET ∷ DOT ∷ COMMA ∷ EQUAL ∷ NOT_EQUAL ∷ LESS ∷ GREATER ∷ LESS_EQUAL ∷ GREATER_EQUAL ∷ AND ∷ OR ∷ IRIREF ∷ PNAME_NS ∷ PNAME_LN ∷ BLANK ∷ VAR ∷ STRING ∷ INTEGER ∷ DECIMAL ∷ TRUE ∷ FALSE ∷ OPTIONAL ∷ GRAPH ∷ FILTER ∷ []; level = 13 }
+    ∷ record { empty = false; begin = ISIRI ∷ ISURI ∷ ISBLANK ∷ ISLITERAL ∷ ISNUMERIC ∷ STR ∷ LANG ∷ DATATYPE ∷ []; follow = OPEN ∷ []; level = 2 }
+    ∷ record { empty = false; begin = ISIRI ∷ []; follow = OPEN ∷ []; level = 1 }
+    ∷ record { empty = false; begin = ISURI ∷ []; follow = OPEN ∷ []; level = 1 }
+    ∷ record { empty = false; begin = ISBLANK ∷ []; follow = OPEN ∷ []; level = 1 }
+    ∷ record { empty = false; begin = ISLITERAL ∷ []; follow = OPEN ∷ []; level = 1 }
+    ∷ record { empty = false; begin = ISNUMERIC ∷ []; follow = OPEN ∷ []; level = 1 }
+    ∷ record { empty = false; begin = STR ∷ []; follow = OPEN ∷ []; level = 1 }
+    ∷ record { empty = false; begin = LANG ∷ []; follow = OPEN ∷ []; level = 1 }
+    ∷ record { empty = false; begin = DATATYPE ∷ []; follow = OPEN ∷ []; level = 1 }
+    ∷ record { empty = false; begin = LANG ∷ DATATYPE ∷ []; follow = OPEN ∷ []; level = 2 }
+    ∷ record { empty = false; begin = STR ∷ LANG ∷ DATATYPE ∷ []; follow = OPEN ∷ []; level = 2 }
+    ∷ record { empty = false; begin = ISNUMERIC ∷ STR ∷ LANG ∷ DATATYPE ∷ []; follow = OPEN ∷ []; level = 2 }
+    ∷ record { empty = false; begin = ISLITERAL ∷ ISNUMERIC ∷ STR ∷ LANG ∷ DATATYPE ∷ []; follow = OPEN ∷ []; level = 2 }
+    ∷ record { empty = false; begin = ISBLANK ∷ ISLITERAL ∷ ISNUMERIC ∷ STR ∷ LANG ∷ DATATYPE ∷ []; follow = OPEN ∷ []; level = 2 }
+    ∷ record { empty = false; begin = ISURI ∷ ISBLANK ∷ ISLITERAL ∷ ISNUMERIC ∷ STR ∷ LANG ∷ DATATYPE ∷ []; follow = OPEN ∷ []; level = 2 }
+    ∷ record { empty = false; begin = ISIRI ∷ ISURI ∷ ISBLANK ∷ ISLITERAL ∷ ISNUMERIC ∷ STR ∷ LANG ∷ DATATYPE ∷ []; follow = OPEN_BRACE ∷ CLOSE_BRACE ∷ CLOSE ∷ OPEN_BRACKET ∷ DOT ∷ COMMA ∷ EQUAL ∷ NOT_EQUAL ∷ LESS ∷ GREATER ∷ LESS_EQUAL ∷ GREATER_EQUAL ∷ AND ∷ OR ∷ IRIREF ∷ PNAME_NS ∷ PNAME_LN ∷ BLANK ∷ VAR ∷ STRING ∷ INTEGER ∷ DECIMAL ∷ TRUE ∷ FALSE ∷ OPTIONAL ∷ GRAPH ∷ FILTER ∷ []; level = 11 }
+    ∷ record { empty = false; begin = SAMETERM ∷ ISIRI ∷ ISURI ∷ ISBLANK ∷ ISLITERAL ∷ ISNUMERIC ∷ STR ∷ LANG ∷ DATATYPE ∷ []; follow = OPEN_BRACE ∷ CLOSE_BRACE ∷ CLOSE ∷ OPEN_BRACKET ∷ DOT ∷ COMMA ∷ EQUAL ∷ NOT_EQUAL ∷ LESS ∷ GREATER ∷ LESS_EQUAL ∷ GREATER_EQUAL ∷ AND ∷ OR ∷ IRIREF ∷ PNAME_NS ∷ PNAME_LN ∷ BLANK ∷ VAR ∷ STRING ∷ INTEGER ∷ DECIMAL ∷ TRUE ∷ FALSE ∷ OPTIONAL ∷ GRAPH ∷ FILTER ∷ []; level = 12 }
+    ∷ record { empty = false; begin = IRIREF ∷ PNAME_NS ∷ PNAME_LN ∷ STRING ∷ INTEGER ∷ DECIMAL ∷ TRUE ∷ FALSE ∷ []; follow = CLOSE ∷ COMMA ∷ EQUAL ∷ NOT_EQUAL ∷ LESS ∷ GREATER ∷ LESS_EQUAL ∷ GREATER_EQUAL ∷ AND ∷ OR ∷ []; level = 3 }
+    ∷ record { empty = false; begin = IRIREF ∷ PNAME_NS ∷ PNAME_LN ∷ VAR ∷ STRING ∷ INTEGER ∷ DECIMAL ∷ TRUE ∷ FALSE ∷ []; follow = CLOSE ∷ COMMA ∷ EQUAL ∷ NOT_EQUAL ∷ LESS ∷ GREATER ∷ LESS_EQUAL ∷ GREATER_EQUAL ∷ AND ∷ OR ∷ []; level = 2 }
+    ∷ record { empty = false; begin = IRIREF ∷ PNAME_NS ∷ PNAME_LN ∷ VAR ∷ STRING ∷ INTEGER ∷ DECIMAL ∷ TRUE ∷ FALSE ∷ BOUND ∷ SAMETERM ∷ ISIRI ∷ ISURI ∷ ISBLANK ∷ ISLITERAL ∷ ISNUMERIC ∷ STR ∷ LANG ∷ DATATYPE ∷ []; follow = CLOSE ∷ COMMA ∷ EQUAL ∷ NOT_EQUAL ∷ LESS ∷ GREATER ∷ LESS_EQUAL ∷ GREATER_EQUAL ∷ AND ∷ OR ∷ []; level = 3 }
+    ∷ record { empty = false; begin = EQUAL ∷ NOT_EQUAL ∷ LESS ∷ GREATER ∷ LESS_EQUAL ∷ GREATER_EQUAL ∷ []; follow = OPEN ∷ NOT ∷ IRIREF ∷ PNAME_NS ∷ PNAME_LN ∷ VAR ∷ STRING ∷ INTEGER ∷ DECIMAL ∷ TRUE ∷ FALSE ∷ BOUND ∷ SAMETERM ∷ ISIRI ∷ ISURI ∷ ISBLANK ∷ ISLITERAL ∷ ISNUMERIC ∷ STR ∷ LANG ∷ DATATYPE ∷ []; level = 2 }
+    ∷ record { empty = false; begin = EQUAL ∷ []; follow = OPEN ∷ NOT ∷ IRIREF ∷ PNAME_NS ∷ PNAME_LN ∷ VAR ∷ STRING ∷ INTEGER ∷ DECIMAL ∷ TRUE ∷ FALSE ∷ BOUND ∷ SAMETERM ∷ ISIRI ∷ ISURI ∷ ISBLANK ∷ ISLITERAL ∷ ISNUMERIC ∷ STR ∷ LANG ∷ DATATYPE ∷ []; level = 1 }
+    ∷ record { empty = false; begin = NOT_EQUAL ∷ []; follow = OPEN ∷ NOT ∷ IRIREF ∷ PNAME_NS ∷ PNAME_LN ∷ VAR ∷ STRING ∷ INTEGER ∷ DECIMAL ∷ TRUE ∷ FALSE ∷ BOUND ∷ SAMETERM ∷ ISIRI ∷ ISURI ∷ ISBLANK ∷ ISLITERAL ∷ ISNUMERIC ∷ STR ∷ LANG ∷ DATATYPE ∷ []; level = 1 }
+    ∷ record { empty = false; begin = LESS ∷ []; follow = OPEN ∷ NOT ∷ IRIREF ∷ PNAME_NS ∷ PNAME_LN ∷ VAR ∷ STRING ∷ INTEGER ∷ DECIMAL ∷ TRUE ∷ FALSE ∷ BOUND ∷ SAMETERM ∷ ISIRI ∷ ISURI ∷ ISBLANK ∷ ISLITERAL ∷ ISNUMERIC ∷ STR ∷ LANG ∷ DATATYPE ∷ []; level = 1 }
+    ∷ record { empty = false; begin = GREATER ∷ []; follow = OPEN ∷ NOT ∷ IRIREF ∷ PNAME_NS ∷ PNAME_LN ∷ VAR ∷ STRING ∷ INTEGER ∷ DECIMAL ∷ TRUE ∷ FALSE ∷ BOUND ∷ SAMETERM ∷ ISIRI ∷ ISURI ∷ ISBLANK ∷ ISLITERAL ∷ ISNUMERIC ∷ STR ∷ LANG ∷ DATATYPE ∷ []; level = 1 }
+    ∷ record { empty = false; begin = LESS_EQUAL ∷ []; follow = OPEN ∷ NOT ∷ IRIREF ∷ PNAME_NS ∷ PNAME_LN ∷ VAR ∷ STRING ∷ INTEGER ∷ DECIMAL ∷ TRUE ∷ FALSE ∷ BOUND ∷ SAMETERM ∷ ISIRI ∷ ISURI ∷ ISBLANK ∷ ISLITERAL ∷ ISNUMERIC ∷ STR ∷ LANG ∷ DATATYPE ∷ []; level = 1 }
+    ∷ record { empty = false; begin = GREATER_EQUAL ∷ []; follow = OPEN ∷ NOT ∷ IRIREF ∷ PNAME_NS ∷ PNAME_LN ∷ VAR ∷ STRING ∷ INTEGER ∷ DECIMAL ∷ TRUE ∷ FALSE ∷ BOUND ∷ SAMETERM ∷ ISIRI ∷ ISURI ∷ ISBLANK ∷ ISLITERAL ∷ ISNUMERIC ∷ STR ∷ LANG ∷ DATATYPE ∷ []; level = 1 }
+    ∷ record { empty = false; begin = LESS_EQUAL ∷ GREATER_EQUAL ∷ []; follow = OPEN ∷ NOT ∷ IRIREF ∷ PNAME_NS ∷ PNAME_LN ∷ VAR ∷ STRING ∷ INTEGER ∷ DECIMAL ∷ TRUE ∷ FALSE ∷ BOUND ∷ SAMETERM ∷ ISIRI ∷ ISURI ∷ ISBLANK ∷ ISLITERAL ∷ ISNUMERIC ∷ STR ∷ LANG ∷ DATATYPE ∷ []; level = 2 }
+    ∷ record { empty = false; begin = GREATER ∷ LESS_EQUAL ∷ GREATER_EQUAL ∷ []; follow = OPEN ∷ NOT ∷ IRIREF ∷ PNAME_NS ∷ PNAME_LN ∷ VAR ∷ STRING ∷ INTEGER ∷ DECIMAL ∷ TRUE ∷ FALSE ∷ BOUND ∷ SAMETERM ∷ ISIRI ∷ ISURI ∷ ISBLANK ∷ ISLITERAL ∷ ISNUMERIC ∷ STR ∷ LANG ∷ DATATYPE ∷ []; level = 2 }
+    ∷ record { empty = false; begin = LESS ∷ GREATER ∷ LESS_EQUAL ∷ GREATER_EQUAL ∷ []; follow = OPEN ∷ NOT ∷ IRIREF ∷ PNAME_NS ∷ PNAME_LN ∷ VAR ∷ STRING ∷ INTEGER ∷ DECIMAL ∷ TRUE ∷ FALSE ∷ BOUND ∷ SAMETERM ∷ ISIRI ∷ ISURI ∷ ISBLANK ∷ ISLITERAL ∷ ISNUMERIC ∷ STR ∷ LANG ∷ DATATYPE ∷ []; level = 2 }
+    ∷ record { empty = false; begin = NOT_EQUAL ∷ LESS ∷ GREATER ∷ LESS_EQUAL ∷ GREATER_EQUAL ∷ []; follow = OPEN ∷ NOT ∷ IRIREF ∷ PNAME_NS ∷ PNAME_LN ∷ VAR ∷ STRING ∷ INTEGER ∷ DECIMAL ∷ TRUE ∷ FALSE ∷ BOUND ∷ SAMETERM ∷ ISIRI ∷ ISURI ∷ ISBLANK ∷ ISLITERAL ∷ ISNUMERIC ∷ STR ∷ LANG ∷ DATATYPE ∷ []; level = 2 }
+    ∷ record { empty = false; begin = EQUAL ∷ NOT_EQUAL ∷ LESS ∷ GREATER ∷ LESS_EQUAL ∷ GREATER_EQUAL ∷ []; follow = CLOSE ∷ COMMA ∷ AND ∷ OR ∷ []; level = 6 }
+    ∷ record { empty = true; begin = EQUAL ∷ NOT_EQUAL ∷ LESS ∷ GREATER ∷ LESS_EQUAL ∷ GREATER_EQUAL ∷ []; follow = CLOSE ∷ COMMA ∷ AND ∷ OR ∷ []; level = 1 }
+    ∷ record { empty = false; begin = AND ∷ []; follow = OPEN ∷ NOT ∷ IRIREF ∷ PNAME_NS ∷ PNAME_LN ∷ VAR ∷ STRING ∷ INTEGER ∷ DECIMAL ∷ TRUE ∷ FALSE ∷ BOUND ∷ SAMETERM ∷ ISIRI ∷ ISURI ∷ ISBLANK ∷ ISLITERAL ∷ ISNUMERIC ∷ STR ∷ LANG ∷ DATATYPE ∷ []; level = 1 }
+    ∷ record { empty = false; begin = AND ∷ []; follow = CLOSE ∷ COMMA ∷ AND ∷ OR ∷ []; level = 7 }
+    ∷ record { empty = true; begin = AND ∷ []; follow = CLOSE ∷ COMMA ∷ OR ∷ []; level = 1 }
+    ∷ record { empty = false; begin = OR ∷ []; follow = OPEN ∷ NOT ∷ IRIREF ∷ PNAME_NS ∷ PNAME_LN ∷ VAR ∷ STRING ∷ INTEGER ∷ DECIMAL ∷ TRUE ∷ FALSE ∷ BOUND ∷ SAMETERM ∷ ISIRI ∷ ISURI ∷ ISBLANK ∷ ISLITERAL ∷ ISNUMERIC ∷ STR ∷ LANG ∷ DATATYPE ∷ []; level = 1 }
+    ∷ record { empty = false; begin = OR ∷ []; follow = CLOSE ∷ COMMA ∷ OR ∷ []; level = 8 }
+    ∷ record { empty = true; begin = OR ∷ []; follow = CLOSE ∷ COMMA ∷ []; level = 1 }
+    ∷ record { empty = false; begin = OPEN ∷ NOT ∷ IRIREF ∷ PNAME_NS ∷ PNAME_LN ∷ VAR ∷ STRING ∷ INTEGER ∷ DECIMAL ∷ TRUE ∷ FALSE ∷ BOUND ∷ SAMETERM ∷ ISIRI ∷ ISURI ∷ ISBLANK ∷ ISLITERAL ∷ ISNUMERIC ∷ STR ∷ LANG ∷ DATATYPE ∷ []; follow = OPEN_BRACE ∷ CLOSE_BRACE ∷ CLOSE ∷ OPEN_BRACKET ∷ DOT ∷ COMMA ∷ EQUAL ∷ NOT_EQUAL ∷ LESS ∷ GREATER ∷ LESS_EQUAL ∷ GREATER_EQUAL ∷ AND ∷ OR ∷ IRIREF ∷ PNAME_NS ∷ PNAME_LN ∷ BLANK ∷ VAR ∷ STRING ∷ INTEGER ∷ DECIMAL ∷ TRUE ∷ FALSE ∷ OPTIONAL ∷ GRAPH ∷ FILTER ∷ []; level = 9 }
+    ∷ record { empty = false; begin = FILTER ∷ []; follow = OPEN_BRACE ∷ CLOSE_BRACE ∷ OPEN_BRACKET ∷ DOT ∷ IRIREF ∷ PNAME_NS ∷ PNAME_LN ∷ BLANK ∷ VAR ∷ STRING ∷ INTEGER ∷ DECIMAL ∷ TRUE ∷ FALSE ∷ OPTIONAL ∷ GRAPH ∷ FILTER ∷ []; level = 7 }
+    ∷ record { empty = false; begin = UNION ∷ []; follow = OPEN_BRACE ∷ []; level = 1 }
+    ∷ record { empty = false; begin = UNION ∷ []; follow = OPEN_BRACE ∷ CLOSE_BRACE ∷ OPEN_BRACKET ∷ DOT ∷ IRIREF ∷ PNAME_NS ∷ PNAME_LN ∷ BLANK ∷ VAR ∷ STRING ∷ INTEGER ∷ DECIMAL ∷ TRUE ∷ FALSE ∷ OPTIONAL ∷ GRAPH ∷ FILTER ∷ UNION ∷ []; level = 5 }
+    ∷ record { empty = true; begin = UNION ∷ []; follow = OPEN_BRACE ∷ CLOSE_BRACE ∷ OPEN_BRACKET ∷ DOT ∷ IRIREF ∷ PNAME_NS ∷ PNAME_LN ∷ BLANK ∷ VAR ∷ STRING ∷ INTEGER ∷ DECIMAL ∷ TRUE ∷ FALSE ∷ OPTIONAL ∷ GRAPH ∷ FILTER ∷ []; level = 1 }
+    ∷ record { empty = false; begin = OPEN_BRACE ∷ []; follow = OPEN_BRACE ∷ CLOSE_BRACE ∷ OPEN_BRACKET ∷ DOT ∷ IRIREF ∷ PNAME_NS ∷ PNAME_LN ∷ BLANK ∷ VAR ∷ STRING ∷ INTEGER ∷ DECIMAL ∷ TRUE ∷ FALSE ∷ OPTIONAL ∷ GRAPH ∷ FILTER ∷ []; level = 5 }
+    ∷ record { empty = false; begin = OPEN_BRACE ∷ FILTER ∷ []; follow = OPEN_BRACE ∷ CLOSE_BRACE ∷ OPEN_BRACKET ∷ DOT ∷ IRIREF ∷ PNAME_NS ∷ PNAME_LN ∷ BLANK ∷ VAR ∷ STRING ∷ INTEGER ∷ DECIMAL ∷ TRUE ∷ FALSE ∷ OPTIONAL ∷ GRAPH ∷ FILTER ∷ []; level = 6 }
+    ∷ record { empty = false; begin = OPEN_BRACE ∷ GRAPH ∷ FILTER ∷ []; follow = OPEN_BRACE ∷ CLOSE_BRACE ∷ OPEN_BRACKET ∷ DOT ∷ IRIREF ∷ PNAME_NS ∷ PNAME_LN ∷ BLANK ∷ VAR ∷ STRING ∷ INTEGER ∷ DECIMAL ∷ TRUE ∷ FALSE ∷ OPTIONAL ∷ GRAPH ∷ FILTER ∷ []; level = 7 }
+    ∷ record { empty = true; begin = DOT ∷ []; follow = OPEN_BRACE ∷ CLOSE_BRACE ∷ OPEN_BRACKET ∷ IRIREF ∷ PNAME_NS ∷ PNAME_LN ∷ BLANK ∷ VAR ∷ STRING ∷ INTEGER ∷ DECIMAL ∷ TRUE ∷ FALSE ∷ OPTIONAL ∷ GRAPH ∷ FILTER ∷ []; level = 1 }
+    ∷ record { empty = true; begin = OPEN_BRACKET ∷ DOT ∷ IRIREF ∷ PNAME_NS ∷ PNAME_LN ∷ BLANK ∷ VAR ∷ STRING ∷ INTEGER ∷ DECIMAL ∷ TRUE ∷ FALSE ∷ []; follow = OPEN_BRACE ∷ CLOSE_BRACE ∷ OPTIONAL ∷ GRAPH ∷ FILTER ∷ []; level = 2 }
+    ∷ record { empty = false; begin = OPEN_BRACE ∷ OPTIONAL ∷ GRAPH ∷ FILTER ∷ []; follow = OPEN_BRACE ∷ CLOSE_BRACE ∷ OPTIONAL ∷ GRAPH ∷ FILTER ∷ []; level = 7 }
+    ∷ record { empty = true; begin = OPEN_BRACE ∷ OPTIONAL ∷ GRAPH ∷ FILTER ∷ []; follow = CLOSE_BRACE ∷ []; level = 1 }
+    ∷ record { empty = false; begin = CLOSE_BRACE ∷ []; follow = OPEN_BRACE ∷ CLOSE_BRACE ∷ OPEN_BRACKET ∷ DOT ∷ IRIREF ∷ PNAME_NS ∷ PNAME_LN ∷ BLANK ∷ VAR ∷ STRING ∷ INTEGER ∷ DECIMAL ∷ TRUE ∷ FALSE ∷ OPTIONAL ∷ GRAPH ∷ FILTER ∷ UNION ∷ []; level = 1 }
+    ∷ record { empty = false; begin = OPEN_BRACE ∷ CLOSE_BRACE ∷ OPTIONAL ∷ GRAPH ∷ FILTER ∷ []; follow = OPEN_BRACE ∷ CLOSE_BRACE ∷ OPEN_BRACKET ∷ DOT ∷ IRIREF ∷ PNAME_NS ∷ PNAME_LN ∷ BLANK ∷ VAR ∷ STRING ∷ INTEGER ∷ DECIMAL ∷ TRUE ∷ FALSE ∷ OPTIONAL ∷ GRAPH ∷ FILTER ∷ UNION ∷ []; level = 2 }
+    ∷ record { empty = false; begin = OPEN_BRACE ∷ CLOSE_BRACE ∷ OPEN_BRACKET ∷ IRIREF ∷ PNAME_NS ∷ PNAME_LN ∷ BLANK ∷ VAR ∷ STRING ∷ INTEGER ∷ DECIMAL ∷ TRUE ∷ FALSE ∷ OPTIONAL ∷ GRAPH ∷ FILTER ∷ []; follow = OPEN_BRACE ∷ CLOSE_BRACE ∷ OPEN_BRACKET ∷ DOT ∷ IRIREF ∷ PNAME_NS ∷ PNAME_LN ∷ BLANK ∷ VAR ∷ STRING ∷ INTEGER ∷ DECIMAL ∷ TRUE ∷ FALSE ∷ OPTIONAL ∷ GRAPH ∷ FILTER ∷ UNION ∷ []; level = 3 }
+    ∷ record { empty = false; begin = OPEN_BRACE ∷ WHERE ∷ []; follow = []; level = 5 }
+    ∷ record { empty = false; begin = STAR ∷ VAR ∷ []; follow = []; level = 6 }
+    ∷ record { empty = false; begin = STAR ∷ VAR ∷ DISTINCT ∷ REDUCED ∷ []; follow = []; level = 7 }
+    ∷ record { empty = false; begin = SELECT ∷ []; follow = []; level = 8 }
     ∷ []
 
-pub sparql_form : IsWellFormed SPARQL 61
-sparql_form = record { grammar = is_grammar SPARQL claims (lit< tt) refl; has_kinds = has_kinds 61 SPARQL refl; small = lit< tt }
+pub sparql_form : IsWellFormed SPARQL KIND_COUNT
+sparql_form = record { grammar = is_grammar SPARQL claims (lit< tt) refl; has_kinds = has_kinds KIND_COUNT SPARQL refl; small = lit< tt }
 
 pub sparql_ll1 : IsLL1 SPARQL
 sparql_ll1 = passes_ll1 SPARQL claims (lit< tt) refl refl refl

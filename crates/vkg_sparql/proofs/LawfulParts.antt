@@ -11,6 +11,7 @@ use Rattle.vkg_sparql.specs.declared.meaning.Meaning.TheVariants as meaning
 use Rattle.vkg_sparql.specs.declared.meaning.TripleTokens.{TripleTokens}
 use Rattle.vkg_sparql.specs.declared.pattern.Node.{Node}
 use Rattle.vkg_sparql.specs.declared.pattern.Node.TheVariants as node
+use Rattle.vkg_sparql.specs.declared.symbols.TheConstants.{SELECTION, TOKEN_VAR, SELECTION_1, GROUP, BLOCK, SAME, ITEM, PLIST, VERB, OLIST, OBJECT, TOKEN_OPEN_BRACKET, OBJECT_1, OLIST_2, PLIST_2, PLIST_4, SAME_5, GROUP_1, PART, NAME, PART_3, FILTER, BRACKETED, OR, AND, REL, UNARY, PRIMARY, CALL, CALL_3, CALL_7, PRIMARY_FROM_3, REL_2, AND_2, OR_2, PART_6, PART_7, PART_FROM_2, GROUP_5, QUERY_12}
 use Rattle.vkg_sparql.specs.declared.query.Part.{Part as PartValue}
 use Rattle.vkg_sparql.specs.Conditions.{or_joined, and_joined, negated, bound_value, operand_value, or_value, or_more, and_value, and_more, rel_value, rel_more, unary_value, primary_value, bracketed, call_value, same_value as same_term_value, filter_value}
 use Rattle.vkg_sparql.specs.Groups.{patterns_of, block_parts, no_part, group_value, parts_value, part_value, other_value, graph_value, union_value, groups_value, numbers_value, selection_value, query_value}
@@ -115,63 +116,63 @@ module _ (keys : List (List ℕ)) where
 
     -- ---- the expression of a filter
 
-    good_bound : (t : Tree) → Of t 102 → GoodCondition (bound_value ms t)
-    good_bound (pair word (pair left (pair v right))) h = by_seen _ (seen-Bound (number_of (meaning_at ms (first_token v)))) (variable_first v 16 refl h.1.1.0, tt)
+    good_bound : (t : Tree) → Of t CALL_3 → GoodCondition (bound_value ms t)
+    good_bound (pair word (pair left (pair v right))) h = by_seen _ (seen-Bound (number_of (meaning_at ms (first_token v)))) (variable_first v TOKEN_VAR refl h.1.1.0, tt)
     good_bound (pair word (pair left t)) h = absurd (h.1.1)
     good_bound (pair word t) h = absurd (h.1)
     good_bound t h = absurd (h)
 
-    good_operand : (t : Tree) → Of t 127 → GoodCondition (operand_value ms t)
-    good_operand t h = fits_operand (meaning_at ms (first_token t)) (operand_first t 127 refl h)
+    good_operand : (t : Tree) → Of t PRIMARY_FROM_3 → GoodCondition (operand_value ms t)
+    good_operand t h = fits_operand (meaning_at ms (first_token t)) (operand_first t PRIMARY_FROM_3 refl h)
 
     mutual
-      good_or_value : (t : Tree) → Of t 90 → GoodCondition (or_value ms t)
+      good_or_value : (t : Tree) → Of t OR → GoodCondition (or_value ms t)
       good_or_value (pair a more) h = good_or_joined (and_value ms a) (or_more ms more) (good_and_value a h.0) (good_or_more more h.1)
       good_or_value t h = absurd (h)
 
-      good_or_more : (t : Tree) → Of t 147 → GoodConditions (or_more ms t)
+      good_or_more : (t : Tree) → Of t OR_2 → GoodConditions (or_more ms t)
       good_or_more (pair (pair sign a) more) h = (good_and_value a h.0.1, good_or_more more h.1)
       good_or_more t h = tt
 
-      good_and_value : (t : Tree) → Of t 91 → GoodCondition (and_value ms t)
+      good_and_value : (t : Tree) → Of t AND → GoodCondition (and_value ms t)
       good_and_value (pair a more) h = good_and_joined (rel_value ms a) (and_more ms more) (good_rel_value a h.0) (good_and_more more h.1)
       good_and_value t h = absurd (h)
 
-      good_and_more : (t : Tree) → Of t 144 → GoodConditions (and_more ms t)
+      good_and_more : (t : Tree) → Of t AND_2 → GoodConditions (and_more ms t)
       good_and_more (pair (pair sign a) more) h = (good_rel_value a h.0.1, good_and_more more h.1)
       good_and_more t h = tt
 
-      good_rel_value : (t : Tree) → Of t 92 → GoodCondition (rel_value ms t)
+      good_rel_value : (t : Tree) → Of t REL → GoodCondition (rel_value ms t)
       good_rel_value (pair a more) h = good_rel_more (unary_value ms a) more (good_unary a h.0) h.1
       good_rel_value t h = absurd (h)
 
-      good_rel_more : (c : ConditionValue) (t : Tree) → GoodCondition c → Of t 141 → GoodCondition (rel_more ms c t)
+      good_rel_more : (c : ConditionValue) (t : Tree) → GoodCondition c → Of t REL_2 → GoodCondition (rel_more ms c t)
       good_rel_more c (first (pair sign b)) g h =
           by_seen _ (seen-Compare (compare_of (meaning_at ms (first_token sign))) c (unary_value ms b)) (recursion_append (Fits keys) (condition_nodes (condition_seen c)) (condition_nodes (condition_seen (unary_value ms b))) g (good_unary b h.1))
       good_rel_more c t g h = g
 
-      good_unary : (t : Tree) → Of t 93 → GoodCondition (unary_value ms t)
+      good_unary : (t : Tree) → Of t UNARY → GoodCondition (unary_value ms t)
       good_unary (pair mark a) h = good_negated (present mark) (primary_value ms a) (good_primary a h.1)
       good_unary t h = absurd (h)
 
-      good_primary : (t : Tree) → Of t 96 → GoodCondition (primary_value ms t)
+      good_primary : (t : Tree) → Of t PRIMARY → GoodCondition (primary_value ms t)
       good_primary (first t) h = good_bracketed t h
       good_primary (second (first t)) h = good_call t h
       good_primary (second (second t)) h = good_operand t h
       good_primary t h = absurd (h)
 
-      good_bracketed : (t : Tree) → Of t 88 → GoodCondition (bracketed ms t)
+      good_bracketed : (t : Tree) → Of t BRACKETED → GoodCondition (bracketed ms t)
       good_bracketed (pair left (pair a right)) h = good_or_value a h.1.0
       good_bracketed (pair left t) h = absurd (h.1)
       good_bracketed t h = absurd (h)
 
-      good_call : (t : Tree) → Of t 97 → GoodCondition (call_value ms t)
+      good_call : (t : Tree) → Of t CALL → GoodCondition (call_value ms t)
       good_call (first t) h = good_bound t h
       good_call (second (first (pair word t))) h = good_same_term t h.1
       good_call (second (second (pair word t))) h = good_applied (meaning_at ms (first_token word)) (bracketed ms t) (good_bracketed t h.1)
       good_call t h = absurd (h)
 
-      good_same_term : (t : Tree) → Of t 107 → GoodCondition (same_term_value ms t)
+      good_same_term : (t : Tree) → Of t CALL_7 → GoodCondition (same_term_value ms t)
       good_same_term (pair left (pair a (pair comma (pair b right)))) h =
           by_seen _ (seen-SameTerm (or_value ms a) (or_value ms b)) (recursion_append (Fits keys) (condition_nodes (condition_seen (or_value ms a))) (condition_nodes (condition_seen (or_value ms b))) (good_or_value a h.1.0) (good_or_value b h.1.1.1.0))
       good_same_term (pair left (pair a (pair comma t))) h = absurd (h.1.1.1)
@@ -179,7 +180,7 @@ module _ (keys : List (List ℕ)) where
       good_same_term (pair left t) h = absurd (h.1)
       good_same_term t h = absurd (h)
 
-    good_filter : (t : Tree) → Of t 87 → GoodCondition (filter_value ms t)
+    good_filter : (t : Tree) → Of t FILTER → GoodCondition (filter_value ms t)
     good_filter (first t) h = good_bracketed t h
     good_filter (second t) h = good_call t h
     good_filter t h = absurd (h)
@@ -197,48 +198,48 @@ module _ (keys : List (List ℕ)) where
     good_patterns (t ∷ ts) h = (h.0.0, (h.0.1, (h.0.2, good_patterns ts h.1)))
 
     mutual
-      fit_plist : (s : ℕ) (t : Tree) → Fit s → Of t 48 → AllFit (plist_value s t)
-      fit_plist s (pair verb (pair objects more)) f h = recursion_append FitTokens (olist_value s (first_token verb) objects) (plist_more s more) (fit_olist s (first_token verb) objects f (node_first verb 49 refl h.0) h.1.0) (fit_plist_more s more f h.1.1)
+      fit_plist : (s : ℕ) (t : Tree) → Fit s → Of t PLIST → AllFit (plist_value s t)
+      fit_plist s (pair verb (pair objects more)) f h = recursion_append FitTokens (olist_value s (first_token verb) objects) (plist_more s more) (fit_olist s (first_token verb) objects f (node_first verb VERB refl h.0) h.1.0) (fit_plist_more s more f h.1.1)
       fit_plist s t f h = tt
 
-      fit_plist_more : (s : ℕ) (t : Tree) → Fit s → Of t 66 → AllFit (plist_more s t)
+      fit_plist_more : (s : ℕ) (t : Tree) → Fit s → Of t PLIST_4 → AllFit (plist_more s t)
       fit_plist_more s (pair (pair semicolon t) more) f h = recursion_append FitTokens (verb_value s t) (plist_more s more) (fit_verb s t f h.0.1) (fit_plist_more s more f h.1)
       fit_plist_more s t f h = tt
 
-      fit_verb : (s : ℕ) (t : Tree) → Fit s → Of t 64 → AllFit (verb_value s t)
-      fit_verb s (first (pair verb objects)) f h = fit_olist s (first_token verb) objects f (node_first verb 49 refl h.0) h.1
+      fit_verb : (s : ℕ) (t : Tree) → Fit s → Of t PLIST_2 → AllFit (verb_value s t)
+      fit_verb s (first (pair verb objects)) f h = fit_olist s (first_token verb) objects f (node_first verb VERB refl h.0) h.1
       fit_verb s t f h = tt
 
-      fit_olist : (s p : ℕ) (t : Tree) → Fit s → Fit p → Of t 52 → AllFit (olist_value s p t)
+      fit_olist : (s p : ℕ) (t : Tree) → Fit s → Fit p → Of t OLIST → AllFit (olist_value s p t)
       fit_olist s p (pair o more) f g h = recursion_append FitTokens (object_value s p o) (olist_more s p more) (fit_object s p o f g h.0) (fit_olist_more s p more f g h.1)
       fit_olist s p t f g h = tt
 
-      fit_olist_more : (s p : ℕ) (t : Tree) → Fit s → Fit p → Of t 61 → AllFit (olist_more s p t)
+      fit_olist_more : (s p : ℕ) (t : Tree) → Fit s → Fit p → Of t OLIST_2 → AllFit (olist_more s p t)
       fit_olist_more s p (pair (pair comma o) more) f g h = recursion_append FitTokens (object_value s p o) (olist_more s p more) (fit_object s p o f g h.0.1) (fit_olist_more s p more f g h.1)
       fit_olist_more s p t f g h = tt
 
-      fit_object : (s p : ℕ) (t : Tree) → Fit s → Fit p → Of t 53 → AllFit (object_value s p t)
-      fit_object s p (first t) f g h = ((f, g, node_first t 26 refl h), tt)
+      fit_object : (s p : ℕ) (t : Tree) → Fit s → Fit p → Of t OBJECT → AllFit (object_value s p t)
+      fit_object s p (first t) f g h = ((f, g, node_first t ITEM refl h), tt)
       fit_object s p (second (pair left (pair inner right))) f g h =
-          let l : Fit (first_token left) = node_first left 54 refl h.0 in
+          let l : Fit (first_token left) = node_first left TOKEN_OPEN_BRACKET refl h.0 in
           ((f, g, l), fit_inner (first_token left) inner l h.1.0)
       fit_object s p t f g h = tt
 
-      fit_inner : (s : ℕ) (t : Tree) → Fit s → Of t 55 → AllFit (inner_value s t)
+      fit_inner : (s : ℕ) (t : Tree) → Fit s → Of t OBJECT_1 → AllFit (inner_value s t)
       fit_inner s (first t) f h = fit_plist s t f h
       fit_inner s t f h = tt
 
-    fit_bracket : (s : ℕ) (t : Tree) → Fit s → Of t 72 → AllFit (bracket_value s t)
+    fit_bracket : (s : ℕ) (t : Tree) → Fit s → Of t SAME_5 → AllFit (bracket_value s t)
     fit_bracket s (first (pair right list)) f h = fit_plist s list f h.1
     fit_bracket s (second (pair list (pair right more))) f h = recursion_append FitTokens (plist_value s list) (inner_value s more) (fit_plist s list f h.0) (fit_inner s more f h.1.1)
     fit_bracket s t f h = tt
 
-    fit_same : (t : Tree) → Of t 25 → AllFit (same_value t)
-    fit_same (first (pair item list)) h = fit_plist (first_token item) list (node_first item 26 refl h.0) h.1
-    fit_same (second (pair left rest)) h = fit_bracket (first_token left) rest (node_first left 54 refl h.0) h.1
+    fit_same : (t : Tree) → Of t SAME → AllFit (same_value t)
+    fit_same (first (pair item list)) h = fit_plist (first_token item) list (node_first item ITEM refl h.0) h.1
+    fit_same (second (pair left rest)) h = fit_bracket (first_token left) rest (node_first left TOKEN_OPEN_BRACKET refl h.0) h.1
     fit_same t h = tt
 
-    fit_block : (t : Tree) → Of t 24 → AllFit (block_value t)
+    fit_block : (t : Tree) → Of t BLOCK → AllFit (block_value t)
     fit_block (pair same (first (pair dot (first more)))) h = recursion_append FitTokens (same_value same) (block_value more) (fit_same same h.0) (fit_block more h.1.1)
     fit_block (pair same t) h = fit_same same h.0
     fit_block t h = tt
@@ -260,58 +261,58 @@ module _ (keys : List (List ℕ)) where
     good_no_part : Good (part_nodes (part_seen no_part))
     good_no_part = by_part _ (seen-Triples []) tt
 
-    good_block_parts : (t : Tree) → Of t 78 → GoodParts (block_parts ms t)
+    good_block_parts : (t : Tree) → Of t GROUP_1 → GoodParts (block_parts ms t)
     good_block_parts (first t) h = recursion_append (Fits keys) (part_nodes (part_seen (part.Triples (patterns_of ms (block_value t))))) [] (by_part _ (seen-Triples (patterns_of ms (block_value t))) (good_patterns (block_value t) (fit_block t h))) tt
     good_block_parts t h = tt
 
     mutual
-      good_group : (t : Tree) → Of t 22 → GoodParts (group_value ms t)
+      good_group : (t : Tree) → Of t GROUP → GoodParts (group_value ms t)
       good_group (pair left (pair block (pair more right))) h = good_parts_append (block_parts ms block) (parts_value ms more) (good_block_parts block h.1.0) (good_parts more h.1.1.0)
       good_group t h = tt
 
-      good_parts : (t : Tree) → Of t 159 → GoodParts (parts_value ms t)
+      good_parts : (t : Tree) → Of t GROUP_5 → GoodParts (parts_value ms t)
       good_parts (pair (pair p (pair dot block)) more) h =
           good_parts_append (part_value ms p ∷ block_parts ms block) (parts_value ms more)
           (recursion_append (Fits keys) (part_nodes (part_seen (part_value ms p))) (group_nodes (group_seen (block_parts ms block))) (good_part p h.0.0) (good_block_parts block h.0.1.1))
           (good_parts more h.1)
       good_parts t h = tt
 
-      good_part : (t : Tree) → Of t 79 → Good (part_nodes (part_seen (part_value ms t)))
+      good_part : (t : Tree) → Of t PART → Good (part_nodes (part_seen (part_value ms t)))
       good_part (first (pair word g)) h = by_part _ (seen-Optional (group_value ms g)) (good_group g h.1)
       good_part (second t) h = good_other t h
       good_part t h = good_no_part
 
-      good_other : (t : Tree) → Of t 155 → Good (part_nodes (part_seen (other_value ms t)))
+      good_other : (t : Tree) → Of t PART_FROM_2 → Good (part_nodes (part_seen (other_value ms t)))
       good_other (first t) h = good_graph t h
       good_other (second (first (pair word t))) h = by_part _ (seen-Filter (filter_value ms t)) (good_filter t h.1)
       good_other (second (second t)) h = good_union t h
       good_other t h = good_no_part
 
-      good_graph : (t : Tree) → Of t 85 → Good (part_nodes (part_seen (graph_value ms t)))
+      good_graph : (t : Tree) → Of t PART_3 → Good (part_nodes (part_seen (graph_value ms t)))
       good_graph (pair word (pair name g)) h =
-          by_part _ (seen-Graph (name_of (meaning_at ms (first_token name))) (group_value ms g)) (fits_name (meaning_at ms (first_token name)) (operand_first name 83 refl h.1.0), good_group g h.1.1)
+          by_part _ (seen-Graph (name_of (meaning_at ms (first_token name))) (group_value ms g)) (fits_name (meaning_at ms (first_token name)) (operand_first name NAME refl h.1.0), good_group g h.1.1)
       good_graph t h = good_no_part
 
-      good_union : (t : Tree) → Of t 153 → Good (part_nodes (part_seen (union_value ms t)))
+      good_union : (t : Tree) → Of t PART_7 → Good (part_nodes (part_seen (union_value ms t)))
       good_union (pair g more) h =
           by_part _ (seen-Groups (group_value ms g) (groups_value ms more)) (recursion_append (Fits keys) (group_nodes (group_seen (group_value ms g))) (unions_nodes (unions_seen (groups_value ms more))) (good_group g h.0) (good_groups more h.1))
       good_union t h = good_no_part
 
-      good_groups : (t : Tree) → Of t 152 → Good (unions_nodes (unions_seen (groups_value ms t)))
+      good_groups : (t : Tree) → Of t PART_6 → Good (unions_nodes (unions_seen (groups_value ms t)))
       good_groups (pair (pair word g) more) h = recursion_append (Fits keys) (group_nodes (group_seen (group_value ms g))) (unions_nodes (unions_seen (groups_value ms more))) (good_group g h.0.1) (good_groups more h.1)
       good_groups t h = tt
 
     -- ---- the query
 
-    good_numbers : (t : Tree) → Of t 17 → Good (map node.Variable (numbers_value ms t))
-    good_numbers (pair v more) h = (variable_first v 16 refl h.0, good_numbers more h.1)
+    good_numbers : (t : Tree) → Of t SELECTION_1 → Good (map node.Variable (numbers_value ms t))
+    good_numbers (pair v more) h = (variable_first v TOKEN_VAR refl h.0, good_numbers more h.1)
     good_numbers t h = tt
 
-    good_selection : (t : Tree) → Of t 15 → Good (selected_nodes (selection_value ms t))
-    good_selection (first (pair v more)) h = (variable_first v 16 refl h.0, good_numbers more h.1)
+    good_selection : (t : Tree) → Of t SELECTION → Good (selected_nodes (selection_value ms t))
+    good_selection (first (pair v more)) h = (variable_first v TOKEN_VAR refl h.0, good_numbers more h.1)
     good_selection t h = tt
 
-    pub good_query : (names : List (List ℕ)) (prologue rest : Tree) → Of rest 166 → Good (query_nodes (query_seen (query_value names ms (pair prologue rest))))
+    pub good_query : (names : List (List ℕ)) (prologue rest : Tree) → Of rest QUERY_12 → Good (query_nodes (query_seen (query_value names ms (pair prologue rest))))
     good_query names prologue (pair select (pair kind (pair selection (pair where_ g)))) h =
         recursion_append (Fits keys) (selected_nodes (selection_value ms selection)) (group_nodes (group_seen (group_value ms g))) (good_selection selection h.1.1.0) (good_group g h.1.1.1.1)
     good_query names prologue t h = tt

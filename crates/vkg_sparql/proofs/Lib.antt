@@ -9,3 +9,4 @@ pub mod One
 pub mod SeenForms
 pub mod Standing
 pub mod Steps
+pub mod WordsLeftOut

@@ -10,6 +10,7 @@ use Rattle.vkg_cells.specs.WellTyped.{is_well_typed, is_too_wide, is_wide_number
 use Rattle.vkg_terms.specs.Vocabulary.{xsd}
 use Rattle.vkg_terms.specs.declared.term.Term.{Term}
 use Rattle.vkg_tokens.specs.declared.cutting.Token.{Token}
+use Rattle.vkg_tokens.specs.declared.sparql_kinds.TheConstants.{OPEN_BRACKET, IRIREF, PNAME_NS, PNAME_LN, BLANK, VAR, STRING, INTEGER, DECIMAL, IS_A, TRUE, FALSE}
 use Rattle.vkg_turtle.specs.Document.{typed}
 use Rattle.vkg_turtle.specs.Words.{between}
 use Rattle.vkg_sparql.specs.declared.checks.Check.{Check}
@@ -86,9 +87,9 @@ IsNarrow e token xs k = is_wide_number (term_of e (lexeme_word k token) xs) ≡ 
 narrow : (e : Environment) (token : List ℕ) (xs : List Lexeme) (k : ℕ) → is_term k ≡ true → (is_literal k ≡ true → IsNarrow e token xs k) → IsNarrow e token xs k
 narrow e token xs k t lit =
     let P : ℕ → Type 0 = IsNarrow e token xs in
-    other P k 26 refl (λ a. other P k 27 refl (λ b. other P k 28 refl (λ c. other P k 36 refl (λ f.
-    other P k 37 (boolean_is_narrow (str_to_ascii_lowercase token)) (λ g. other P k 38 (boolean_is_narrow (str_to_ascii_lowercase token)) (λ h.
-    lit (one_of_three (k == 31) (k == 33) (k == 34) (sym (λ i. a i || b i || c i || (k == 31) || (k == 33) || (k == 34) || f i || g i || h i) ∙ t))))))))
+    other P k IRIREF refl (λ a. other P k PNAME_NS refl (λ b. other P k PNAME_LN refl (λ c. other P k IS_A refl (λ f.
+    other P k TRUE (boolean_is_narrow (str_to_ascii_lowercase token)) (λ g. other P k FALSE (boolean_is_narrow (str_to_ascii_lowercase token)) (λ h.
+    lit (one_of_three (k == STRING) (k == INTEGER) (k == DECIMAL) (sym (λ i. a i || b i || c i || (k == STRING) || (k == INTEGER) || (k == DECIMAL) || f i || g i || h i) ∙ t))))))))
 
 -- ---- the keys of tokens
 
@@ -100,24 +101,24 @@ record HasKey (x : Lexeme) (b : Bool) : Type 0 where
   is : key_of x ≡ Some key
   mark : is_variable_key key ≡ b
 
-variable_key : (kind at : ℕ) (token : List ℕ) → (kind == 30) ≡ true → HasKey (lexeme kind at token) true
-variable_key kind at token e = subst (λ k. HasKey (lexeme k at token) true) (sym (eqb-true kind 30 e)) (record { key = _; is = refl; mark = refl })
+variable_key : (kind at : ℕ) (token : List ℕ) → (kind == VAR) ≡ true → HasKey (lexeme kind at token) true
+variable_key kind at token e = subst (λ k. HasKey (lexeme k at token) true) (sym (eqb-true kind VAR e)) (record { key = _; is = refl; mark = refl })
 
-labels_key : (kind at : ℕ) (token : List ℕ) (a b : Bool) → (kind == 29) ≡ a → (kind == 4) ≡ b → (a || b) ≡ true → HasKey (lexeme kind at token) false
-labels_key kind at token true b e f h = subst (λ k. HasKey (lexeme k at token) false) (sym (eqb-true kind 29 e)) (record { key = _; is = refl; mark = refl })
-labels_key kind at token false true e f h = subst (λ k. HasKey (lexeme k at token) false) (sym (eqb-true kind 4 f)) (record { key = _; is = refl; mark = refl })
+labels_key : (kind at : ℕ) (token : List ℕ) (a b : Bool) → (kind == BLANK) ≡ a → (kind == OPEN_BRACKET) ≡ b → (a || b) ≡ true → HasKey (lexeme kind at token) false
+labels_key kind at token true b e f h = subst (λ k. HasKey (lexeme k at token) false) (sym (eqb-true kind BLANK e)) (record { key = _; is = refl; mark = refl })
+labels_key kind at token false true e f h = subst (λ k. HasKey (lexeme k at token) false) (sym (eqb-true kind OPEN_BRACKET f)) (record { key = _; is = refl; mark = refl })
 labels_key kind at token false false e f h = absurd (cc)
 
 -- ---- what stands where a pattern, an expression or a selection asks for a token
 
 abbrev pub is_node_kind : ℕ → Bool
-is_node_kind k = if k == 30 then true else if (k == 29) || (k == 4) then true else is_term k
+is_node_kind k = if k == VAR then true else if (k == BLANK) || (k == OPEN_BRACKET) then true else is_term k
 
 abbrev pub is_operand_kind : ℕ → Bool
-is_operand_kind k = if k == 30 then true else if (k == 29) || (k == 4) then false else is_term k
+is_operand_kind k = if k == VAR then true else if (k == BLANK) || (k == OPEN_BRACKET) then false else is_term k
 
 abbrev pub is_variable_kind : ℕ → Bool
-is_variable_kind k = k == 30
+is_variable_kind k = k == VAR
 
 module _ (keys : List (List ℕ)) where
   abbrev pub IsNode : Meaning → Type 0
@@ -169,23 +170,23 @@ module _ (keys : List (List ℕ)) where
     term : is_term kind ≡ true → is_wide_number (term_of e (lexeme_word kind token) xs) ≡ false
     term h = narrow e token xs kind h literal
 
-    variable : (kind == 30) ≡ true → Marked keys number true
+    variable : (kind == VAR) ≡ true → Marked keys number true
     variable h = marked true (variable_key kind at token h)
 
-    label : ((kind == 29) || (kind == 4)) ≡ true → Marked keys number false
-    label h = marked false (labels_key kind at token (kind == 29) (kind == 4) refl refl h)
+    label : ((kind == BLANK) || (kind == OPEN_BRACKET)) ≡ true → Marked keys number false
+    label h = marked false (labels_key kind at token (kind == BLANK) (kind == OPEN_BRACKET) refl refl h)
 
     pub node : is_node_kind kind ≡ true → IsNode (meaning_of e keys (lexeme kind at token) xs)
     unfolding meaning_of
-    node h = node_by (kind == 30) ((kind == 29) || (kind == 4)) (is_term kind) number (term_of e (lexeme_word kind token) xs) (operator_of kind) h variable label term
+    node h = node_by (kind == VAR) ((kind == BLANK) || (kind == OPEN_BRACKET)) (is_term kind) number (term_of e (lexeme_word kind token) xs) (operator_of kind) h variable label term
 
     pub operand : is_operand_kind kind ≡ true → IsOperand (meaning_of e keys (lexeme kind at token) xs)
     unfolding meaning_of
-    operand h = operand_by (kind == 30) ((kind == 29) || (kind == 4)) (is_term kind) number (term_of e (lexeme_word kind token) xs) (operator_of kind) h variable term
+    operand h = operand_by (kind == VAR) ((kind == BLANK) || (kind == OPEN_BRACKET)) (is_term kind) number (term_of e (lexeme_word kind token) xs) (operator_of kind) h variable term
 
     pub only_variable : is_variable_kind kind ≡ true → IsVariable (meaning_of e keys (lexeme kind at token) xs)
     unfolding meaning_of
-    only_variable h = variable_by (kind == 30) ((kind == 29) || (kind == 4)) (is_term kind) number (term_of e (lexeme_word kind token) xs) (operator_of kind) h variable
+    only_variable h = variable_by (kind == VAR) ((kind == BLANK) || (kind == OPEN_BRACKET)) (is_term kind) number (term_of e (lexeme_word kind token) xs) (operator_of kind) h variable
 
 -- ---- at a token of the text
 

@@ -8,6 +8,7 @@ use Rattle.vkg_terms.specs.declared.term.Term.TheVariants.{Lit}
 use Rattle.vkg_terms.specs.declared.term.Annotation.TheVariants.{Typed}
 use Rattle.vkg_terms.specs.Iri.{is_absolute}
 use Rattle.vkg_terms.specs.Vocabulary.{xsd}
+use Rattle.vkg_tokens.specs.declared.sparql_kinds.TheConstants.{OPEN_BRACE, CLOSE_BRACE, EQUAL, OR, BLANK, STRING, INTEGER, DECIMAL, OPTIONAL, DATATYPE}
 use Rattle.vkg_turtle.specs.declared.lexeme.Word.{Word}
 use Rattle.vkg_turtle.specs.declared.lexeme.Word.TheVariants.{Name, Label}
 use Rattle.vkg_sparql.specs.declared.checks.Check.{Check}
@@ -39,7 +40,7 @@ is_float t = false
 
 -- a string or a number
 abbrev pub is_literal : ℕ → Bool
-is_literal kind = (kind == 31) || (kind == 33) || (kind == 34)
+is_literal kind = (kind == STRING) || (kind == INTEGER) || (kind == DECIMAL)
 
 -- the check fails at a token, where these follow
 unfoldable pub fails : Check → Environment → Lexeme → List Lexeme → Bool
@@ -69,17 +70,18 @@ with_label b at word = b
 
 abbrev pub block_step : Blocks → Lexeme → Blocks
 block_step b x =
-    if (x.kind == 0) || (x.kind == 1) then record b { brace = x.at }
-    else if x.kind == 29 then with_label b x.at x.word
+    if (x.kind == OPEN_BRACE) || (x.kind == CLOSE_BRACE) then record b { brace = x.at }
+    else if x.kind == BLANK then with_label b x.at x.word
     else b
 
 -- the first use of a label in a second basic graph pattern (5.1.1 forbids it)
 abbrev pub label_again : List Lexeme → Option ℕ
 label_again xs = (fold block_step (record { labels = []; braces = []; brace = 0; again = None }) xs).again
 
--- own: the nodes that are counted: a group's `{`, OPTIONAL, GRAPH, FILTER, UNION, the signs of operators, the words of calls
+-- own: the nodes that are counted: a group's `{`, OPTIONAL, GRAPH, FILTER, UNION, the signs of operators, the words of calls. Among the kinds
+-- the signs stand together from `=` to `||`, and the words from OPTIONAL to DATATYPE
 abbrev pub is_node : ℕ → Bool
-is_node kind = (kind == 0) || (nat_le 9 kind && nat_le kind 17) || (nat_le 45 kind && nat_le kind 58)
+is_node kind = (kind == OPEN_BRACE) || (nat_le EQUAL kind && nat_le kind OR) || (nat_le OPTIONAL kind && nat_le kind DATATYPE)
 
 abbrev pub node_places : List Lexeme → List ℕ
 node_places xs = map (λ x. x.at) (filter (λ x. is_node x.kind) xs)

@@ -3,31 +3,33 @@ use Rattle.std.specs.Prelude.{ℕ, ◌||◌, List, [], ◌∷◌, ◌++◌, code
 use Rattle.std.specs.List.{list_any}
 use Rattle.std.specs.Str.{bytes_eq}
 use Rattle.vkg_tokens.specs.declared.cutting.Token.{Token}
+use Rattle.vkg_tokens.specs.declared.sparql_kinds.TheConstants.{OPEN_BRACKET, IRIREF, PNAME_NS, PNAME_LN, BLANK, VAR, STRING, LANGTAG, INTEGER, DECIMAL, IS_A, TRUE, FALSE}
+use Rattle.vkg_tokens.specs.declared.turtle_kinds.TheConstants as turtle
 use Rattle.vkg_turtle.specs.declared.lexeme.Word.{Word}
 use Rattle.vkg_turtle.specs.declared.lexeme.Word.TheVariants.{Label}
 use Rattle.vkg_turtle.specs.Words.{between, word_of}
 use Rattle.vkg_sparql.specs.declared.lexeme.Lexeme.{Lexeme}
 use Rattle.vkg_sparql.specs.declared.names.Named.{Named}
 
--- the number of the same kind of token in Turtle (19.8 of SPARQL 1.1 and 6.5 of RDF 1.1 Turtle have the same forms; a sign belongs to
--- its number, and `\u` is read within its token, as by 6.4 of Turtle, not before the grammar, as by 19.2 of SPARQL), or that of a sign
+-- the same kind of token in Turtle (19.8 of SPARQL 1.1 and 6.5 of RDF 1.1 Turtle have the same forms; a sign belongs to
+-- its number, and `\u` is read within its token, as by 6.4 of Turtle, not before the grammar, as by 19.2 of SPARQL), or a sign
 abbrev pub turtle_kind : ℕ → ℕ
 turtle_kind kind =
-    if kind == 26 then 15
-    else if kind == 27 then 16
-    else if kind == 28 then 17
-    else if kind == 29 then 18
-    else if kind == 31 then 19
-    else if kind == 32 then 20
-    else if kind == 33 then 21
-    else if kind == 34 then 22
-    else if kind == 36 then 9
-    else if (kind == 37) || (kind == 38) then 11
-    else 0
+    if kind == IRIREF then turtle.IRIREF
+    else if kind == PNAME_NS then turtle.PNAME_NS
+    else if kind == PNAME_LN then turtle.PNAME_LN
+    else if kind == BLANK then turtle.BLANK
+    else if kind == STRING then turtle.STRING
+    else if kind == LANGTAG then turtle.LANGTAG
+    else if kind == INTEGER then turtle.INTEGER
+    else if kind == DECIMAL then turtle.DECIMAL
+    else if kind == IS_A then turtle.IS_A
+    else if (kind == TRUE) || (kind == FALSE) then turtle.TRUE
+    else turtle.DOT
 
 -- a variable is kept as its name's bytes, without `?` or `$`
 abbrev pub variable_or : ℕ → List ℕ → Word → Word
-variable_or kind token word = if kind == 30 then Label (between token 1 (length token)) else word
+variable_or kind token word = if kind == VAR then Label (between token 1 (length token)) else word
 
 abbrev pub lexeme_word : ℕ → List ℕ → Word
 lexeme_word kind token = variable_or kind token (word_of (turtle_kind kind) token)
@@ -40,11 +42,11 @@ lexemes_of text ts = map (lexeme_of text) ts
 
 -- variables with `?` before their names, labels with `_:`, and each `[` by its place are told apart
 abbrev pub label_key : ℕ → Word → Option (List ℕ)
-label_key kind (Label name) = if kind == 30 then Some (codes "?" ++ name) else Some (codes "_:" ++ name)
+label_key kind (Label name) = if kind == VAR then Some (codes "?" ++ name) else Some (codes "_:" ++ name)
 label_key kind word = None
 
 abbrev pub key_of : Lexeme → Option (List ℕ)
-key_of x = if x.kind == 4 then Some (codes "[" ++ decimal x.at) else label_key x.kind x.word
+key_of x = if x.kind == OPEN_BRACKET then Some (codes "[" ++ decimal x.at) else label_key x.kind x.word
 
 -- the name of a variable or a label; that of a `[` is empty
 abbrev pub name_of : Word → List ℕ

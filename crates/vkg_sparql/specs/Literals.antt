@@ -6,6 +6,7 @@ use Rattle.vkg_terms.specs.declared.term.Term.TheVariants.{Iri, Lit}
 use Rattle.vkg_terms.specs.declared.term.Annotation.{Annotation}
 use Rattle.vkg_terms.specs.declared.term.Annotation.TheVariants.{Plain, Lang}
 use Rattle.vkg_terms.specs.Vocabulary.{rdf_type}
+use Rattle.vkg_tokens.specs.declared.sparql_kinds.TheConstants.{OPEN_BRACKET, EQUAL, NOT_EQUAL, LESS, GREATER, LESS_EQUAL, GREATER_EQUAL, CARETS, IRIREF, PNAME_NS, PNAME_LN, BLANK, VAR, STRING, INTEGER, DECIMAL, IS_A, TRUE, FALSE, ISIRI, ISURI, ISBLANK, ISLITERAL, ISNUMERIC, STR, LANG, DATATYPE}
 use Rattle.vkg_turtle.specs.declared.lexeme.Word.{Word}
 use Rattle.vkg_turtle.specs.declared.lexeme.Word.TheVariants.{Quoted, Tag, Integer, Decimal, Boolean, IsA}
 use Rattle.vkg_turtle.specs.Document.{annotation_of_type, typed}
@@ -19,7 +20,7 @@ use Rattle.vkg_sparql.specs.declared.meaning.Meaning.TheVariants.{Mark, Variable
 use Rattle.vkg_sparql.specs.Environment.{iri_text}
 use Rattle.vkg_sparql.specs.Lexemes.{key_of, number_in}
 
--- behind `^^`, which is of kind 22
+-- behind `^^`
 abbrev pub type_behind : Environment → List Lexeme → Annotation
 type_behind e [] = Plain
 type_behind e (x ∷ xs) = annotation_of_type (iri_text e x.word)
@@ -31,7 +32,7 @@ tag_or_type e word is_type xs = if is_type then type_behind e xs else Plain
 -- a string's language tag or datatype, from the tokens behind it
 abbrev pub annotation : Environment → List Lexeme → Annotation
 annotation e [] = Plain
-annotation e (x ∷ xs) = tag_or_type e x.word (x.kind == 22) xs
+annotation e (x ∷ xs) = tag_or_type e x.word (x.kind == CARETS) xs
 
 -- the term that begins with a token, where these tokens follow; `true` and `false` have small letters however written
 abbrev pub term_of : Environment → Word → List Lexeme → Term
@@ -45,31 +46,31 @@ term_of e word xs = Iri (iri_text e word)
 -- 17.3, 17.4: by the kinds of the signs = != < > <= >= and the words isIRI .. DATATYPE
 abbrev pub operator_of : ℕ → Meaning
 operator_of kind =
-    if kind == 9 then Compare Equal
-    else if kind == 10 then Compare NotEqual
-    else if kind == 11 then Compare Less
-    else if kind == 12 then Compare Greater
-    else if kind == 13 then Compare LessOrEqual
-    else if kind == 14 then Compare GreaterOrEqual
-    else if (kind == 51) || (kind == 52) then Test IsIri
-    else if kind == 53 then Test IsBlank
-    else if kind == 54 then Test IsLiteral
-    else if kind == 55 then Test IsNumeric
-    else if kind == 56 then Take take.Str
-    else if kind == 57 then Take take.Lang
-    else if kind == 58 then Take take.Datatype
+    if kind == EQUAL then Compare Equal
+    else if kind == NOT_EQUAL then Compare NotEqual
+    else if kind == LESS then Compare Less
+    else if kind == GREATER then Compare Greater
+    else if kind == LESS_EQUAL then Compare LessOrEqual
+    else if kind == GREATER_EQUAL then Compare GreaterOrEqual
+    else if (kind == ISIRI) || (kind == ISURI) then Test IsIri
+    else if kind == ISBLANK then Test IsBlank
+    else if kind == ISLITERAL then Test IsLiteral
+    else if kind == ISNUMERIC then Test IsNumeric
+    else if kind == STR then Take take.Str
+    else if kind == LANG then Take take.Lang
+    else if kind == DATATYPE then Take take.Datatype
     else Mark
 
 -- IRIREF, PNAME_NS, PNAME_LN, a string, INTEGER, DECIMAL, `a`, `true`, `false`
 abbrev pub is_term : ℕ → Bool
 is_term kind =
-    (kind == 26) || (kind == 27) || (kind == 28) || (kind == 31) || (kind == 33) || (kind == 34) || (kind == 36) || (kind == 37) || (kind == 38)
+    (kind == IRIREF) || (kind == PNAME_NS) || (kind == PNAME_LN) || (kind == STRING) || (kind == INTEGER) || (kind == DECIMAL) || (kind == IS_A) || (kind == TRUE) || (kind == FALSE)
 
 -- what a token means, where these follow
 unfoldable pub meaning_of : Environment → List (List ℕ) → Lexeme → List Lexeme → Meaning
 meaning_of e keys x xs =
-    if x.kind == 30 then Variable (number_in keys (key_of x))
-    else if (x.kind == 29) || (x.kind == 4) then Label (number_in keys (key_of x))
+    if x.kind == VAR then Variable (number_in keys (key_of x))
+    else if (x.kind == BLANK) || (x.kind == OPEN_BRACKET) then Label (number_in keys (key_of x))
     else if is_term x.kind then Fixed (term_of e x.word xs)
     else operator_of x.kind
 

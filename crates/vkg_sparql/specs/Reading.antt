@@ -11,6 +11,7 @@ use Rattle.vkg_tokens.specs.declared.cutting.Token.{Token}
 use Rattle.vkg_tokens.specs.declared.lang.Lang.TheVariants.{Sparql}
 use Rattle.vkg_tokens.specs.Cut.{tokens_of}
 use Rattle.vkg_tokens.specs.Mark.{without_mark}
+use Rattle.vkg_tokens.specs.declared.sparql_kinds.TheConstants.{OPEN_BRACE, CLOSE_BRACE, OPEN, CLOSE, OPEN_BRACKET, CLOSE_BRACKET, STAR, CARET, PLUS_SIGN, QUESTION, DOUBLE, SELECT, OUTSIDE, STRLEN, STRSTARTS, STRENDS, CONTAINS, MINUS, BIND, AS, VALUES, ORDER, LIMIT, OFFSET, ASK, CONSTRUCT, KIND_COUNT}
 use Rattle.vkg_turtle.specs.Lexical.{IsFirstBad}
 use Rattle.vkg_sparql.specs.declared.checks.Check.TheVariants.{Unknown, Relative, Float, Wide}
 use Rattle.vkg_sparql.specs.declared.environment.Environment.{Environment}
@@ -31,13 +32,13 @@ use Rattle.vkg_sparql.specs.Literals.{meanings_of}
 abbrev pub sparql_tokens : List ℕ → Result (List Token) ℕ
 sparql_tokens text = tokens_of Sparql text
 
--- the grammar of queries, where at most 64 brackets are open at once: 0, 2 and 4 are `{`, `(` and `[`, 1, 3 and 5 close them
+-- the grammar of queries, where at most 64 brackets are open at once
 abbrev pub sparql : Form
 sparql = record {
   rules = SPARQL;
-  kinds = 61;
-  openers = 0 ∷ 2 ∷ 4 ∷ [];
-  closers = 1 ∷ 3 ∷ 5 ∷ [];
+  kinds = KIND_COUNT;
+  openers = OPEN_BRACE ∷ OPEN ∷ OPEN_BRACKET ∷ [];
+  closers = CLOSE_BRACE ∷ CLOSE ∷ CLOSE_BRACKET ∷ [];
   limit = Some 64;
 }
 
@@ -47,10 +48,17 @@ kind_at ts i = slice_index_or (kinds_of ts) i 0
 abbrev pub fault : ℕ → ℕ → QueryFault
 fault check at = record { check = check; at = at }
 
--- own: the tokens of SPARQL 1.1 that are told as left out of the profile: `(` `*` `/` `|` `^` `+` `-` `?`, a number with an exponent,
--- SELECT within a query, and the words of kind 59
+-- own: the words of SPARQL 1.1 that are told as left out of the profile: those of the kind OUTSIDE, and of those with kinds of their own all
+-- but UNDEF, BY, ASC and DESC
+unfoldable pub is_outside_word : ℕ → Bool
+is_outside_word kind =
+    (kind == OUTSIDE) || (kind == STRLEN) || (kind == STRSTARTS) || (kind == STRENDS) || (kind == CONTAINS) || (kind == MINUS) || (kind == BIND)
+    || (kind == AS) || (kind == VALUES) || (kind == ORDER) || (kind == LIMIT) || (kind == OFFSET) || (kind == ASK) || (kind == CONSTRUCT)
+
+-- own: the tokens that are told so: these words, `(` `*` `/` `|` `^` `+` `-` `?`, a number with an exponent, and SELECT within a query. Among
+-- the kinds `*` to `^` stand together, and `+` to `?`
 abbrev pub is_outside : ℕ → Bool
-is_outside kind = (kind == 2) || (nat_le 18 kind && nat_le kind 21) || (nat_le 23 kind && nat_le kind 25) || (kind == 35) || (kind == 41) || (kind == 59)
+is_outside kind = (kind == OPEN) || (nat_le STAR kind && nat_le kind CARET) || (nat_le PLUS_SIGN kind && nat_le kind QUESTION) || (kind == DOUBLE) || (kind == SELECT) || is_outside_word kind
 
 -- the check of a dead token
 abbrev pub dead_check : ℕ → ℕ

@@ -6,6 +6,7 @@ use crate::lexeme::Lexeme;
 use crate::names::Names;
 use std::alloc::Global;
 use vkg_base::{Items, Memory, earlier};
+use vkg_tokens::sparql_kinds as kinds;
 use vkg_turtle::Word;
 
 /// The blank node labels of a query, each with the last brace before its first use; the last brace; and the first use of a
@@ -67,10 +68,10 @@ impl Blocks {
     fn step(&mut self, alloc: Global, lexeme: &Lexeme) -> Result<(), Memory>
         ensures { OnOk result (self.new ≡ block_step self.old lexeme.now) }
     {
-        if lexeme.kind == 0 || lexeme.kind == 1 {
+        if lexeme.kind == kinds::OPEN_BRACE || lexeme.kind == kinds::CLOSE_BRACE {
             self.brace = lexeme.at;
             Ok(())
-        } else if lexeme.kind == 29 {
+        } else if lexeme.kind == kinds::BLANK {
             self.meet_word(alloc, lexeme.at, &lexeme.word)
         } else {
             Ok(())

@@ -11,6 +11,7 @@ use vkg_base::{Memory, Text};
 use vkg_cells::is_wide_number;
 use vkg_terms::vocabulary::{XSD_DOUBLE, XSD_FLOAT};
 use vkg_terms::{Annotation, Term, is_absolute};
+use vkg_tokens::sparql_kinds as kinds;
 use vkg_turtle::Word;
 
 /// A check of one token.
@@ -65,7 +66,7 @@ fn is_float(term: &Term) -> bool
 fn is_literal(kind: usize) -> bool
     ensures { result ≡ is_literal kind }
 {
-    kind == 31 || kind == 33 || kind == 34
+    kind == kinds::STRING || kind == kinds::INTEGER || kind == kinds::DECIMAL
 }
 
 fn is_relative_word(alloc: Global, environment: &Environment, word: &Word) -> Result<bool, Memory>
@@ -125,7 +126,9 @@ pub fn first_place(
 fn is_node(kind: usize) -> bool
     ensures { result ≡ is_node kind }
 {
-    kind == 0 || (9 <= kind && kind <= 17) || (45 <= kind && kind <= 58)
+    kind == kinds::OPEN_BRACE
+        || (kinds::EQUAL <= kind && kind <= kinds::OR)
+        || (kinds::OPTIONAL <= kind && kind <= kinds::DATATYPE)
 }
 
 fn node_places(alloc: Global, lexemes: &[Lexeme]) -> Result<Vec<usize>, Memory>

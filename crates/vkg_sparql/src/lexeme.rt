@@ -3,7 +3,7 @@ ghost use Rattle.vkg_sparql.specs.Lexemes.{turtle_kind, variable_or, lexeme_word
 
 use std::alloc::Global;
 use vkg_base::{Memory, Text};
-use vkg_tokens::Token;
+use vkg_tokens::{Token, sparql_kinds as kinds, turtle_kinds};
 use vkg_turtle::{Word, between, word_of};
 
 /// A token of a query: its kind, the byte at which it begins, and what it says.
@@ -14,29 +14,29 @@ pub struct Lexeme {
     pub word: Word,
 }
 
-// The number of the same kind of token in Turtle, or that of a sign.
+// The same kind of token in Turtle, or a sign.
 fn turtle_kind(kind: usize) -> usize
     ensures { result ≡ turtle_kind kind }
 {
     match kind {
-        26 => 15,
-        27 => 16,
-        28 => 17,
-        29 => 18,
-        31 => 19,
-        32 => 20,
-        33 => 21,
-        34 => 22,
-        36 => 9,
-        37 | 38 => 11,
-        _ => 0,
+        kinds::IRIREF => turtle_kinds::IRIREF,
+        kinds::PNAME_NS => turtle_kinds::PNAME_NS,
+        kinds::PNAME_LN => turtle_kinds::PNAME_LN,
+        kinds::BLANK => turtle_kinds::BLANK,
+        kinds::STRING => turtle_kinds::STRING,
+        kinds::LANGTAG => turtle_kinds::LANGTAG,
+        kinds::INTEGER => turtle_kinds::INTEGER,
+        kinds::DECIMAL => turtle_kinds::DECIMAL,
+        kinds::IS_A => turtle_kinds::IS_A,
+        kinds::TRUE | kinds::FALSE => turtle_kinds::TRUE,
+        _ => turtle_kinds::DOT,
     }
 }
 
 fn lexeme_word(alloc: Global, kind: usize, token: &str) -> Result<Word, Memory>
     ensures { IfOk result (λ w. w ≡ lexeme_word kind token.now) }
 {
-    if kind == 30 {
+    if kind == kinds::VAR {
         return Ok(Word::Label(Text::new(alloc, between(token, 1, token.len()))?));
     }
     word_of(alloc, turtle_kind(kind), token)

@@ -26,6 +26,7 @@ mod pattern;
 mod query;
 mod query_reader;
 mod reading;
+mod symbols;
 mod triple_reader;
 
 pub use blocks::Blocks;
@@ -40,4 +41,4 @@ pub use meaning::{Meaning, TripleTokens};
 pub use names::{Named, Names};
 pub use pattern::{GraphName, Node, TriplePattern, copy_patterns};
 pub use query::{Part, Query, Selected};
-pub use reading::{is_determined, read_query};
+pub use reading::{is_determined, leaves_out_words, read_query};

@@ -10,6 +10,7 @@ use std::alloc::Global;
 use vkg_base::{Memory, Text};
 use vkg_terms::vocabulary::{RDF_TYPE, XSD_BOOLEAN, XSD_DECIMAL, XSD_INTEGER};
 use vkg_terms::{Annotation, Term};
+use vkg_tokens::sparql_kinds as kinds;
 use vkg_turtle::{Word, lowered, typed};
 use vkg_values::{Compare, Take, Test};
 
@@ -56,7 +57,13 @@ fn annotation(
     let Some((lexeme, rest)) = rest.split_first() else {
         return Ok(Annotation::Plain);
     };
-    tag_or_type(alloc, environment, &lexeme.word, lexeme.kind == 22, rest)
+    tag_or_type(
+        alloc,
+        environment,
+        &lexeme.word,
+        lexeme.kind == kinds::CARETS,
+        rest,
+    )
 }
 
 /// The term that begins with a token, where the rest follows.
@@ -85,19 +92,19 @@ fn operator_of(kind: usize) -> Meaning
     ensures { result ≡ operator_of kind }
 {
     match kind {
-        9 => Meaning::Compare(Compare::Equal),
-        10 => Meaning::Compare(Compare::NotEqual),
-        11 => Meaning::Compare(Compare::Less),
-        12 => Meaning::Compare(Compare::Greater),
-        13 => Meaning::Compare(Compare::LessOrEqual),
-        14 => Meaning::Compare(Compare::GreaterOrEqual),
-        51 | 52 => Meaning::Test(Test::IsIri),
-        53 => Meaning::Test(Test::IsBlank),
-        54 => Meaning::Test(Test::IsLiteral),
-        55 => Meaning::Test(Test::IsNumeric),
-        56 => Meaning::Take(Take::Str),
-        57 => Meaning::Take(Take::Lang),
-        58 => Meaning::Take(Take::Datatype),
+        kinds::EQUAL => Meaning::Compare(Compare::Equal),
+        kinds::NOT_EQUAL => Meaning::Compare(Compare::NotEqual),
+        kinds::LESS => Meaning::Compare(Compare::Less),
+        kinds::GREATER => Meaning::Compare(Compare::Greater),
+        kinds::LESS_EQUAL => Meaning::Compare(Compare::LessOrEqual),
+        kinds::GREATER_EQUAL => Meaning::Compare(Compare::GreaterOrEqual),
+        kinds::ISIRI | kinds::ISURI => Meaning::Test(Test::IsIri),
+        kinds::ISBLANK => Meaning::Test(Test::IsBlank),
+        kinds::ISLITERAL => Meaning::Test(Test::IsLiteral),
+        kinds::ISNUMERIC => Meaning::Test(Test::IsNumeric),
+        kinds::STR => Meaning::Take(Take::Str),
+        kinds::LANG => Meaning::Take(Take::Lang),
+        kinds::DATATYPE => Meaning::Take(Take::Datatype),
         _ => Meaning::Mark,
     }
 }
@@ -105,15 +112,15 @@ fn operator_of(kind: usize) -> Meaning
 fn is_term(kind: usize) -> bool
     ensures { result ≡ is_term kind }
 {
-    kind == 26
-        || kind == 27
-        || kind == 28
-        || kind == 31
-        || kind == 33
-        || kind == 34
-        || kind == 36
-        || kind == 37
-        || kind == 38
+    kind == kinds::IRIREF
+        || kind == kinds::PNAME_NS
+        || kind == kinds::PNAME_LN
+        || kind == kinds::STRING
+        || kind == kinds::INTEGER
+        || kind == kinds::DECIMAL
+        || kind == kinds::IS_A
+        || kind == kinds::TRUE
+        || kind == kinds::FALSE
 }
 
 #[tactic(auto, unfolding(crate::specs::Literals::meaning_of))]
@@ -126,9 +133,9 @@ fn meaning_of(
 ) -> Result<Meaning, Memory>
     ensures { IfOk result (λ m. m ≡ meaning_of environment.now keys.now lexeme.now rest.now) }
 {
-    if lexeme.kind == 30 {
+    if lexeme.kind == kinds::VAR {
         Ok(Meaning::Variable(number_in(alloc, keys, lexeme)?))
-    } else if lexeme.kind == 29 || lexeme.kind == 4 {
+    } else if lexeme.kind == kinds::BLANK || lexeme.kind == kinds::OPEN_BRACKET {
         Ok(Meaning::Label(number_in(alloc, keys, lexeme)?))
     } else if is_term(lexeme.kind) {
         Ok(Meaning::Fixed(term_of(alloc, environment, &lexeme.word, rest)?))

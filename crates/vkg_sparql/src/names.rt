@@ -9,6 +9,7 @@ use itoa::Buffer;
 use std::alloc::Global;
 use std::marker::Model;
 use vkg_base::{Items, Memory, Text};
+use vkg_tokens::sparql_kinds as kinds;
 use vkg_turtle::Word;
 
 /// Texts in the order in which they first came, each once. A contract sees their list.
@@ -77,7 +78,7 @@ pub struct Named {
 pub fn key_of(alloc: Global, lexeme: &Lexeme) -> Result<Option<String>, Memory>
     ensures { IfOk result (λ key. option_map string_bytes key ≡ key_of lexeme.now) }
 {
-    if lexeme.kind == 4 {
+    if lexeme.kind == kinds::OPEN_BRACKET {
         let mut buffer = Buffer::new();
         let mut key = String::from_str(alloc, "[")?;
         key.push_str(buffer.format(lexeme.at))?;
@@ -92,7 +93,7 @@ fn label_key(alloc: Global, kind: usize, word: &Word) -> Result<Option<String>, 
     let Word::Label(name) = word else {
         return Ok(None);
     };
-    let mut key = String::from_str(alloc, if kind == 30 { "?" } else { "_:" })?;
+    let mut key = String::from_str(alloc, if kind == kinds::VAR { "?" } else { "_:" })?;
     key.push_str(name.as_str())?;
     Ok(Some(key))
 }

@@ -68,6 +68,31 @@ fn each_fault_is_named(rt: HostRuntime) -> Result<(), Fail> {
     Ok(())
 }
 
+// Each is told where it stands: as left out, or as a word that no query goes on with.
+#[test]
+fn words_to_come_are_refused(rt: HostRuntime) -> Result<(), Fail> {
+    let rows = [
+        ("SELECT * { FILTER(STRLEN(?x)) }", "Q07 18"),
+        ("SELECT * { FILTER(contains(?x)) }", "Q07 18"),
+        ("SELECT * { MINUS {} }", "Q07 11"),
+        ("SELECT * { BIND(1 AS ?x) }", "Q07 11"),
+        ("SELECT * { VALUES ?x { UNDEF } }", "Q07 11"),
+        ("SELECT * { UNDEF }", "Q02 11"),
+        ("SELECT * {} ORDER BY ?x", "Q07 12"),
+        ("SELECT * {} BY ?x", "Q02 12"),
+        ("SELECT * {} ASC(?x)", "Q02 12"),
+        ("SELECT * {} desc(?x)", "Q02 12"),
+        ("SELECT * {} LIMIT 1", "Q07 12"),
+        ("SELECT * {} offset 1", "Q07 12"),
+        ("CONSTRUCT {} {}", "Q07 0"),
+    ];
+    for (text, want) in rows.iter() {
+        let found = shown(&rt, text.as_bytes())?;
+        assert_eq!(rt; found.as_str(), *want, "at {text}");
+    }
+    Ok(())
+}
+
 // The least place at which no token begins or the bytes are no UTF-8.
 #[test]
 fn bad_bytes_have_their_place(rt: HostRuntime) -> Result<(), Fail> {

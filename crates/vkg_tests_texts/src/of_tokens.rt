@@ -231,7 +231,7 @@ fn numbers_of_turtle(rt: HostRuntime) -> Result<(), Fail> {
 }
 
 // Texts, and their tokens: of each its kind and its length in bytes.
-const TOKENS_OF_SPARQL: [(&str, &str); 20] = [
+const TOKENS_OF_SPARQL: [(&str, &str); 21] = [
     ("{ } ( ) [ ] . ; ,", " 0:1 1:1 2:1 3:1 4:1 5:1 6:1 7:1 8:1"),
     (
         "= != < > <= >= ! && ||",
@@ -263,11 +263,11 @@ const TOKENS_OF_SPARQL: [(&str, &str); 20] = [
     ("isNumeric str LANG datatype", " 55:9 56:3 57:4 58:8"),
     (
         "ask Construct describe from service minus values bind as",
-        " 59:3 59:9 59:8 59:4 59:7 59:5 59:6 59:4 59:2",
+        " 76:3 77:9 59:8 59:4 59:7 65:5 68:6 66:4 67:2",
     ),
     (
         "order limit offset group having count sum min max avg",
-        " 59:5 59:5 59:6 59:5 59:6 59:5 59:3 59:3 59:3 59:3",
+        " 70:5 72:5 73:6 59:5 59:6 59:5 59:3 59:3 59:3 59:3",
     ),
     (
         "sample group_concat exists not in regex if coalesce",
@@ -275,9 +275,10 @@ const TOKENS_OF_SPARQL: [(&str, &str); 20] = [
     ),
     (
         "langmatches strlen strstarts strends contains",
-        " 59:11 59:6 59:9 59:7 59:8",
+        " 59:11 61:6 62:9 63:7 64:8",
     ),
     ("insert delete load clear", " 59:6 59:6 59:4 59:5"),
+    ("Undef by ASC desc", " 69:5 71:2 74:3 75:4"),
     ("FILTERBOUND ?x+1 1-1", " 60:11 30:2 33:2 33:1 33:2"),
     ("? $", "fault 2"),
     ("a & b", "fault 2"),

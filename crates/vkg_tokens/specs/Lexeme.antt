@@ -2,6 +2,8 @@
 use Rattle.std.specs.Prelude.{ℕ, ◌+◌, ◌*◌, ◌-◌, ◌||◌, Option, Some, None, option_map, if◌then◌else◌, ◌==◌, nat_le, nat_lt}
 use lib.Utf8.{scalar}
 use Rattle.std.specs.Option.{option_or}
+use Rattle.vkg_tokens.specs.declared.sparql_kinds.TheConstants as sparql
+use Rattle.vkg_tokens.specs.declared.turtle_kinds.TheConstants as turtle
 use Rattle.vkg_tokens.specs.declared.lexeme.Lexeme.{Lexeme}
 use Rattle.vkg_tokens.specs.declared.lexeme.Lexeme.TheVariants.{Start, OfName, OfNumber, OfString, OfIri, OfSign, OfTag, OfVariable}
 use Rattle.vkg_tokens.specs.declared.names.Name.{Name}
@@ -77,21 +79,21 @@ abbrev pub scan_step : Scan → ℕ → Option Scan
 scan_step (Between lexeme) b = first_byte lexeme b
 scan_step (Within lexeme left bits) b = further_byte lexeme left bits b
 
--- the classes of Turtle's tokens, words all one (24)
+-- the classes of Turtle's tokens, words all one
 abbrev pub turtle_name : Name → Option ℕ
-turtle_name name.Word = Some 24
-turtle_name name.LowLine = Some 24
-turtle_name name.LowWord = Some 24
-turtle_name name.Colon = Some 16
-turtle_name name.Local = Some 17
-turtle_name name.Blank = Some 18
+turtle_name name.Word = Some turtle.WORD
+turtle_name name.LowLine = Some turtle.WORD
+turtle_name name.LowWord = Some turtle.WORD
+turtle_name name.Colon = Some turtle.PNAME_NS
+turtle_name name.Local = Some turtle.PNAME_LN
+turtle_name name.Blank = Some turtle.BLANK
 turtle_name state = None
 
 abbrev pub turtle_number : Number → Option ℕ
-turtle_number number.Dot = Some 4
-turtle_number number.Digits = Some 21
-turtle_number number.Fraction = Some 22
-turtle_number number.ExponentDigits = Some 23
+turtle_number number.Dot = Some turtle.DOT
+turtle_number number.Digits = Some turtle.INTEGER
+turtle_number number.Fraction = Some turtle.DECIMAL
+turtle_number number.ExponentDigits = Some turtle.DOUBLE
 turtle_number state = None
 
 abbrev pub string_or_none : ℕ → Quoted → Option ℕ
@@ -105,57 +107,57 @@ tag_or_none class tag.Part = Some class
 tag_or_none class state = None
 
 abbrev pub turtle_iri : IriRef → Option ℕ
-turtle_iri iri.Closed = Some 15
+turtle_iri iri.Closed = Some turtle.IRIREF
 turtle_iri state = None
 
 abbrev pub turtle_lexeme : Lexeme → Option ℕ
 turtle_lexeme Start = None
 turtle_lexeme (OfName state) = turtle_name state
 turtle_lexeme (OfNumber state) = turtle_number state
-turtle_lexeme (OfString state) = string_or_none 19 state
+turtle_lexeme (OfString state) = string_or_none turtle.STRING state
 turtle_lexeme (OfIri state) = turtle_iri state
 turtle_lexeme (OfSign sign) = turtle_sign sign
-turtle_lexeme (OfTag state) = tag_or_none 20 state
+turtle_lexeme (OfTag state) = tag_or_none turtle.LANGTAG state
 turtle_lexeme (OfVariable state) = None
 
--- the classes of SPARQL's tokens, words all one (60)
+-- the classes of SPARQL's tokens, words all one
 abbrev pub sparql_name : Name → Option ℕ
-sparql_name name.Word = Some 60
-sparql_name name.LowLine = Some 60
-sparql_name name.LowWord = Some 60
-sparql_name name.Colon = Some 27
-sparql_name name.Local = Some 28
-sparql_name name.Blank = Some 29
+sparql_name name.Word = Some sparql.WORD
+sparql_name name.LowLine = Some sparql.WORD
+sparql_name name.LowWord = Some sparql.WORD
+sparql_name name.Colon = Some sparql.PNAME_NS
+sparql_name name.Local = Some sparql.PNAME_LN
+sparql_name name.Blank = Some sparql.BLANK
 sparql_name state = None
 
 abbrev pub sparql_number : Number → Option ℕ
-sparql_number number.Dot = Some 6
-sparql_number number.Plus = Some 23
-sparql_number number.Minus = Some 24
-sparql_number number.Digits = Some 33
-sparql_number number.Fraction = Some 34
-sparql_number number.ExponentDigits = Some 35
+sparql_number number.Dot = Some sparql.DOT
+sparql_number number.Plus = Some sparql.PLUS_SIGN
+sparql_number number.Minus = Some sparql.MINUS_SIGN
+sparql_number number.Digits = Some sparql.INTEGER
+sparql_number number.Fraction = Some sparql.DECIMAL
+sparql_number number.ExponentDigits = Some sparql.DOUBLE
 sparql_number state = None
 
 abbrev pub sparql_iri : IriRef → Option ℕ
-sparql_iri iri.Less = Some 11
-sparql_iri iri.LessEqual = Some 13
-sparql_iri iri.Closed = Some 26
+sparql_iri iri.Less = Some sparql.LESS
+sparql_iri iri.LessEqual = Some sparql.LESS_EQUAL
+sparql_iri iri.Closed = Some sparql.IRIREF
 sparql_iri state = None
 
 abbrev pub sparql_variable : Variable → Option ℕ
-sparql_variable variable.Question = Some 25
+sparql_variable variable.Question = Some sparql.QUESTION
 sparql_variable variable.Dollar = None
-sparql_variable variable.Named = Some 30
+sparql_variable variable.Named = Some sparql.VAR
 
 abbrev pub sparql_lexeme : Lexeme → Option ℕ
 sparql_lexeme Start = None
 sparql_lexeme (OfName state) = sparql_name state
 sparql_lexeme (OfNumber state) = sparql_number state
-sparql_lexeme (OfString state) = string_or_none 31 state
+sparql_lexeme (OfString state) = string_or_none sparql.STRING state
 sparql_lexeme (OfIri state) = sparql_iri state
 sparql_lexeme (OfSign sign) = sparql_sign sign
-sparql_lexeme (OfTag state) = tag_or_none 32 state
+sparql_lexeme (OfTag state) = tag_or_none sparql.LANGTAG state
 sparql_lexeme (OfVariable state) = sparql_variable state
 
 -- within a character there is no token

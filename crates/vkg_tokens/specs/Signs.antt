@@ -1,6 +1,8 @@
--- The signs of Turtle and SPARQL 1.1 (RDF 1.1 Turtle, 6.5, and SPARQL 1.1 Query Language, 19.8) that begin nothing longer, and their numbers among each language's kinds.
+-- The signs of Turtle and SPARQL 1.1 (RDF 1.1 Turtle, 6.5, and SPARQL 1.1 Query Language, 19.8) that begin nothing longer, and their kinds in each language.
 use Rattle.std.specs.Prelude.{ℕ, Option, Some, None, if◌then◌else◌, ◌==◌}
 use Rattle.std.specs.Bool.{then_some}
+use Rattle.vkg_tokens.specs.declared.sparql_kinds.TheConstants as sparql
+use Rattle.vkg_tokens.specs.declared.turtle_kinds.TheConstants as turtle
 use Rattle.vkg_tokens.specs.declared.signs.Sign.{Sign}
 use Rattle.vkg_tokens.specs.declared.signs.Sign.TheVariants.{OpenBrace, CloseBrace, Open, Close, OpenBracket, CloseBracket, Semicolon, Comma, Equal, Greater, GreaterEqual, Not, NotEqual, Ampersand, And, Bar, Or, Caret, Carets, Star, Slash}
 
@@ -35,34 +37,34 @@ sign_step Caret c = then_some (c == 0x5e) Carets
 sign_step sign c = None
 
 abbrev pub turtle_sign : Sign → Option ℕ
-turtle_sign OpenBracket = Some 5
-turtle_sign CloseBracket = Some 6
-turtle_sign Semicolon = Some 7
-turtle_sign Comma = Some 8
-turtle_sign Carets = Some 10
-turtle_sign Open = Some 13
-turtle_sign Close = Some 14
+turtle_sign OpenBracket = Some turtle.OPEN_BRACKET
+turtle_sign CloseBracket = Some turtle.CLOSE_BRACKET
+turtle_sign Semicolon = Some turtle.SEMICOLON
+turtle_sign Comma = Some turtle.COMMA
+turtle_sign Carets = Some turtle.CARETS
+turtle_sign Open = Some turtle.OPEN
+turtle_sign Close = Some turtle.CLOSE
 turtle_sign sign = None
 
 abbrev pub sparql_sign : Sign → Option ℕ
-sparql_sign OpenBrace = Some 0
-sparql_sign CloseBrace = Some 1
-sparql_sign Open = Some 2
-sparql_sign Close = Some 3
-sparql_sign OpenBracket = Some 4
-sparql_sign CloseBracket = Some 5
-sparql_sign Semicolon = Some 7
-sparql_sign Comma = Some 8
-sparql_sign Equal = Some 9
-sparql_sign NotEqual = Some 10
-sparql_sign Greater = Some 12
-sparql_sign GreaterEqual = Some 14
-sparql_sign Not = Some 15
-sparql_sign And = Some 16
-sparql_sign Or = Some 17
-sparql_sign Star = Some 18
-sparql_sign Slash = Some 19
-sparql_sign Bar = Some 20
-sparql_sign Caret = Some 21
-sparql_sign Carets = Some 22
+sparql_sign OpenBrace = Some sparql.OPEN_BRACE
+sparql_sign CloseBrace = Some sparql.CLOSE_BRACE
+sparql_sign Open = Some sparql.OPEN
+sparql_sign Close = Some sparql.CLOSE
+sparql_sign OpenBracket = Some sparql.OPEN_BRACKET
+sparql_sign CloseBracket = Some sparql.CLOSE_BRACKET
+sparql_sign Semicolon = Some sparql.SEMICOLON
+sparql_sign Comma = Some sparql.COMMA
+sparql_sign Equal = Some sparql.EQUAL
+sparql_sign NotEqual = Some sparql.NOT_EQUAL
+sparql_sign Greater = Some sparql.GREATER
+sparql_sign GreaterEqual = Some sparql.GREATER_EQUAL
+sparql_sign Not = Some sparql.NOT
+sparql_sign And = Some sparql.AND
+sparql_sign Or = Some sparql.OR
+sparql_sign Star = Some sparql.STAR
+sparql_sign Slash = Some sparql.SLASH
+sparql_sign Bar = Some sparql.BAR
+sparql_sign Caret = Some sparql.CARET
+sparql_sign Carets = Some sparql.CARETS
 sparql_sign Ampersand = None

@@ -1,5 +1,7 @@
 ghost use Rattle.std.specs.Prelude.{◌≡◌, ◌<◌, IfSome};
 ghost use Rattle.vkg_tokens.specs.Lexeme.{mark_begin, lexeme_begin, lexeme_step, turtle_name, turtle_number, string_or_none, tag_or_none, turtle_iri, turtle_lexeme, sparql_name, sparql_number, sparql_iri, sparql_variable, sparql_lexeme};
+ghost use Rattle.vkg_tokens.specs.declared.sparql_kinds.TheConstants as sparql;
+ghost use Rattle.vkg_tokens.specs.declared.turtle_kinds.TheConstants as turtle;
 
 use crate::iris::IriRef;
 use crate::names::Name;
@@ -8,7 +10,7 @@ use crate::signs::Sign;
 use crate::strings::Quoted;
 use crate::tags::Tag;
 use crate::variables::Variable;
-use crate::{iris, names, numbers, signs, strings, tags, variables};
+use crate::{iris, names, numbers, signs, sparql_kinds, strings, tags, turtle_kinds, variables};
 
 /// What was read of a token of Turtle or SPARQL.
 #[derive(Clone, Copy)]
@@ -71,34 +73,34 @@ pub fn step(state: Lexeme, c: char) -> Option<Lexeme>
 
 fn turtle_name(state: Name) -> Option<usize>
     ensures class { result ≡ turtle_name state }
-    ensures below { IfSome result (λ class. class < 25) }
+    ensures below { IfSome result (λ class. class < turtle.KIND_COUNT) }
 {
     match state {
-        Name::Word | Name::LowLine | Name::LowWord => Some(24),
-        Name::Colon => Some(16),
-        Name::Local => Some(17),
-        Name::Blank => Some(18),
+        Name::Word | Name::LowLine | Name::LowWord => Some(turtle_kinds::WORD),
+        Name::Colon => Some(turtle_kinds::PNAME_NS),
+        Name::Local => Some(turtle_kinds::PNAME_LN),
+        Name::Blank => Some(turtle_kinds::BLANK),
         _ => None,
     }
 }
 
 fn turtle_number(state: Number) -> Option<usize>
     ensures class { result ≡ turtle_number state }
-    ensures below { IfSome result (λ class. class < 25) }
+    ensures below { IfSome result (λ class. class < turtle.KIND_COUNT) }
 {
     match state {
-        Number::Dot => Some(4),
-        Number::Digits => Some(21),
-        Number::Fraction => Some(22),
-        Number::ExponentDigits => Some(23),
+        Number::Dot => Some(turtle_kinds::DOT),
+        Number::Digits => Some(turtle_kinds::INTEGER),
+        Number::Fraction => Some(turtle_kinds::DECIMAL),
+        Number::ExponentDigits => Some(turtle_kinds::DOUBLE),
         _ => None,
     }
 }
 
 fn string_or_none(class: usize, state: Quoted) -> Option<usize>
-    requires { class < 61 }
+    requires { class < sparql.KIND_COUNT }
     ensures class { result ≡ string_or_none class state }
-    ensures below { IfSome result (λ class. class < 61) }
+    ensures below { IfSome result (λ class. class < sparql.KIND_COUNT) }
 {
     match state {
         Quoted::Emptied(_) => Some(class),
@@ -108,9 +110,9 @@ fn string_or_none(class: usize, state: Quoted) -> Option<usize>
 }
 
 fn tag_or_none(class: usize, state: Tag) -> Option<usize>
-    requires { class < 61 }
+    requires { class < sparql.KIND_COUNT }
     ensures class { result ≡ tag_or_none class state }
-    ensures below { IfSome result (λ class. class < 61) }
+    ensures below { IfSome result (λ class. class < sparql.KIND_COUNT) }
 {
     match state {
         Tag::Letters => Some(class),
@@ -121,10 +123,10 @@ fn tag_or_none(class: usize, state: Tag) -> Option<usize>
 
 fn turtle_iri(state: IriRef) -> Option<usize>
     ensures class { result ≡ turtle_iri state }
-    ensures below { IfSome result (λ class. class < 25) }
+    ensures below { IfSome result (λ class. class < turtle.KIND_COUNT) }
 {
     match state {
-        IriRef::Closed => Some(15),
+        IriRef::Closed => Some(turtle_kinds::IRIREF),
         _ => None,
     }
 }
@@ -132,84 +134,84 @@ fn turtle_iri(state: IriRef) -> Option<usize>
 /// The class of what was read, if it is a token of Turtle.
 pub fn turtle_class(state: Lexeme) -> Option<usize>
     ensures class { result ≡ turtle_lexeme state }
-    ensures below { IfSome result (λ class. class < 25) }
+    ensures below { IfSome result (λ class. class < turtle.KIND_COUNT) }
 {
     match state {
         Lexeme::Start => None,
         Lexeme::OfName(state) => turtle_name(state),
         Lexeme::OfNumber(state) => turtle_number(state),
-        Lexeme::OfString(state) => string_or_none(19, state),
+        Lexeme::OfString(state) => string_or_none(turtle_kinds::STRING, state),
         Lexeme::OfIri(state) => turtle_iri(state),
         Lexeme::OfSign(sign) => signs::turtle_class(sign),
-        Lexeme::OfTag(state) => tag_or_none(20, state),
+        Lexeme::OfTag(state) => tag_or_none(turtle_kinds::LANGTAG, state),
         Lexeme::OfVariable(_) => None,
     }
 }
 
 fn sparql_name(state: Name) -> Option<usize>
     ensures class { result ≡ sparql_name state }
-    ensures below { IfSome result (λ class. class < 61) }
+    ensures below { IfSome result (λ class. class < sparql.KIND_COUNT) }
 {
     match state {
-        Name::Word | Name::LowLine | Name::LowWord => Some(60),
-        Name::Colon => Some(27),
-        Name::Local => Some(28),
-        Name::Blank => Some(29),
+        Name::Word | Name::LowLine | Name::LowWord => Some(sparql_kinds::WORD),
+        Name::Colon => Some(sparql_kinds::PNAME_NS),
+        Name::Local => Some(sparql_kinds::PNAME_LN),
+        Name::Blank => Some(sparql_kinds::BLANK),
         _ => None,
     }
 }
 
 fn sparql_number(state: Number) -> Option<usize>
     ensures class { result ≡ sparql_number state }
-    ensures below { IfSome result (λ class. class < 61) }
+    ensures below { IfSome result (λ class. class < sparql.KIND_COUNT) }
 {
     match state {
-        Number::Dot => Some(6),
-        Number::Plus => Some(23),
-        Number::Minus => Some(24),
-        Number::Digits => Some(33),
-        Number::Fraction => Some(34),
-        Number::ExponentDigits => Some(35),
+        Number::Dot => Some(sparql_kinds::DOT),
+        Number::Plus => Some(sparql_kinds::PLUS_SIGN),
+        Number::Minus => Some(sparql_kinds::MINUS_SIGN),
+        Number::Digits => Some(sparql_kinds::INTEGER),
+        Number::Fraction => Some(sparql_kinds::DECIMAL),
+        Number::ExponentDigits => Some(sparql_kinds::DOUBLE),
         _ => None,
     }
 }
 
 fn sparql_iri(state: IriRef) -> Option<usize>
     ensures class { result ≡ sparql_iri state }
-    ensures below { IfSome result (λ class. class < 61) }
+    ensures below { IfSome result (λ class. class < sparql.KIND_COUNT) }
 {
     match state {
-        IriRef::Less => Some(11),
-        IriRef::LessEqual => Some(13),
-        IriRef::Closed => Some(26),
+        IriRef::Less => Some(sparql_kinds::LESS),
+        IriRef::LessEqual => Some(sparql_kinds::LESS_EQUAL),
+        IriRef::Closed => Some(sparql_kinds::IRIREF),
         _ => None,
     }
 }
 
 fn sparql_variable(state: Variable) -> Option<usize>
     ensures class { result ≡ sparql_variable state }
-    ensures below { IfSome result (λ class. class < 61) }
+    ensures below { IfSome result (λ class. class < sparql.KIND_COUNT) }
 {
     match state {
-        Variable::Question => Some(25),
+        Variable::Question => Some(sparql_kinds::QUESTION),
         Variable::Dollar => None,
-        Variable::Named => Some(30),
+        Variable::Named => Some(sparql_kinds::VAR),
     }
 }
 
 /// The class of what was read, if it is a token of SPARQL.
 pub fn sparql_class(state: Lexeme) -> Option<usize>
     ensures class { result ≡ sparql_lexeme state }
-    ensures below { IfSome result (λ class. class < 61) }
+    ensures below { IfSome result (λ class. class < sparql.KIND_COUNT) }
 {
     match state {
         Lexeme::Start => None,
         Lexeme::OfName(state) => sparql_name(state),
         Lexeme::OfNumber(state) => sparql_number(state),
-        Lexeme::OfString(state) => string_or_none(31, state),
+        Lexeme::OfString(state) => string_or_none(sparql_kinds::STRING, state),
         Lexeme::OfIri(state) => sparql_iri(state),
         Lexeme::OfSign(sign) => signs::sparql_class(sign),
-        Lexeme::OfTag(state) => tag_or_none(32, state),
+        Lexeme::OfTag(state) => tag_or_none(sparql_kinds::LANGTAG, state),
         Lexeme::OfVariable(state) => sparql_variable(state),
     }
 }

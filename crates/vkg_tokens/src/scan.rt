@@ -1,5 +1,7 @@
 ghost use Rattle.std.specs.Prelude.{◌≡◌, ◌<◌, IfSome};
 ghost use Rattle.vkg_tokens.specs.Lexeme.{with_code, first_byte, further_byte, scan_step, turtle_class, sparql_class};
+ghost use Rattle.vkg_tokens.specs.declared.sparql_kinds.TheConstants as sparql;
+ghost use Rattle.vkg_tokens.specs.declared.turtle_kinds.TheConstants as turtle;
 
 use crate::characters::character;
 use crate::lexeme;
@@ -71,7 +73,7 @@ pub fn step(state: Scan, b: u8) -> Option<Scan>
 
 pub fn turtle_class(state: Scan) -> Option<usize>
     ensures class { result ≡ turtle_class state }
-    ensures below { IfSome result (λ class. class < 25) }
+    ensures below { IfSome result (λ class. class < turtle.KIND_COUNT) }
 {
     match state {
         Scan::Between(state) => lexeme::turtle_class(state),
@@ -81,7 +83,7 @@ pub fn turtle_class(state: Scan) -> Option<usize>
 
 pub fn sparql_class(state: Scan) -> Option<usize>
     ensures class { result ≡ sparql_class state }
-    ensures below { IfSome result (λ class. class < 61) }
+    ensures below { IfSome result (λ class. class < sparql.KIND_COUNT) }
 {
     match state {
         Scan::Between(state) => lexeme::sparql_class(state),

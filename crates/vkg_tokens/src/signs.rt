@@ -1,5 +1,9 @@
 ghost use Rattle.std.specs.Prelude.{◌≡◌, ◌<◌, IfSome};
 ghost use Rattle.vkg_tokens.specs.Signs.{sign_begin, sign_step, turtle_sign, sparql_sign};
+ghost use Rattle.vkg_tokens.specs.declared.sparql_kinds.TheConstants as sparql;
+ghost use Rattle.vkg_tokens.specs.declared.turtle_kinds.TheConstants as turtle;
+
+use crate::{sparql_kinds, turtle_kinds};
 
 /// A sign that begins nothing longer than a sign.
 #[derive(Clone, Copy)]
@@ -67,45 +71,45 @@ pub fn step(state: Sign, c: char) -> Option<Sign>
 
 pub fn turtle_class(sign: Sign) -> Option<usize>
     ensures class { result ≡ turtle_sign sign }
-    ensures below { IfSome result (λ class. class < 25) }
+    ensures below { IfSome result (λ class. class < turtle.KIND_COUNT) }
 {
     match sign {
-        Sign::OpenBracket => Some(5),
-        Sign::CloseBracket => Some(6),
-        Sign::Semicolon => Some(7),
-        Sign::Comma => Some(8),
-        Sign::Carets => Some(10),
-        Sign::Open => Some(13),
-        Sign::Close => Some(14),
+        Sign::OpenBracket => Some(turtle_kinds::OPEN_BRACKET),
+        Sign::CloseBracket => Some(turtle_kinds::CLOSE_BRACKET),
+        Sign::Semicolon => Some(turtle_kinds::SEMICOLON),
+        Sign::Comma => Some(turtle_kinds::COMMA),
+        Sign::Carets => Some(turtle_kinds::CARETS),
+        Sign::Open => Some(turtle_kinds::OPEN),
+        Sign::Close => Some(turtle_kinds::CLOSE),
         _ => None,
     }
 }
 
 pub fn sparql_class(sign: Sign) -> Option<usize>
     ensures class { result ≡ sparql_sign sign }
-    ensures below { IfSome result (λ class. class < 61) }
+    ensures below { IfSome result (λ class. class < sparql.KIND_COUNT) }
 {
     match sign {
-        Sign::OpenBrace => Some(0),
-        Sign::CloseBrace => Some(1),
-        Sign::Open => Some(2),
-        Sign::Close => Some(3),
-        Sign::OpenBracket => Some(4),
-        Sign::CloseBracket => Some(5),
-        Sign::Semicolon => Some(7),
-        Sign::Comma => Some(8),
-        Sign::Equal => Some(9),
-        Sign::NotEqual => Some(10),
-        Sign::Greater => Some(12),
-        Sign::GreaterEqual => Some(14),
-        Sign::Not => Some(15),
-        Sign::And => Some(16),
-        Sign::Or => Some(17),
-        Sign::Star => Some(18),
-        Sign::Slash => Some(19),
-        Sign::Bar => Some(20),
-        Sign::Caret => Some(21),
-        Sign::Carets => Some(22),
+        Sign::OpenBrace => Some(sparql_kinds::OPEN_BRACE),
+        Sign::CloseBrace => Some(sparql_kinds::CLOSE_BRACE),
+        Sign::Open => Some(sparql_kinds::OPEN),
+        Sign::Close => Some(sparql_kinds::CLOSE),
+        Sign::OpenBracket => Some(sparql_kinds::OPEN_BRACKET),
+        Sign::CloseBracket => Some(sparql_kinds::CLOSE_BRACKET),
+        Sign::Semicolon => Some(sparql_kinds::SEMICOLON),
+        Sign::Comma => Some(sparql_kinds::COMMA),
+        Sign::Equal => Some(sparql_kinds::EQUAL),
+        Sign::NotEqual => Some(sparql_kinds::NOT_EQUAL),
+        Sign::Greater => Some(sparql_kinds::GREATER),
+        Sign::GreaterEqual => Some(sparql_kinds::GREATER_EQUAL),
+        Sign::Not => Some(sparql_kinds::NOT),
+        Sign::And => Some(sparql_kinds::AND),
+        Sign::Or => Some(sparql_kinds::OR),
+        Sign::Star => Some(sparql_kinds::STAR),
+        Sign::Slash => Some(sparql_kinds::SLASH),
+        Sign::Bar => Some(sparql_kinds::BAR),
+        Sign::Caret => Some(sparql_kinds::CARET),
+        Sign::Carets => Some(sparql_kinds::CARETS),
         Sign::Ampersand => None,
     }
 }

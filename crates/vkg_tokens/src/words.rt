@@ -1,5 +1,9 @@
 ghost use Rattle.std.specs.Prelude.{◌≡◌, ◌<◌};
-ghost use Rattle.vkg_tokens.specs.Words.{is_exactly, is_caseless, turtle_word, turtle_tag, is_outside_form, is_outside_call, is_outside_text, outside_word, call_word, sparql_word};
+ghost use Rattle.vkg_tokens.specs.Words.{is_exactly, is_caseless, turtle_word, turtle_tag, is_outside_form, is_outside_call, outside_word, modifier_word, pattern_word, string_word, call_word, sparql_word};
+ghost use Rattle.vkg_tokens.specs.declared.sparql_kinds.TheConstants as sparql;
+ghost use Rattle.vkg_tokens.specs.declared.turtle_kinds.TheConstants as turtle;
+
+use crate::{sparql_kinds, turtle_kinds};
 
 fn is_exactly(text: &[u8], word: &[u8]) -> bool
     ensures { result ≡ is_exactly text.now word.now }
@@ -18,20 +22,20 @@ pub fn is_caseless(text: &[u8], word: &[u8]) -> bool
 #[tactic(auto, unfolding(crate::specs::Words::turtle_word))]
 pub fn turtle_word(text: &[u8]) -> usize
     ensures kind { result ≡ turtle_word text.now }
-    ensures below { result < 25 }
+    ensures below { result < turtle.KIND_COUNT }
 {
     if is_exactly(text, b"a") {
-        9
+        turtle_kinds::IS_A
     } else if is_exactly(text, b"true") {
-        11
+        turtle_kinds::TRUE
     } else if is_exactly(text, b"false") {
-        12
+        turtle_kinds::FALSE
     } else if is_caseless(text, b"prefix") {
-        2
+        turtle_kinds::PREFIX
     } else if is_caseless(text, b"base") {
-        3
+        turtle_kinds::BASE
     } else {
-        24
+        turtle_kinds::WORD
     }
 }
 
@@ -39,14 +43,14 @@ pub fn turtle_word(text: &[u8]) -> usize
 #[tactic(auto, unfolding(crate::specs::Words::turtle_tag))]
 pub fn turtle_tag(text: &[u8]) -> usize
     ensures kind { result ≡ turtle_tag text.now }
-    ensures below { result < 25 }
+    ensures below { result < turtle.KIND_COUNT }
 {
     if is_exactly(text, b"@prefix") {
-        0
+        turtle_kinds::AT_PREFIX
     } else if is_exactly(text, b"@base") {
-        1
+        turtle_kinds::AT_BASE
     } else {
-        20
+        turtle_kinds::LANGTAG
     }
 }
 
@@ -54,20 +58,15 @@ pub fn turtle_tag(text: &[u8]) -> usize
 fn is_outside_form(text: &[u8]) -> bool
     ensures { result ≡ is_outside_form text.now }
 {
-    is_caseless(text, b"ask")
-        || is_caseless(text, b"construct")
-        || is_caseless(text, b"describe")
+    is_caseless(text, b"describe")
         || is_caseless(text, b"from")
         || is_caseless(text, b"service")
-        || is_caseless(text, b"minus")
-        || is_caseless(text, b"values")
-        || is_caseless(text, b"bind")
-        || is_caseless(text, b"as")
-        || is_caseless(text, b"order")
-        || is_caseless(text, b"limit")
-        || is_caseless(text, b"offset")
         || is_caseless(text, b"group")
         || is_caseless(text, b"having")
+        || is_caseless(text, b"insert")
+        || is_caseless(text, b"delete")
+        || is_caseless(text, b"load")
+        || is_caseless(text, b"clear")
 }
 
 #[tactic(auto, unfolding(crate::specs::Words::is_outside_call))]
@@ -90,59 +89,109 @@ fn is_outside_call(text: &[u8]) -> bool
         || is_caseless(text, b"langmatches")
 }
 
-#[tactic(auto, unfolding(crate::specs::Words::is_outside_text))]
-fn is_outside_text(text: &[u8]) -> bool
-    ensures { result ≡ is_outside_text text.now }
-{
-    is_caseless(text, b"strlen")
-        || is_caseless(text, b"strstarts")
-        || is_caseless(text, b"strends")
-        || is_caseless(text, b"contains")
-        || is_caseless(text, b"insert")
-        || is_caseless(text, b"delete")
-        || is_caseless(text, b"load")
-        || is_caseless(text, b"clear")
-}
-
 #[tactic(auto, unfolding(crate::specs::Words::outside_word))]
 fn outside_word(text: &[u8]) -> usize
     ensures kind { result ≡ outside_word text.now }
-    ensures below { result < 61 }
+    ensures below { result < sparql.KIND_COUNT }
 {
-    if is_outside_form(text) || is_outside_call(text) || is_outside_text(text) {
-        59
+    if is_outside_form(text) || is_outside_call(text) {
+        sparql_kinds::OUTSIDE
     } else {
-        60
+        sparql_kinds::WORD
+    }
+}
+
+#[tactic(auto, unfolding(crate::specs::Words::modifier_word))]
+fn modifier_word(text: &[u8]) -> usize
+    ensures kind { result ≡ modifier_word text.now }
+    ensures below { result < sparql.KIND_COUNT }
+{
+    if is_caseless(text, b"order") {
+        sparql_kinds::ORDER
+    } else if is_caseless(text, b"by") {
+        sparql_kinds::BY
+    } else if is_caseless(text, b"asc") {
+        sparql_kinds::ASC
+    } else if is_caseless(text, b"desc") {
+        sparql_kinds::DESC
+    } else if is_caseless(text, b"limit") {
+        sparql_kinds::LIMIT
+    } else if is_caseless(text, b"offset") {
+        sparql_kinds::OFFSET
+    } else {
+        outside_word(text)
+    }
+}
+
+#[tactic(auto, unfolding(crate::specs::Words::pattern_word))]
+fn pattern_word(text: &[u8]) -> usize
+    ensures kind { result ≡ pattern_word text.now }
+    ensures below { result < sparql.KIND_COUNT }
+{
+    if is_caseless(text, b"ask") {
+        sparql_kinds::ASK
+    } else if is_caseless(text, b"construct") {
+        sparql_kinds::CONSTRUCT
+    } else if is_caseless(text, b"minus") {
+        sparql_kinds::MINUS
+    } else if is_caseless(text, b"bind") {
+        sparql_kinds::BIND
+    } else if is_caseless(text, b"as") {
+        sparql_kinds::AS
+    } else if is_caseless(text, b"values") {
+        sparql_kinds::VALUES
+    } else if is_caseless(text, b"undef") {
+        sparql_kinds::UNDEF
+    } else {
+        modifier_word(text)
+    }
+}
+
+#[tactic(auto, unfolding(crate::specs::Words::string_word))]
+fn string_word(text: &[u8]) -> usize
+    ensures kind { result ≡ string_word text.now }
+    ensures below { result < sparql.KIND_COUNT }
+{
+    if is_caseless(text, b"strlen") {
+        sparql_kinds::STRLEN
+    } else if is_caseless(text, b"strstarts") {
+        sparql_kinds::STRSTARTS
+    } else if is_caseless(text, b"strends") {
+        sparql_kinds::STRENDS
+    } else if is_caseless(text, b"contains") {
+        sparql_kinds::CONTAINS
+    } else {
+        pattern_word(text)
     }
 }
 
 #[tactic(auto, unfolding(crate::specs::Words::call_word))]
 fn call_word(text: &[u8]) -> usize
     ensures kind { result ≡ call_word text.now }
-    ensures below { result < 61 }
+    ensures below { result < sparql.KIND_COUNT }
 {
     if is_caseless(text, b"bound") {
-        49
+        sparql_kinds::BOUND
     } else if is_caseless(text, b"sameterm") {
-        50
+        sparql_kinds::SAMETERM
     } else if is_caseless(text, b"isiri") {
-        51
+        sparql_kinds::ISIRI
     } else if is_caseless(text, b"isuri") {
-        52
+        sparql_kinds::ISURI
     } else if is_caseless(text, b"isblank") {
-        53
+        sparql_kinds::ISBLANK
     } else if is_caseless(text, b"isliteral") {
-        54
+        sparql_kinds::ISLITERAL
     } else if is_caseless(text, b"isnumeric") {
-        55
+        sparql_kinds::ISNUMERIC
     } else if is_caseless(text, b"str") {
-        56
+        sparql_kinds::STR
     } else if is_caseless(text, b"lang") {
-        57
+        sparql_kinds::LANG
     } else if is_caseless(text, b"datatype") {
-        58
+        sparql_kinds::DATATYPE
     } else {
-        outside_word(text)
+        string_word(text)
     }
 }
 
@@ -150,34 +199,34 @@ fn call_word(text: &[u8]) -> usize
 #[tactic(auto, unfolding(crate::specs::Words::sparql_word))]
 pub fn sparql_word(text: &[u8]) -> usize
     ensures kind { result ≡ sparql_word text.now }
-    ensures below { result < 61 }
+    ensures below { result < sparql.KIND_COUNT }
 {
     if is_exactly(text, b"a") {
-        36
+        sparql_kinds::IS_A
     } else if is_caseless(text, b"true") {
-        37
+        sparql_kinds::TRUE
     } else if is_caseless(text, b"false") {
-        38
+        sparql_kinds::FALSE
     } else if is_caseless(text, b"base") {
-        39
+        sparql_kinds::BASE
     } else if is_caseless(text, b"prefix") {
-        40
+        sparql_kinds::PREFIX
     } else if is_caseless(text, b"select") {
-        41
+        sparql_kinds::SELECT
     } else if is_caseless(text, b"distinct") {
-        42
+        sparql_kinds::DISTINCT
     } else if is_caseless(text, b"reduced") {
-        43
+        sparql_kinds::REDUCED
     } else if is_caseless(text, b"where") {
-        44
+        sparql_kinds::WHERE
     } else if is_caseless(text, b"optional") {
-        45
+        sparql_kinds::OPTIONAL
     } else if is_caseless(text, b"graph") {
-        46
+        sparql_kinds::GRAPH
     } else if is_caseless(text, b"filter") {
-        47
+        sparql_kinds::FILTER
     } else if is_caseless(text, b"union") {
-        48
+        sparql_kinds::UNION
     } else {
         call_word(text)
     }

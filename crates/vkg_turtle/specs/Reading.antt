@@ -6,6 +6,7 @@ use Rattle.vkg_grammar.specs.Kinds.{kinds_of, start_at}
 use Rattle.vkg_grammar.specs.Parsing.{IsTheText, NoTextAt}
 use Rattle.vkg_tokens.specs.declared.cutting.Token.{Token}
 use Rattle.vkg_tokens.specs.declared.lang.Lang.TheVariants.{Turtle}
+use Rattle.vkg_tokens.specs.declared.turtle_kinds.TheConstants.{OPEN_BRACKET, CLOSE_BRACKET, OPEN, CLOSE, KIND_COUNT}
 use Rattle.vkg_tokens.specs.Cut.{tokens_of}
 use Rattle.vkg_tokens.specs.Mark.{without_mark}
 use Rattle.vkg_turtle.specs.declared.document.Document.{Document}
@@ -22,13 +23,13 @@ use Rattle.vkg_turtle.specs.Words.{lexemes_of}
 abbrev pub turtle_tokens : List ℕ → Result (List Token) ℕ
 turtle_tokens text = tokens_of Turtle text
 
--- the grammar of Turtle, where at most 64 brackets are open at once: 5 and 13 are `[` and `(`, 6 and 14 are `]` and `)`
+-- the grammar of Turtle, where at most 64 brackets are open at once
 abbrev pub turtle : Form
 turtle = record {
   rules = TURTLE;
-  kinds = 25;
-  openers = 5 ∷ 13 ∷ [];
-  closers = 6 ∷ 14 ∷ [];
+  kinds = KIND_COUNT;
+  openers = OPEN_BRACKET ∷ OPEN ∷ [];
+  closers = CLOSE_BRACKET ∷ CLOSE ∷ [];
   limit = Some 64;
 }
 

@@ -3,6 +3,7 @@ use Rattle.std.specs.Prelude.{ℕ, ◌-◌, Bool, ◌&&◌, ◌||◌, List, [], 
 use Rattle.std.specs.List.{before_first, after_first, starts_with}
 use Rattle.std.specs.Str.{str_to_ascii_lowercase}
 use Rattle.vkg_tokens.specs.declared.cutting.Token.{Token}
+use Rattle.vkg_tokens.specs.declared.turtle_kinds.TheConstants.{IRIREF, PNAME_NS, PNAME_LN, BLANK, STRING, LANGTAG, INTEGER, DECIMAL, DOUBLE, TRUE, FALSE, IS_A}
 use Rattle.vkg_turtle.specs.declared.lexeme.Word.{Word}
 use Rattle.vkg_turtle.specs.declared.lexeme.Word.TheVariants.{Sign, Reference, Name, Label, Quoted, Tag, Integer, Decimal, Double, Boolean, IsA}
 use Rattle.vkg_turtle.specs.declared.lexeme.Lexeme.{Lexeme}
@@ -28,21 +29,19 @@ inside token front back = between token front (length token - back)
 abbrev pub name_in : List ℕ → Word
 name_in token = Name (before_first (λ b. b == 58) token) (local_meant (after_first (λ b. b == 58) token))
 
--- RDF 1.1 Turtle, 6.5: what a token says, by its kind and its bytes. 9 is `a`, 11 and 12 are `true` and `false`, 15 IRIREF,
--- 16 PNAME_NS, 17 PNAME_LN, 18 BLANK_NODE_LABEL, 19 a string, 20 LANGTAG, kept in lower case (RDF 1.1 Concepts, 3.3), 21 INTEGER,
--- 22 DECIMAL, 23 DOUBLE
+-- RDF 1.1 Turtle, 6.5: what a token says, by its kind and its bytes; a language tag is kept in lower case (RDF 1.1 Concepts, 3.3)
 abbrev pub word_of : ℕ → List ℕ → Word
 word_of kind token =
-    if kind == 15 then Reference (text_meant (inside token 1 1))
-    else if (kind == 16) || (kind == 17) then name_in token
-    else if kind == 18 then Label (inside token 2 0)
-    else if kind == 19 then Quoted (text_meant (inside token (quotes token) (quotes token)))
-    else if kind == 20 then Tag (str_to_ascii_lowercase (inside token 1 0))
-    else if kind == 21 then Integer token
-    else if kind == 22 then Decimal token
-    else if kind == 23 then Double token
-    else if (kind == 11) || (kind == 12) then Boolean token
-    else if kind == 9 then IsA
+    if kind == IRIREF then Reference (text_meant (inside token 1 1))
+    else if (kind == PNAME_NS) || (kind == PNAME_LN) then name_in token
+    else if kind == BLANK then Label (inside token 2 0)
+    else if kind == STRING then Quoted (text_meant (inside token (quotes token) (quotes token)))
+    else if kind == LANGTAG then Tag (str_to_ascii_lowercase (inside token 1 0))
+    else if kind == INTEGER then Integer token
+    else if kind == DECIMAL then Decimal token
+    else if kind == DOUBLE then Double token
+    else if (kind == TRUE) || (kind == FALSE) then Boolean token
+    else if kind == IS_A then IsA
     else Sign
 
 abbrev pub lexeme_of : List ℕ → Token → Lexeme

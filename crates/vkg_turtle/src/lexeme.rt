@@ -6,7 +6,7 @@ ghost use Rattle.vkg_turtle.specs.Words.{is_boundary, between, quotes, inside, n
 use crate::escape::{local_meant, text_meant};
 use std::alloc::Global;
 use vkg_base::{Memory, Text};
-use vkg_tokens::Token;
+use vkg_tokens::{Token, turtle_kinds as kinds};
 
 /// What a token says by itself.
 #[derive(Drop)]
@@ -105,19 +105,19 @@ pub fn word_of(alloc: Global, kind: usize, token: &str) -> Result<Word, Memory>
     ensures { IfOk result (λ w. w ≡ word_of kind token.now) }
 {
     match kind {
-        15 => Ok(Word::Reference(text_meant(alloc, inside(token, 1, 1))?)),
-        16 | 17 => name_in(alloc, token),
-        18 => Ok(Word::Label(Text::new(alloc, inside(token, 2, 0))?)),
-        19 => {
+        kinds::IRIREF => Ok(Word::Reference(text_meant(alloc, inside(token, 1, 1))?)),
+        kinds::PNAME_NS | kinds::PNAME_LN => name_in(alloc, token),
+        kinds::BLANK => Ok(Word::Label(Text::new(alloc, inside(token, 2, 0))?)),
+        kinds::STRING => {
             let quotes = quotes(token);
             Ok(Word::Quoted(text_meant(alloc, inside(token, quotes, quotes))?))
         }
-        20 => Ok(Word::Tag(lowered(alloc, inside(token, 1, 0))?)),
-        21 => Ok(Word::Integer(Text::new(alloc, token)?)),
-        22 => Ok(Word::Decimal(Text::new(alloc, token)?)),
-        23 => Ok(Word::Double(Text::new(alloc, token)?)),
-        11 | 12 => Ok(Word::Boolean(Text::new(alloc, token)?)),
-        9 => Ok(Word::IsA),
+        kinds::LANGTAG => Ok(Word::Tag(lowered(alloc, inside(token, 1, 0))?)),
+        kinds::INTEGER => Ok(Word::Integer(Text::new(alloc, token)?)),
+        kinds::DECIMAL => Ok(Word::Decimal(Text::new(alloc, token)?)),
+        kinds::DOUBLE => Ok(Word::Double(Text::new(alloc, token)?)),
+        kinds::TRUE | kinds::FALSE => Ok(Word::Boolean(Text::new(alloc, token)?)),
+        kinds::IS_A => Ok(Word::IsA),
         _ => Ok(Word::Sign),
     }
 }

@@ -19,6 +19,7 @@ mod prefixes;
 mod reading;
 mod repeats;
 mod role;
+mod symbols;
 mod triple;
 
 pub use bad_place::first_bad;

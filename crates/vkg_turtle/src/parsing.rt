@@ -13,7 +13,8 @@ use crate::role::Role;
 use std::alloc::Global;
 use vkg_base::Memory;
 use vkg_grammar::{Grammar, Note, ParseFault, Rule, parse, role_in, start_of};
-use vkg_tokens::{Lang, Token, TokensError, tokens};
+use vkg_tokens::turtle_kinds::KIND_COUNT;
+use vkg_tokens::{Lang, Token, TokensError, tokens, turtle_kinds as kinds};
 
 fn meanings() -> &'static [Role]
     ensures { result.now ≡ ROLES }
@@ -66,9 +67,9 @@ fn rules() -> &'static [Rule]
     &TURTLE
 }
 
-const OPENERS: [usize; 2] = [5, 13];
+const OPENERS: [usize; 2] = [kinds::OPEN_BRACKET, kinds::OPEN];
 
-const CLOSERS: [usize; 2] = [6, 14];
+const CLOSERS: [usize; 2] = [kinds::CLOSE_BRACKET, kinds::CLOSE];
 
 fn openers() -> &'static [usize]
     ensures { result.now ≡ OPENERS }
@@ -84,12 +85,12 @@ fn closers() -> &'static [usize]
 
 // The notes of the derivation of these tokens.
 fn notes_of(alloc: Global, tokens: &[Token]) -> Result<Vec<Note>, ParseFault>
-    requires { AreBelow 25 tokens.now }
+    requires { AreBelow KIND_COUNT tokens.now }
     ensures shallow { OnOk result (IsShallow turtle (kinds_of tokens.now)) }
     ensures text { IfOk result (λ notes. IsTheText TURTLE (kinds_of tokens.now) notes.items) }
     ensures fails { IfErr result (Fails turtle (kinds_of tokens.now)) }
 {
-    let grammar = Grammar::with_limit(rules(), 25, openers(), closers(), 64);
+    let grammar = Grammar::with_limit(rules(), KIND_COUNT, openers(), closers(), 64);
     parse(alloc, &grammar, tokens)
 }
 

@@ -1,5 +1,6 @@
 use Rattle.std.proofs.Common.{Ok, ap, sym, subst, ◌∙◌}
 use Rattle.vkg_grammar.specs.Kinds.{AreBelow}
+use Rattle.vkg_tokens.specs.declared.sparql_kinds.TheConstants.{KIND_COUNT}
 use Rattle.vkg_sparql.specs.declared.fault.QueryError.TheVariants.{Fault}
 use Rattle.vkg_sparql.specs.Reading.{fault}
 use Rattle.vkg_sparql.proofs.Failing.{no_token_named}
@@ -9,7 +10,7 @@ pub read_cut-requires-clause-cut : goal.read_cut-requires-clause-cut
 read_cut-requires-clause-cut c = c.in-Ok.ensures.ok ∙ ap Ok (sym c.deref.ensures.value)
 
 pub read_cut-requires-clause-kinds : goal.read_cut-requires-clause-kinds
-read_cut-requires-clause-kinds c = subst (AreBelow 61) (sym c.deref.ensures.value) c.in-Ok.ensures.kinds
+read_cut-requires-clause-kinds c = subst (AreBelow KIND_COUNT) (sym c.deref.ensures.value) c.in-Ok.ensures.kinds
 
 pub returns-in-Err-LexFault-clause-err : goal.returns-in-Err-LexFault-clause-err
 returns-in-Err-LexFault-clause-err c =

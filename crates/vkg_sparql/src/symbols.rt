@@ -1,0 +1,505 @@
+//! The symbols of the grammar of queries: printed from tools/sparql.grammar by tools/grammar_table.py.
+
+/// `query = { BASE IRIREF | PREFIX PNAME_NS IRIREF } SELECT [ DISTINCT | REDUCED ] selection [ WHERE ] group`
+pub const QUERY: usize = 0;
+
+/// `BASE`
+pub const TOKEN_BASE: usize = 1;
+
+/// `IRIREF`
+pub const TOKEN_IRIREF: usize = 2;
+
+/// `BASE IRIREF`
+pub const QUERY_1: usize = 3;
+
+/// `PREFIX`
+pub const TOKEN_PREFIX: usize = 4;
+
+/// `PNAME_NS`
+pub const TOKEN_PNAME_NS: usize = 5;
+
+/// `PNAME_NS IRIREF`
+pub const QUERY_2: usize = 6;
+
+/// `PREFIX PNAME_NS IRIREF`
+pub const QUERY_3: usize = 7;
+
+/// `BASE IRIREF | PREFIX PNAME_NS IRIREF`
+pub const QUERY_4: usize = 8;
+
+/// `{ BASE IRIREF | PREFIX PNAME_NS IRIREF }`
+pub const QUERY_5: usize = 9;
+
+/// `SELECT`
+pub const TOKEN_SELECT: usize = 10;
+
+/// `DISTINCT`
+pub const TOKEN_DISTINCT: usize = 11;
+
+/// `REDUCED`
+pub const TOKEN_REDUCED: usize = 12;
+
+/// `DISTINCT | REDUCED`
+pub const QUERY_6: usize = 13;
+
+/// `[ DISTINCT | REDUCED ]`
+pub const QUERY_7: usize = 14;
+
+/// `selection = VAR { VAR } | "*"`
+pub const SELECTION: usize = 15;
+
+/// `VAR`
+pub const TOKEN_VAR: usize = 16;
+
+/// `{ VAR }`
+pub const SELECTION_1: usize = 17;
+
+/// `VAR { VAR }`
+pub const SELECTION_2: usize = 18;
+
+/// `"*"`
+pub const TOKEN_STAR: usize = 19;
+
+/// `WHERE`
+pub const TOKEN_WHERE: usize = 20;
+
+/// `[ WHERE ]`
+pub const QUERY_8: usize = 21;
+
+/// `group = "{" [ block ] { part [ "." ] [ block ] } "}"`
+pub const GROUP: usize = 22;
+
+/// `"{"`
+pub const TOKEN_OPEN_BRACE: usize = 23;
+
+/// `block = same [ "." [ block ] ]`
+pub const BLOCK: usize = 24;
+
+/// `same = item plist | "[" ( "]" plist | plist "]" [ plist ] )`
+pub const SAME: usize = 25;
+
+/// `item = VAR | iri | BLANK | literal`
+pub const ITEM: usize = 26;
+
+/// `iri = IRIREF | PNAME_LN | PNAME_NS`
+pub const IRI: usize = 27;
+
+/// `PNAME_LN`
+pub const TOKEN_PNAME_LN: usize = 28;
+
+/// `PNAME_LN | PNAME_NS`
+pub const IRI_FROM_2: usize = 29;
+
+/// `BLANK`
+pub const TOKEN_BLANK: usize = 30;
+
+/// `literal = STRING [ LANGTAG | "^^" iri ] | INTEGER | DECIMAL | true | false`
+pub const LITERAL: usize = 31;
+
+/// `STRING`
+pub const TOKEN_STRING: usize = 32;
+
+/// `LANGTAG`
+pub const TOKEN_LANGTAG: usize = 33;
+
+/// `"^^"`
+pub const TOKEN_CARETS: usize = 34;
+
+/// `"^^" iri`
+pub const LITERAL_1: usize = 35;
+
+/// `LANGTAG | "^^" iri`
+pub const LITERAL_2: usize = 36;
+
+/// `[ LANGTAG | "^^" iri ]`
+pub const LITERAL_3: usize = 37;
+
+/// `STRING [ LANGTAG | "^^" iri ]`
+pub const LITERAL_4: usize = 38;
+
+/// `INTEGER`
+pub const TOKEN_INTEGER: usize = 39;
+
+/// `DECIMAL`
+pub const TOKEN_DECIMAL: usize = 40;
+
+/// `true`
+pub const TOKEN_TRUE: usize = 41;
+
+/// `false`
+pub const TOKEN_FALSE: usize = 42;
+
+/// `true | false`
+pub const LITERAL_FROM_4: usize = 43;
+
+/// `DECIMAL | true | false`
+pub const LITERAL_FROM_3: usize = 44;
+
+/// `INTEGER | DECIMAL | true | false`
+pub const LITERAL_FROM_2: usize = 45;
+
+/// `BLANK | literal`
+pub const ITEM_FROM_3: usize = 46;
+
+/// `iri | BLANK | literal`
+pub const ITEM_FROM_2: usize = 47;
+
+/// `plist = verb olist { ";" [ verb olist ] }`
+pub const PLIST: usize = 48;
+
+/// `verb = VAR | iri | a`
+pub const VERB: usize = 49;
+
+/// `a`
+pub const TOKEN_IS_A: usize = 50;
+
+/// `iri | a`
+pub const VERB_FROM_2: usize = 51;
+
+/// `olist = object { "," object }`
+pub const OLIST: usize = 52;
+
+/// `object = item | "[" [ plist ] "]"`
+pub const OBJECT: usize = 53;
+
+/// `"["`
+pub const TOKEN_OPEN_BRACKET: usize = 54;
+
+/// `[ plist ]`
+pub const OBJECT_1: usize = 55;
+
+/// `"]"`
+pub const TOKEN_CLOSE_BRACKET: usize = 56;
+
+/// `[ plist ] "]"`
+pub const OBJECT_2: usize = 57;
+
+/// `"[" [ plist ] "]"`
+pub const OBJECT_3: usize = 58;
+
+/// `","`
+pub const TOKEN_COMMA: usize = 59;
+
+/// `"," object`
+pub const OLIST_1: usize = 60;
+
+/// `{ "," object }`
+pub const OLIST_2: usize = 61;
+
+/// `";"`
+pub const TOKEN_SEMICOLON: usize = 62;
+
+/// `verb olist`
+pub const PLIST_1: usize = 63;
+
+/// `[ verb olist ]`
+pub const PLIST_2: usize = 64;
+
+/// `";" [ verb olist ]`
+pub const PLIST_3: usize = 65;
+
+/// `{ ";" [ verb olist ] }`
+pub const PLIST_4: usize = 66;
+
+/// `olist { ";" [ verb olist ] }`
+pub const PLIST_5: usize = 67;
+
+/// `item plist`
+pub const SAME_1: usize = 68;
+
+/// `"]" plist`
+pub const SAME_2: usize = 69;
+
+/// `"]" [ plist ]`
+pub const SAME_3: usize = 70;
+
+/// `plist "]" [ plist ]`
+pub const SAME_4: usize = 71;
+
+/// `"]" plist | plist "]" [ plist ]`
+pub const SAME_5: usize = 72;
+
+/// `"[" ( "]" plist | plist "]" [ plist ] )`
+pub const SAME_6: usize = 73;
+
+/// `"."`
+pub const TOKEN_DOT: usize = 74;
+
+/// `[ block ]`
+pub const BLOCK_1: usize = 75;
+
+/// `"." [ block ]`
+pub const BLOCK_2: usize = 76;
+
+/// `[ "." [ block ] ]`
+pub const BLOCK_3: usize = 77;
+
+/// `[ block ]`
+pub const GROUP_1: usize = 78;
+
+/// `part = OPTIONAL group | GRAPH name group | FILTER filter | group { UNION group }`
+pub const PART: usize = 79;
+
+/// `OPTIONAL`
+pub const TOKEN_OPTIONAL: usize = 80;
+
+/// `OPTIONAL group`
+pub const PART_1: usize = 81;
+
+/// `GRAPH`
+pub const TOKEN_GRAPH: usize = 82;
+
+/// `name = VAR | iri`
+pub const NAME: usize = 83;
+
+/// `name group`
+pub const PART_2: usize = 84;
+
+/// `GRAPH name group`
+pub const PART_3: usize = 85;
+
+/// `FILTER`
+pub const TOKEN_FILTER: usize = 86;
+
+/// `filter = bracketed | call`
+pub const FILTER: usize = 87;
+
+/// `bracketed = "(" or ")"`
+pub const BRACKETED: usize = 88;
+
+/// `"("`
+pub const TOKEN_OPEN: usize = 89;
+
+/// `or = and { "||" and }`
+pub const OR: usize = 90;
+
+/// `and = rel { "&&" rel }`
+pub const AND: usize = 91;
+
+/// `rel = unary [ sign unary ]`
+pub const REL: usize = 92;
+
+/// `unary = [ "!" ] primary`
+pub const UNARY: usize = 93;
+
+/// `"!"`
+pub const TOKEN_NOT: usize = 94;
+
+/// `[ "!" ]`
+pub const UNARY_1: usize = 95;
+
+/// `primary = bracketed | call | VAR | iri | literal`
+pub const PRIMARY: usize = 96;
+
+/// `call = BOUND "(" VAR ")" | SAMETERM "(" or "," or ")" | test bracketed`
+pub const CALL: usize = 97;
+
+/// `BOUND`
+pub const TOKEN_BOUND: usize = 98;
+
+/// `")"`
+pub const TOKEN_CLOSE: usize = 99;
+
+/// `VAR ")"`
+pub const CALL_1: usize = 100;
+
+/// `"(" VAR ")"`
+pub const CALL_2: usize = 101;
+
+/// `BOUND "(" VAR ")"`
+pub const CALL_3: usize = 102;
+
+/// `SAMETERM`
+pub const TOKEN_SAMETERM: usize = 103;
+
+/// `or ")"`
+pub const CALL_4: usize = 104;
+
+/// `"," or ")"`
+pub const CALL_5: usize = 105;
+
+/// `or "," or ")"`
+pub const CALL_6: usize = 106;
+
+/// `"(" or "," or ")"`
+pub const CALL_7: usize = 107;
+
+/// `SAMETERM "(" or "," or ")"`
+pub const CALL_8: usize = 108;
+
+/// `test = ISIRI | ISURI | ISBLANK | ISLITERAL | ISNUMERIC | STR | LANG | DATATYPE`
+pub const TEST: usize = 109;
+
+/// `ISIRI`
+pub const TOKEN_ISIRI: usize = 110;
+
+/// `ISURI`
+pub const TOKEN_ISURI: usize = 111;
+
+/// `ISBLANK`
+pub const TOKEN_ISBLANK: usize = 112;
+
+/// `ISLITERAL`
+pub const TOKEN_ISLITERAL: usize = 113;
+
+/// `ISNUMERIC`
+pub const TOKEN_ISNUMERIC: usize = 114;
+
+/// `STR`
+pub const TOKEN_STR: usize = 115;
+
+/// `LANG`
+pub const TOKEN_LANG: usize = 116;
+
+/// `DATATYPE`
+pub const TOKEN_DATATYPE: usize = 117;
+
+/// `LANG | DATATYPE`
+pub const TEST_FROM_7: usize = 118;
+
+/// `STR | LANG | DATATYPE`
+pub const TEST_FROM_6: usize = 119;
+
+/// `ISNUMERIC | STR | LANG | DATATYPE`
+pub const TEST_FROM_5: usize = 120;
+
+/// `ISLITERAL | ISNUMERIC | STR | LANG | DATATYPE`
+pub const TEST_FROM_4: usize = 121;
+
+/// `ISBLANK | ISLITERAL | ISNUMERIC | STR | LANG | DATATYPE`
+pub const TEST_FROM_3: usize = 122;
+
+/// `ISURI | ISBLANK | ISLITERAL | ISNUMERIC | STR | LANG | DATATYPE`
+pub const TEST_FROM_2: usize = 123;
+
+/// `test bracketed`
+pub const CALL_9: usize = 124;
+
+/// `SAMETERM "(" or "," or ")" | test bracketed`
+pub const CALL_FROM_2: usize = 125;
+
+/// `iri | literal`
+pub const PRIMARY_FROM_4: usize = 126;
+
+/// `VAR | iri | literal`
+pub const PRIMARY_FROM_3: usize = 127;
+
+/// `call | VAR | iri | literal`
+pub const PRIMARY_FROM_2: usize = 128;
+
+/// `sign = "=" | "!=" | "<" | ">" | "<=" | ">="`
+pub const SIGN: usize = 129;
+
+/// `"="`
+pub const TOKEN_EQUAL: usize = 130;
+
+/// `"!="`
+pub const TOKEN_NOT_EQUAL: usize = 131;
+
+/// `"<"`
+pub const TOKEN_LESS: usize = 132;
+
+/// `">"`
+pub const TOKEN_GREATER: usize = 133;
+
+/// `"<="`
+pub const TOKEN_LESS_EQUAL: usize = 134;
+
+/// `">="`
+pub const TOKEN_GREATER_EQUAL: usize = 135;
+
+/// `"<=" | ">="`
+pub const SIGN_FROM_5: usize = 136;
+
+/// `">" | "<=" | ">="`
+pub const SIGN_FROM_4: usize = 137;
+
+/// `"<" | ">" | "<=" | ">="`
+pub const SIGN_FROM_3: usize = 138;
+
+/// `"!=" | "<" | ">" | "<=" | ">="`
+pub const SIGN_FROM_2: usize = 139;
+
+/// `sign unary`
+pub const REL_1: usize = 140;
+
+/// `[ sign unary ]`
+pub const REL_2: usize = 141;
+
+/// `"&&"`
+pub const TOKEN_AND: usize = 142;
+
+/// `"&&" rel`
+pub const AND_1: usize = 143;
+
+/// `{ "&&" rel }`
+pub const AND_2: usize = 144;
+
+/// `"||"`
+pub const TOKEN_OR: usize = 145;
+
+/// `"||" and`
+pub const OR_1: usize = 146;
+
+/// `{ "||" and }`
+pub const OR_2: usize = 147;
+
+/// `or ")"`
+pub const BRACKETED_1: usize = 148;
+
+/// `FILTER filter`
+pub const PART_4: usize = 149;
+
+/// `UNION`
+pub const TOKEN_UNION: usize = 150;
+
+/// `UNION group`
+pub const PART_5: usize = 151;
+
+/// `{ UNION group }`
+pub const PART_6: usize = 152;
+
+/// `group { UNION group }`
+pub const PART_7: usize = 153;
+
+/// `FILTER filter | group { UNION group }`
+pub const PART_FROM_3: usize = 154;
+
+/// `GRAPH name group | FILTER filter | group { UNION group }`
+pub const PART_FROM_2: usize = 155;
+
+/// `[ "." ]`
+pub const GROUP_2: usize = 156;
+
+/// `[ "." ] [ block ]`
+pub const GROUP_3: usize = 157;
+
+/// `part [ "." ] [ block ]`
+pub const GROUP_4: usize = 158;
+
+/// `{ part [ "." ] [ block ] }`
+pub const GROUP_5: usize = 159;
+
+/// `"}"`
+pub const TOKEN_CLOSE_BRACE: usize = 160;
+
+/// `{ part [ "." ] [ block ] } "}"`
+pub const GROUP_6: usize = 161;
+
+/// `[ block ] { part [ "." ] [ block ] } "}"`
+pub const GROUP_7: usize = 162;
+
+/// `[ WHERE ] group`
+pub const QUERY_9: usize = 163;
+
+/// `selection [ WHERE ] group`
+pub const QUERY_10: usize = 164;
+
+/// `[ DISTINCT | REDUCED ] selection [ WHERE ] group`
+pub const QUERY_11: usize = 165;
+
+/// `SELECT [ DISTINCT | REDUCED ] selection [ WHERE ] group`
+pub const QUERY_12: usize = 166;
+
+/// How many symbols there are.
+pub const SYMBOL_COUNT: usize = 167;
