@@ -50,6 +50,9 @@ fn write_until<W: Write>(writer: &mut W, piece: &[u8]) -> usize
 {
     let mut done = 0;
     for _ in 0..piece.len() {
+        if done == piece.len() {
+            break;
+        }
         match writer.write(&piece[done..]) {
             Ok(0) | Err(_) => break,
             Ok(count) => done += count,

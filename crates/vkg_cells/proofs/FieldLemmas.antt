@@ -8,8 +8,8 @@ use Rattle.vkg_cells.specs.declared.cell.Cell.TheVariants as cell
 use Rattle.vkg_cells.specs.declared.cell.FieldFault.TheVariants as field
 use Rattle.vkg_cells.specs.declared.cell.SqlType.{SqlType}
 use Rattle.vkg_cells.specs.declared.cell.SqlType.TheVariants as kind
-use Rattle.vkg_cells.specs.Field.{cell_of_field, is_true_word, is_false_word, where_field, where_number, where_stamp, where_octets}
-use Rattle.vkg_cells.specs.Moment.{is_date, stamp_form}
+use Rattle.vkg_cells.specs.Field.{cell_of_field, is_true_word, is_false_word, where_field, where_number, where_stamp, where_time, where_octets}
+use Rattle.vkg_cells.specs.Moment.{is_date, stamp_form, time_form}
 use Rattle.vkg_cells.specs.Number.{is_integer, is_decimal, canonical, width}
 use Rattle.vkg_cells.specs.Order.{family, family_of}
 
@@ -28,6 +28,10 @@ pub stamp_ok : (o : Option (List ℕ)) (c : Cell) → where_stamp o ≡ Ok c →
 stamp_ok None c e = cc
 stamp_ok (Some form) c e = (form, refl, ok_same (cell.Stamp form) c e)
 
+pub time_ok : (o : Option (List ℕ)) (c : Cell) → where_time o ≡ Ok c → (form : List ℕ) × (o ≡ Some form) × (cell.Time form ≡ c)
+time_ok None c e = cc
+time_ok (Some form) c e = (form, refl, ok_same (cell.Time form) c e)
+
 pub octets_ok : (r : Result (List ℕ) FromHexError) (c : Cell) → where_octets r ≡ Ok c → (octets : List ℕ) × (cell.Bin (encode_upper octets) ≡ c)
 octets_ok (Ok octets) c e = (octets, ok_same (cell.Bin (encode_upper octets)) c e)
 octets_ok (Err f) c e = cc
@@ -41,4 +45,5 @@ family_is kind.Bool c text e = ap family_of (sym (field_ok (is_true_word text ||
 family_is kind.Date c text e = ap family_of (sym (field_ok (is_date text) (cell.Date text) c e).1)
 family_is kind.Stamp c text e = ap family_of (sym (stamp_ok (stamp_form text) c e).2)
 family_is kind.Bin c text e = ap family_of (sym (octets_ok (decode_of text) c e).1)
+family_is kind.Time c text e = ap family_of (sym (time_ok (time_form text) c e).2)
 family_is kind.Term c text e = cc

@@ -14,14 +14,15 @@ use Rattle.vkg_cells.specs.declared.cell.SqlType.{SqlType}
 use Rattle.vkg_cells.specs.declared.cell.SqlType.TheVariants as kind
 use Rattle.vkg_cells.specs.declared.cell.Cell.{Cell}
 use Rattle.vkg_cells.specs.declared.cell.Cell.TheVariants as cell
-use Rattle.vkg_cells.specs.Field.{cell_of_field, is_true_word, where_number, where_octets, where_stamp}
+use Rattle.vkg_cells.specs.Field.{cell_of_field, is_true_word, where_number, where_octets, where_stamp, where_time}
 use Rattle.vkg_cells.specs.Form.{IsOfKind, bool_form, lexical_form}
 use Rattle.vkg_cells.specs.Laws.{HasOwnForm, HasValueOf, IsByForm, IsEqualWhereSame, IsReadBack}
-use Rattle.vkg_cells.specs.Moment.{is_date, stamp_form}
+use Rattle.vkg_cells.specs.Moment.{is_date, stamp_form, time_form}
 use Rattle.vkg_cells.specs.Number.{canonical, is_decimal, is_integer, width}
 use Rattle.vkg_cells.specs.Order.{HasNumber, same}
 use Rattle.vkg_cells.proofs.CanonicalLemmas.{integer-decimal, integer-read, is-read}
 use Rattle.vkg_cells.proofs.StampLemmas.{stamp-again}
+use Rattle.vkg_cells.proofs.TimeLemmas.{time-again}
 use Rattle.vkg_cells.proofs.SameLemmas.{one-form, one-value}
 use Rattle.vkg_cells.proofs.OrderLemmas.{number-total}
 use Rattle.vkg_cells.proofs.ValueLemmas.{then-equal}
@@ -59,6 +60,7 @@ by-form (cell.Bool a) (cell.Bool b) e h = by-bytes (bool_form a) (bool_form b)
 by-form (cell.Date a) (cell.Date b) e h = by-bytes a b
 by-form (cell.Stamp a) (cell.Stamp b) e h = by-bytes a b
 by-form (cell.Bin a) (cell.Bin b) e h = by-bytes a b
+by-form (cell.Time a) (cell.Time b) e h = by-bytes a b
 by-form c d e h = absurd (omega (arith, e))
 
 number-kept : (b : Bool) (text : List ℕ) (c : Cell) → b ≡ true → nat_lt 38 (width text) ≡ false → where_number b text c ≡ Ok c
@@ -84,6 +86,10 @@ read-stamp : (text : List ℕ) (o : Option (List ℕ)) (c : Cell) → stamp_form
 read-stamp text None c h e = absurd (ok_err c BadValue (sym e))
 read-stamp text (Some form) c h e = subst (IsReadBack kind.Stamp) (ok_same (cell.Stamp form) c e) (ap where_stamp (stamp-again text form h))
 
+read-time : (text : List ℕ) (o : Option (List ℕ)) (c : Cell) → time_form text ≡ o → where_time o ≡ Ok c → IsReadBack kind.Time c
+read-time text None c h e = absurd (ok_err c BadValue (sym e))
+read-time text (Some form) c h e = subst (IsReadBack kind.Time) (ok_same (cell.Time form) c e) (ap where_time (time-again text form h))
+
 read-octets : (text : List ℕ) (o : Result (List ℕ) FromHexError) (c : Cell) → decode_of text ≡ o → where_octets o ≡ Ok c → IsReadBack kind.Bin c
 read-octets text (Err f) c h e = absurd (ok_err c BadValue (sym e))
 read-octets text (Ok octets) c h e =
@@ -98,6 +104,7 @@ read-back kind.Bool text c e = let h = field_ok _ _ c e in subst (IsReadBack kin
 read-back kind.Date text c e = let h = field_ok (is_date text) (cell.Date text) c e in subst (IsReadBack kind.Date) h.1 (rw h.0 refl)
 read-back kind.Stamp text c e = read-stamp text (stamp_form text) c refl e
 read-back kind.Bin text c e = read-octets text (decode_of text) c refl e
+read-back kind.Time text c e = read-time text (time_form text) c refl e
 read-back kind.Term text c e = absurd (ok_err c BadValue (sym e))
 
 -- a cell of a kind, whose form there is, is read from that form
@@ -140,6 +147,11 @@ proper kind.Bin text c e = by (decode_of text) e
     by : (o : Result (List ℕ) FromHexError) → where_octets o ≡ Ok c → IsProper c × HasValueOf text c
     by (Err f) g = absurd (ok_err c BadValue (sym g))
     by (Ok octets) g = subst (λ d. IsProper d × HasValueOf text d) (ok_same (cell.Bin (encode_upper octets)) c g) (tt, tt)
+proper kind.Time text c e = by (time_form text) e
+  where
+    by : (o : Option (List ℕ)) → where_time o ≡ Ok c → IsProper c × HasValueOf text c
+    by None f = absurd (ok_err c BadValue (sym f))
+    by (Some form) f = subst (λ d. IsProper d × HasValueOf text d) (ok_same (cell.Time form) c f) (tt, tt)
 proper kind.Term text c e = absurd (ok_err c BadValue (sym e))
 
 proper-of-kind : (k : SqlType) (c : Cell) → IsOfKind k c → IsProper c
@@ -215,6 +227,7 @@ proper-same (cell.Bool a) (cell.Bool b) p q = bool-same a b
 proper-same (cell.Date a) (cell.Date b) p q = text-same a b
 proper-same (cell.Stamp a) (cell.Stamp b) p q = text-same a b
 proper-same (cell.Bin a) (cell.Bin b) p q = text-same a b
+proper-same (cell.Time a) (cell.Time b) p q = text-same a b
 proper-same (cell.Term s) (cell.Term t) p q = term-same s t
 proper-same c d p q = (λ e. cc, λ e. cc)
 

@@ -14,7 +14,7 @@ use Rattle.vkg_lists.proofs.Bools.{and_parts}
 use Rattle.vkg_lists.proofs.Each.{below_range}
 use Rattle.vkg_lists.proofs.Results.{some_if, some_then}
 use Rattle.vkg_cells.specs.Number.{is_digits, after_point, without_trailing_zeros}
-use Rattle.vkg_cells.specs.Moment.{two_digits_at, day_of_text, clock_of_text, is_date, is_clock, cut, form_if, form_at, form_of_parts, stamp_form}
+use Rattle.vkg_cells.specs.Moment.{two_digits_at, day_of_text, clock_of_text, is_date, is_clock, cut, form_if, form_at, form_of_parts, stamp_form, time_if, time_at, time_form}
 use Rattle.vkg_cells.proofs.Digits.{after_ascii, digits-some, digits-without-trailing}
 
 small_digit : (b : ℕ) → is_ascii_digit b ≡ true → b < 128
@@ -123,3 +123,36 @@ stamp_made text form e = made_of (option_or (cut 84 text) (cut 32 text)) form e
 
 pub stamp_ascii : (text form : List ℕ) → stamp_form text ≡ Some form → IsAscii form
 stamp_ascii text form e = let m = stamp_made text form e in subst IsAscii (sym m.is) (form_ascii m.date m.clock m.fraction m.is_date m.is_clock m.is_digits)
+
+-- what `time_form` gives is made of a time of day and digits
+pub record MadeTime (form : List ℕ) : Type 0 where
+  pub clock : List ℕ
+  pub fraction : List ℕ
+  pub is_clock : is_clock clock ≡ true
+  pub is_digits : AllDigits 10 fraction
+  pub is : form ≡ clock ++ after_point fraction
+
+made_time : (b : Bool) (clock fraction form : List ℕ) → (b ≡ true → (is_clock clock ≡ true) × AllDigits 10 fraction) → time_if b clock fraction ≡ Some form → MadeTime form
+made_time false clock fraction form h e = cc
+made_time true clock fraction form h e = record {
+  clock = clock;
+  fraction = without_trailing_zeros fraction;
+  is_clock = (h refl).0;
+  is_digits = digits-without-trailing fraction (h refl).1;
+  is = same_Some _ _ (sym e);
+}
+
+made_time_at : (text : List ℕ) (p : Option (List ℕ × List ℕ)) (form : List ℕ) → time_at text p ≡ Some form → MadeTime form
+made_time_at text None form e = made_time (is_clock text) text [] form (λ b. (b, tt)) e
+made_time_at text (Some p) form e = made_time (is_clock p.0 && is_digits p.1 && nat_le (length p.1) 9) p.0 p.1 form (λ b.
+    let h = and_parts (is_clock p.0 && is_digits p.1) (nat_le (length p.1) 9) b in
+    let g = and_parts (is_clock p.0) (is_digits p.1) h.0 in
+    (g.0, digits-some p.1 g.1)) e
+
+pub time_made : (text form : List ℕ) → time_form text ≡ Some form → MadeTime form
+time_made text form e = made_time_at text (cut 46 text) form e
+
+pub time_ascii : (text form : List ℕ) → time_form text ≡ Some form → IsAscii form
+time_ascii text form e =
+    let m = time_made text form e in
+    subst IsAscii (sym m.is) (IsAscii-append m.clock (after_point m.fraction) (clock_fixed m.clock m.is_clock).ascii (after_ascii m.fraction m.is_digits))

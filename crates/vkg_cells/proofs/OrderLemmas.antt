@@ -100,6 +100,7 @@ text_of (cell.Text a) = a
 text_of (cell.Date a) = a
 text_of (cell.Stamp a) = a
 text_of (cell.Bin a) = a
+text_of (cell.Time a) = a
 text_of c = []
 
 abbrev number_in : Cell → List ℕ
@@ -133,6 +134,7 @@ order-parts (cell.Bool a) (cell.Bool b) = then-equal (bool_cmp a b)
 order-parts (cell.Date a) (cell.Date b) = then-equal (bytes_cmp a b)
 order-parts (cell.Stamp a) (cell.Stamp b) = then-equal (bytes_cmp a b)
 order-parts (cell.Bin a) (cell.Bin b) = then-equal (bytes_cmp a b)
+order-parts (cell.Time a) (cell.Time b) = then-equal (bytes_cmp a b)
 order-parts cell.Null cell.Null = refl
 order-parts (cell.Term s) (cell.Term t) = refl
 order-parts c d = refl

@@ -6,6 +6,7 @@ ghost use Rattle.vkg_cells.specs.Number.{is_decimal, number_cmp, scale, size};
 ghost use Rattle.vkg_cells.specs.Order.{HasNumber, order as order_of};
 
 use crate::cell::Cell;
+use crate::cell_ref::{CellRef, Lent};
 use crate::compare::family_of;
 use crate::number::{fraction, is_below_zero, trim_leading_zeros, trim_trailing_zeros, whole};
 use crate::term_order::order_terms;
@@ -22,25 +23,37 @@ pub fn order(a: &Cell, b: &Cell) -> Ordering
     ensures total { IsTotalOrder order_of }
     ensures equal { IsEqualWhereSame a.now b.now result }
 {
-    order_cells(a, b)
+    order_ref(&CellRef::of(a), &CellRef::of(b))
 }
 
-fn order_cells(a: &Cell, b: &Cell) -> Ordering
+/// The order of two lent cells, as `order` has it.
+pub fn order_ref(a: &CellRef<'_>, b: &CellRef<'_>) -> Ordering
+    requires first { HasNumber a.now }
+    requires second { HasNumber b.now }
+    ensures value { result ≡ order_of a.now b.now }
+    ensures total { IsTotalOrder order_of }
+    ensures equal { IsEqualWhereSame a.now b.now result }
+{
+    order_lent(a, b)
+}
+
+fn order_lent(a: &CellRef<'_>, b: &CellRef<'_>) -> Ordering
     requires first { HasNumber a.now }
     requires second { HasNumber b.now }
     ensures { result ≡ order_of a.now b.now }
 {
-    match (a, b) {
-        (Cell::Text(x), Cell::Text(y)) => x.as_str().cmp(&y.as_str()),
-        (Cell::Int(x), Cell::Int(y)) => order_numbers(x.as_str(), y.as_str()),
-        (Cell::Int(x), Cell::Dec(y)) => order_numbers(x.as_str(), y.as_str()),
-        (Cell::Dec(x), Cell::Int(y)) => order_numbers(x.as_str(), y.as_str()),
-        (Cell::Dec(x), Cell::Dec(y)) => order_numbers(x.as_str(), y.as_str()),
-        (Cell::Bool(x), Cell::Bool(y)) => x.cmp(y),
-        (Cell::Date(x), Cell::Date(y)) => x.as_str().cmp(&y.as_str()),
-        (Cell::Stamp(x), Cell::Stamp(y)) => x.as_str().cmp(&y.as_str()),
-        (Cell::Bin(x), Cell::Bin(y)) => x.as_str().cmp(&y.as_str()),
-        (Cell::Term(x), Cell::Term(y)) => order_terms(x, y),
+    match (a.lent, b.lent) {
+        (Lent::Text(x), Lent::Text(y)) => x.cmp(&y),
+        (Lent::Int(x), Lent::Int(y)) => order_numbers(x, y),
+        (Lent::Int(x), Lent::Dec(y)) => order_numbers(x, y),
+        (Lent::Dec(x), Lent::Int(y)) => order_numbers(x, y),
+        (Lent::Dec(x), Lent::Dec(y)) => order_numbers(x, y),
+        (Lent::Bool(x), Lent::Bool(y)) => x.cmp(&y),
+        (Lent::Date(x), Lent::Date(y)) => x.cmp(&y),
+        (Lent::Stamp(x), Lent::Stamp(y)) => x.cmp(&y),
+        (Lent::Bin(x), Lent::Bin(y)) => x.cmp(&y),
+        (Lent::Time(x), Lent::Time(y)) => x.cmp(&y),
+        (Lent::Term(x), Lent::Term(y)) => order_terms(x, y),
         _ => family_of(a).cmp(&family_of(b)),
     }
 }

@@ -21,6 +21,7 @@ pub fn natural(alloc: Global, kind: SqlType) -> Result<Annotation, Memory>
         SqlType::Date => typed(alloc, "http://www.w3.org/2001/XMLSchema#date"),
         SqlType::Stamp => typed(alloc, "http://www.w3.org/2001/XMLSchema#dateTime"),
         SqlType::Bin => typed(alloc, "http://www.w3.org/2001/XMLSchema#hexBinary"),
+        SqlType::Time => typed(alloc, "http://www.w3.org/2001/XMLSchema#time"),
     }
 }
 

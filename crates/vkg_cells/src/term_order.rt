@@ -36,7 +36,7 @@ fn annotation_kind(term: &Term) -> u8
     }
 }
 
-fn annotation_text(term: &Term) -> &str
+pub fn annotation_text(term: &Term) -> &str
     ensures { result.now ≡ annotation_name (term_annotation term.now) }
 {
     match term {

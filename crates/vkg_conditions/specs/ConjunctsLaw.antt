@@ -44,6 +44,7 @@ known-same (cell.Bool false) = refl
 known-same (cell.Date s) = eq_itself bytes_test s
 known-same (cell.Stamp s) = eq_itself bytes_test s
 known-same (cell.Bin s) = eq_itself bytes_test s
+known-same (cell.Time s) = eq_itself bytes_test s
 known-same (cell.Term t) = term_itself t
 
 negation-known : (b : Bool) → is_known_true (truth_of (truth_cell (not3 (truth_of (cell.Bool b))))) ≡ not b

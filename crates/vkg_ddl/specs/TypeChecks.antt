@@ -19,6 +19,7 @@ kind_named word =
     else if str_eq_ignore_ascii_case word (codes "date") then Some kind.Date
     else if str_eq_ignore_ascii_case word (codes "timestamp") then Some kind.Stamp
     else if list_any (str_eq_ignore_ascii_case word) (codes "binary" ∷ codes "varbinary" ∷ codes "blob" ∷ []) then Some kind.Bin
+    else if str_eq_ignore_ascii_case word (codes "time") then Some kind.Time
     else None
 
 -- the kind of a column whose type is known
@@ -41,6 +42,7 @@ takes_one kind.Text n = nat_le 1 n && nat_le n 2147483647
 takes_one kind.Bin n = nat_le 1 n && nat_le n 2147483647
 takes_one kind.Dec n = nat_le 1 n && nat_le n 38
 takes_one kind.Stamp n = nat_le n 9
+takes_one kind.Time n = nat_le n 9
 takes_one s n = false
 
 abbrev pub takes_two : SqlType → ℕ → ℕ → Bool

@@ -37,6 +37,8 @@ pub fn kind_named(word: &str) -> Option<SqlType>
         Some(SqlType::Stamp)
     } else if is_word(word, "binary") || is_word(word, "varbinary") || is_word(word, "blob") {
         Some(SqlType::Bin)
+    } else if is_word(word, "time") {
+        Some(SqlType::Time)
     } else {
         None
     }

@@ -53,7 +53,7 @@ fn takes_one(kind: SqlType, n: usize) -> bool
     match kind {
         SqlType::Text | SqlType::Bin => 1 <= n && n <= 2147483647,
         SqlType::Dec => 1 <= n && n <= 38,
-        SqlType::Stamp => n <= 9,
+        SqlType::Stamp | SqlType::Time => n <= 9,
         _ => false,
     }
 }

@@ -16,12 +16,12 @@ use Rattle.vkg_cells.specs.declared.cell.Cell.TheVariants as cell
 use Rattle.vkg_cells.specs.Field.{is_true_word, is_false_word}
 use Rattle.vkg_cells.specs.Form.{lexical_form, IsOfKind, natural}
 use Rattle.vkg_cells.specs.Number.{is_integer, is_decimal, width, canonical}
-use Rattle.vkg_cells.specs.Moment.{is_date, stamp_form}
+use Rattle.vkg_cells.specs.Moment.{is_date, stamp_form, time_form}
 use Rattle.vkg_cells.specs.WellTyped.{is_too_wide, is_well_typed, is_xsd_date_time}
 use Rattle.vkg_cells.proofs.CanonicalLemmas.{is-read, integer-decimal, integer-read}
 use Rattle.vkg_cells.proofs.AsciiForms.{bool_ascii, canonical_ascii, octets_ascii}
-use Rattle.vkg_cells.proofs.FieldLemmas.{field_ok, number_ok, octets_ok, stamp_ok}
-use Rattle.vkg_cells.proofs.MomentText.{Made, form_ascii, stamp_made}
+use Rattle.vkg_cells.proofs.FieldLemmas.{field_ok, number_ok, octets_ok, stamp_ok, time_ok}
+use Rattle.vkg_cells.proofs.MomentText.{Made, form_ascii, stamp_made, time_ascii}
 use Rattle.vkg_direct.proofs.Moments.{date_is, form_is}
 use Rattle.vkg_maps.specs.Terms.{literal}
 use Rattle.vkg_maps.specs.declared.data_fault.TermFault.TheVariants.{IllTyped, TooWide}
@@ -79,6 +79,9 @@ formed_stamp form m = record {
   typed = well_typed (xsd (codes "dateTime")) form (ap is_xsd_date_time m.is ∙ form_is m.date m.clock m.fraction m.is_date m.is_clock m.is_digits) refl;
 }
 
+formed_time : (text form : List ℕ) → time_form text ≡ Some form → Formed kind.Time (cell.Time form)
+formed_time text form e = record { form = form; is = refl; spelled = ascii_spelled form (time_ascii text form e); typed = refl }
+
 pub formed : (k : SqlType) (c : Cell) → k ≢ kind.Term → IsOfKind k c → Formed k c
 formed kind.Text c n (text, u, e) = subst (Formed kind.Text) (ok_same (cell.Text text) c e) (record { form = text; is = refl; spelled = scalars-chars text u; typed = refl })
 formed kind.Int c n (text, u, e) = let h = number_ok (is_integer text) text (cell.Int (canonical text)) c e in subst (Formed kind.Int) h.2 (formed_integer text h.0 h.1)
@@ -87,4 +90,5 @@ formed kind.Bool c n (text, u, e) = let h = field_ok (is_true_word text || is_fa
 formed kind.Date c n (text, u, e) = let h = field_ok (is_date text) (cell.Date text) c e in subst (Formed kind.Date) h.1 (formed_date text u h.0)
 formed kind.Stamp c n (text, u, e) = let h = stamp_ok (stamp_form text) c e in subst (Formed kind.Stamp) h.2 (formed_stamp h.0 (stamp_made text h.0 h.1))
 formed kind.Bin c n (text, u, e) = let h = octets_ok (decode_of text) c e in subst (Formed kind.Bin) h.1 (formed_binary h.0)
+formed kind.Time c n (text, u, e) = let h = time_ok (time_form text) c e in subst (Formed kind.Time) h.2 (formed_time text h.0 h.1)
 formed kind.Term c n o = absurd (n refl)

@@ -49,6 +49,7 @@ natural_writable kind.Bool = refl
 natural_writable kind.Date = refl
 natural_writable kind.Stamp = refl
 natural_writable kind.Bin = refl
+natural_writable kind.Time = refl
 natural_writable kind.Term = tt
 
 module _ (base : List ℕ) (iri : AllIri base) (tables : List Table) (table : Table) (is : IsTable tables table) where

@@ -12,7 +12,8 @@ ghost use Rattle.vkg_expr.specs.Value.{holds as holds_on, truth_of, values_of};
 use std::alloc::Global;
 use vkg_base::{Items, Memory};
 use vkg_cells::Cell;
-use vkg_expr::{Expr, eval_cells, eval_each};
+use vkg_eval::{eval_cells, eval_each};
+use vkg_expr::Expr;
 
 pub fn unit(alloc: Global) -> Result<Items<Items<Cell>>, Memory>
     ensures { IfOk result (λ rows. rows ≡ [] ∷ []) }

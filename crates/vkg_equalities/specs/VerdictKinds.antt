@@ -16,7 +16,7 @@ use Rattle.vkg_cells.specs.declared.cell.FieldFault.{FieldFault}
 use Rattle.vkg_cells.specs.Field.{cell_of_field}
 use Rattle.vkg_cells.specs.Form.{lexical_form}
 use Rattle.vkg_cells.specs.Order.{same_form}
-use Rattle.vkg_cells.proofs.FieldLemmas.{field_ok, number_ok, octets_ok, stamp_ok}
+use Rattle.vkg_cells.proofs.FieldLemmas.{field_ok, number_ok, octets_ok, stamp_ok, time_ok}
 use Rattle.vkg_expr.specs.declared.term_expr.Sort.{Sort}
 use Rattle.vkg_expr.specs.declared.term_expr.Sort.TheVariants.{OfIri, OfBlank, OfLit}
 use Rattle.vkg_expr.specs.declared.term_expr.Piece.{Piece}
@@ -47,6 +47,7 @@ field-fits kind.Bool c text e = subst (Fits kind.Bool) (field_ok _ _ c e).1 refl
 field-fits kind.Date c text e = subst (Fits kind.Date) (field_ok _ _ c e).1 refl
 field-fits kind.Stamp c text e = subst (Fits kind.Stamp) (stamp_ok _ c e).2 refl
 field-fits kind.Bin c text e = subst (Fits kind.Bin) (octets_ok _ c e).1 refl
+field-fits kind.Time c text e = subst (Fits kind.Time) (time_ok _ c e).2 refl
 field-fits kind.Term c text e = cc
 
 family_itself : (k : SqlType) → same_family k k ≡ true
@@ -57,6 +58,7 @@ family_itself kind.Bool = refl
 family_itself kind.Date = refl
 family_itself kind.Stamp = refl
 family_itself kind.Bin = refl
+family_itself kind.Time = refl
 family_itself kind.Term = refl
 
 module _ (ks : Kinds) where

@@ -27,6 +27,7 @@ itself kind.Bool = refl
 itself kind.Date = refl
 itself kind.Stamp = refl
 itself kind.Bin = refl
+itself kind.Time = refl
 itself kind.Term = refl
 
 pub common-more : (k : SqlType) (o : Option (List SqlType)) → common (with_first (Some k) o) ≡ then_some (are_all k (with_first (Some k) o)) k

@@ -21,7 +21,8 @@ kind_number kind.Bool = 3
 kind_number kind.Date = 4
 kind_number kind.Stamp = 5
 kind_number kind.Bin = 6
-kind_number kind.Term = 7
+kind_number kind.Time = 7
+kind_number kind.Term = 8
 
 abbrev pub same_kind : SqlType → SqlType → Bool
 same_kind k l = kind_number k == kind_number l
@@ -39,6 +40,7 @@ fits kind.Bool (cell.Bool b) = true
 fits kind.Date (cell.Date text) = true
 fits kind.Stamp (cell.Stamp text) = true
 fits kind.Bin (cell.Bin text) = true
+fits kind.Time (cell.Time text) = true
 fits kind.Term (cell.Term term) = true
 fits k c = false
 

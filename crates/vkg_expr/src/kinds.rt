@@ -15,7 +15,8 @@ fn kind_number(kind: SqlType) -> u8
         SqlType::Date => 4,
         SqlType::Stamp => 5,
         SqlType::Bin => 6,
-        SqlType::Term => 7,
+        SqlType::Time => 7,
+        SqlType::Term => 8,
     }
 }
 
@@ -56,6 +57,7 @@ pub fn fits(kind: SqlType, cell: &Cell) -> bool
         (SqlType::Date, Cell::Date(_)) => true,
         (SqlType::Stamp, Cell::Stamp(_)) => true,
         (SqlType::Bin, Cell::Bin(_)) => true,
+        (SqlType::Time, Cell::Time(_)) => true,
         (SqlType::Term, Cell::Term(_)) => true,
         _ => false,
     }

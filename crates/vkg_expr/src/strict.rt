@@ -89,7 +89,8 @@ fn any_names_column(list: &[Expr]) -> bool
     false
 }
 
-pub(crate) fn is_null(cell: &Cell) -> bool
+/// Whether the cell is NULL.
+pub fn is_null(cell: &Cell) -> bool
     ensures { result ≡ is_null_cell cell.now }
 {
     matches!(cell, Cell::Null)

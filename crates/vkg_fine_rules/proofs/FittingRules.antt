@@ -53,6 +53,7 @@ no_term kind.Bool n = refl
 no_term kind.Date n = refl
 no_term kind.Stamp n = refl
 no_term kind.Bin n = refl
+no_term kind.Time n = refl
 no_term kind.Term n = absurd (n refl)
 
 no_terms : (columns : List Column) → AllByRecursion IsColumn columns → NoTerms (map (λ (c : Column). c.kind) columns)

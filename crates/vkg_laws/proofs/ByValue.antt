@@ -12,13 +12,14 @@ use Rattle.vkg_cells.specs.declared.cell.Cell.TheVariants as cell
 use Rattle.vkg_cells.specs.declared.cell.FieldFault.TheVariants.{BadValue}
 use Rattle.vkg_cells.specs.declared.cell.SqlType.TheVariants as kind
 use Rattle.vkg_cells.specs.Field.{where_octets}
-use Rattle.vkg_cells.specs.Moment.{cut, day_of_text, is_date, stamp_form}
+use Rattle.vkg_cells.specs.Moment.{cut, day_of_text, is_date, stamp_form, time_form}
 use Rattle.vkg_cells.specs.Order.{order}
-use Rattle.vkg_cells.proofs.FieldLemmas.{field_ok, stamp_ok}
-use Rattle.vkg_laws.specs.ByValue.{IsByValue, OrderIsByValue, date_cmp, moment_cmp, moment_value, octets_value}
+use Rattle.vkg_cells.proofs.FieldLemmas.{field_ok, stamp_ok, time_ok}
+use Rattle.vkg_laws.specs.ByValue.{IsByValue, OrderIsByValue, date_cmp, moment_cmp, moment_value, octets_value, time_cmp, time_value}
 use Rattle.vkg_laws.proofs.Dates.{date-order}
 use Rattle.vkg_laws.proofs.Moments.{moment-order, written-parts}
 use Rattle.vkg_laws.proofs.Octets.{octets-order}
+use Rattle.vkg_laws.proofs.Times.{time-order, time-parts}
 
 dates : IsByValue kind.Date day_of_text date_cmp
 dates s t c d e f =
@@ -36,6 +37,14 @@ moments s t c d e f =
     let b = written-parts (option_or (cut 84 t) (cut 32 t)) q.0 q.1 in
     (a.moment, b.moment, a.value_is, b.value_is, (λ i. order (sym p.2 i) (sym q.2 i)) ∙ moment-order _ _ p.0 q.0 a b)
 
+times : IsByValue kind.Time time_value time_cmp
+times s t c d e f =
+    let p = time_ok (time_form s) c e in
+    let q = time_ok (time_form t) d f in
+    let a = time-parts s (cut 46 s) p.0 p.1 in
+    let b = time-parts t (cut 46 t) q.0 q.1 in
+    (a.time, b.time, a.value_is, b.value_is, (λ i. order (sym p.2 i) (sym q.2 i)) ∙ time-order _ _ p.0 q.0 a b)
+
 octets-given : (r : Result (List ℕ) FromHexError) (c : Cell) → where_octets r ≡ Ok c → (octets : List ℕ) × (r ≡ Ok octets) × (cell.Bin (encode_upper octets) ≡ c)
 octets-given (Ok octets) c e = (octets, refl, ok_same (cell.Bin (encode_upper octets)) c e)
 octets-given (Err f) c e = absurd (ok_err c BadValue (sym e))
@@ -49,4 +58,4 @@ octets s t c d e f =
     (p.0, q.0, ap result_ok p.1, ap result_ok q.1, (λ i. order (sym p.2 i) (sym q.2 i)) ∙ octets-order p.0 q.0 a b)
 
 pub by-value : OrderIsByValue
-by-value = record { dates = dates; moments = moments; octets = octets }
+by-value = record { dates = dates; moments = moments; times = times; octets = octets }

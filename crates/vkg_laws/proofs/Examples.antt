@@ -2,7 +2,7 @@
 use Rattle.std.specs.Prelude.{◌≡◌, refl, codes, [], ◌∷◌, Some, None}
 use Rattle.hex.proofs.OnLiterals.{hex_on_literals}
 use Rattle.vkg_cells.specs.Moment.{clock_of_text, day_of_text}
-use Rattle.vkg_laws.specs.ByValue.{moment_value, octets_value}
+use Rattle.vkg_laws.specs.ByValue.{moment_value, octets_value, time_value}
 use Rattle.vkg_laws.specs.RemoveDots.{remove_dot_segments, turns}
 
 leap : day_of_text (codes "2024-02-29") ≡ Some (record { year = 2024; month = 2; day = 29 })
@@ -28,6 +28,10 @@ whole : moment_value (codes "2024-02-29T23:59:58") ≡ Some (record {
 })
 unfolding day_of_text clock_of_text
 whole = refl
+
+time : time_value (codes "23:59:58.50") ≡ Some (record { clock = record { hour = 23; minute = 59; second = 58 }; nanoseconds = 500000000 })
+unfolding clock_of_text
+time = refl
 
 octets : octets_value (codes "0aFF") ≡ Some (10 ∷ 255 ∷ [])
 unfolding hex_on_literals

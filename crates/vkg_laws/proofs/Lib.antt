@@ -7,3 +7,4 @@ pub mod Moments
 pub mod Octets
 pub mod Orders
 pub mod RemoveDots
+pub mod Times

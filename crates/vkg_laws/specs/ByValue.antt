@@ -1,4 +1,4 @@
--- The order of dates, moments and octets by the values that their fields write.
+-- The order of dates, moments, times of day and octets by the values that their fields write.
 use Rattle.std.specs.Prelude.{◌≡◌, ℕ, ◌-◌, ◌*◌, ◌^◌, List, [], length, Option, Some, None, Ok}
 use Rattle.std.specs.Option.{option_or}
 use Rattle.std.specs.Result.{result_ok}
@@ -57,6 +57,28 @@ moment_value text = moment_of_parts (option_or (cut 84 text) (cut 32 text))
 abbrev pub moment_cmp : Moment → Moment → Ordering
 moment_cmp a b = ordering_then (date_cmp a.date b.date) (ordering_then (clock_cmp a.clock b.clock) (nat_cmp a.nanoseconds b.nanoseconds))
 
+-- XML Schema 1.1 Part 2, 3.3.8, without a zone: a time of day and a fraction of a second
+pub record TimeOfDay : Type 0 where
+  pub clock : Clock
+  pub nanoseconds : ℕ
+
+abbrev pub time_if : Option Clock → ℕ → Option TimeOfDay
+time_if (Some clock) nanoseconds = Some (record { clock = clock; nanoseconds = nanoseconds })
+time_if None nanoseconds = None
+
+-- with or without digits after a point
+abbrev pub time_at : List ℕ → Option (List ℕ × List ℕ) → Option TimeOfDay
+time_at text None = time_if (clock_of_text text) (nanoseconds_of [])
+time_at text (Some p) = time_if (clock_of_text p.0) (nanoseconds_of p.1)
+
+-- XML Schema 1.1 Part 2, 3.3.8: a time of day, in which a point (46) may stand
+abbrev pub time_value : List ℕ → Option TimeOfDay
+time_value text = time_at text (cut 46 text)
+
+-- XML Schema 1.1 Part 2, 3.3.8, without a zone: by the time of day, then the fraction
+abbrev pub time_cmp : TimeOfDay → TimeOfDay → Ordering
+time_cmp a b = ordering_then (clock_cmp a.clock b.clock) (nat_cmp a.nanoseconds b.nanoseconds)
+
 -- XML Schema 1.1 Part 2, 3.3.15: the octets, of which two digits each write one
 abbrev pub octets_value : List ℕ → Option (List ℕ)
 octets_value text = result_ok (decode_of text)
@@ -68,9 +90,10 @@ IsByValue {V = V} k value cmp =
     (s t : List ℕ) (c d : Cell) → cell_of_field k s ≡ Ok c → cell_of_field k t ≡ Ok d
     → (a : V) × (b : V) × (value s ≡ Some a) × (value t ≡ Some b) × (order c d ≡ cmp a b)
 
--- the order of cells is that of the values of dates, of moments and of octets
+-- the order of cells is that of the values of dates, of moments, of times of day and of octets
 pub record OrderIsByValue : Type 0 where
   pub dates : IsByValue kind.Date day_of_text date_cmp
   pub moments : IsByValue kind.Stamp moment_value moment_cmp
+  pub times : IsByValue kind.Time time_value time_cmp
   -- XML Schema has no order of octets; own: that of texts, by the first that differ, and a beginning before the whole
   pub octets : IsByValue kind.Bin octets_value bytes_cmp

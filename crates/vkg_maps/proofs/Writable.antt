@@ -27,13 +27,13 @@ use Rattle.vkg_cells.specs.declared.cell.Cell.{Cell}
 use Rattle.vkg_cells.specs.declared.cell.Cell.TheVariants as cell
 use Rattle.vkg_cells.specs.Field.{cell_of_field, is_true_word, is_false_word}
 use Rattle.vkg_cells.specs.Form.{IsOfKind, lexical_form, bool_form}
-use Rattle.vkg_cells.specs.Moment.{is_date, stamp_form}
+use Rattle.vkg_cells.specs.Moment.{is_date, stamp_form, time_form}
 use Rattle.vkg_cells.specs.Number.{is_integer, is_decimal, canonical}
 use Rattle.vkg_cells.specs.WellTyped.{is_too_wide, is_well_typed}
 use Rattle.vkg_cells.proofs.CanonicalLemmas.{integer-decimal}
 use Rattle.vkg_cells.proofs.AsciiForms.{bool_ascii, canonical_ascii, octets_ascii}
-use Rattle.vkg_cells.proofs.FieldLemmas.{field_ok, number_ok, octets_ok, stamp_ok}
-use Rattle.vkg_cells.proofs.MomentText.{stamp_ascii}
+use Rattle.vkg_cells.proofs.FieldLemmas.{field_ok, number_ok, octets_ok, stamp_ok, time_ok}
+use Rattle.vkg_cells.proofs.MomentText.{stamp_ascii, time_ascii}
 use Rattle.vkg_schema.specs.declared.table.Column.{Column}
 use Rattle.vkg_schema.specs.declared.table.Table.{Table}
 use Rattle.vkg_schema.specs.Meets.{FitsColumn, MeetsSchema}
@@ -84,6 +84,9 @@ spelled kind.Stamp c text u e =
 spelled kind.Bin c text u e =
     let h = octets_ok (decode_of text) c e in
     subst Spelled h.1 (record { form = encode_upper h.0; is = refl; utf8 = IsUtf8-from_ascii (encode_upper h.0) (octets_ascii h.0) })
+spelled kind.Time c text u e =
+    let h = time_ok (time_form text) c e in
+    subst Spelled h.2 (record { form = h.0; is = refl; utf8 = IsUtf8-from_ascii h.0 (time_ascii text h.0 h.1) })
 spelled kind.Term c text u e = cc
 
 form_text : (c : Cell) → Spelled c → (form : List ℕ) → lexical_form c ≡ Some form → IsUtf8 form
@@ -97,6 +100,7 @@ kind_text kind.Bool c (text, u, e) form f = form_text c (spelled kind.Bool c tex
 kind_text kind.Date c (text, u, e) form f = form_text c (spelled kind.Date c text u e) form f
 kind_text kind.Stamp c (text, u, e) form f = form_text c (spelled kind.Stamp c text u e) form f
 kind_text kind.Bin c (text, u, e) form f = form_text c (spelled kind.Bin c text u e) form f
+kind_text kind.Time c (text, u, e) form f = form_text c (spelled kind.Time c text u e) form f
 kind_text kind.Term c (term, e) form f = absurd (none-some form (sym (ap lexical_form e) ∙ f))
 
 fitted_text : (column : Column) (c : Cell) → FitsColumn column c → (form : List ℕ) → lexical_form c ≡ Some form → IsUtf8 form

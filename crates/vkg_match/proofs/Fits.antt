@@ -18,6 +18,7 @@ fits_kind kind.Bool c n (inr h) = inr h
 fits_kind kind.Date c n (inr h) = inr h
 fits_kind kind.Stamp c n (inr h) = inr h
 fits_kind kind.Bin c n (inr h) = inr h
+fits_kind kind.Time c n (inr h) = inr h
 fits_kind kind.Term c n (inr h) = absurd (n refl)
 
 pub fits_column : (column : Column) (c : Cell) → IsColumn column → FitsColumn column c → FitsHole column.kind c

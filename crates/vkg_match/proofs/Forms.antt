@@ -9,14 +9,14 @@ use Rattle.vkg_cells.specs.declared.cell.Cell.{Cell}
 use Rattle.vkg_cells.specs.declared.cell.Cell.TheVariants as cell
 use Rattle.vkg_cells.specs.Field.{cell_of_field, is_true_word, is_false_word}
 use Rattle.vkg_cells.specs.Form.{lexical_form, bool_form}
-use Rattle.vkg_cells.specs.Moment.{is_date, stamp_form}
+use Rattle.vkg_cells.specs.Moment.{is_date, stamp_form, time_form}
 use Rattle.vkg_cells.specs.Number.{is_integer, is_decimal, canonical}
 use Rattle.vkg_cells.specs.Order.{family, family_of}
 use Rattle.vkg_cells.proofs.CanonicalLemmas.{integer-decimal}
 use Rattle.vkg_cells.proofs.LawLemmas.{read-back}
 use Rattle.vkg_cells.proofs.AsciiForms.{bool_ascii, canonical_ascii, octets_ascii}
-use Rattle.vkg_cells.proofs.FieldLemmas.{field_ok, number_ok, octets_ok, stamp_ok}
-use Rattle.vkg_cells.proofs.MomentText.{stamp_ascii}
+use Rattle.vkg_cells.proofs.FieldLemmas.{field_ok, number_ok, octets_ok, stamp_ok, time_ok}
+use Rattle.vkg_cells.proofs.MomentText.{stamp_ascii, time_ascii}
 
 -- what is known of a cell that is read as a field of a kind
 pub record Proper (k : SqlType) (c : Cell) : Type 0 where
@@ -65,6 +65,15 @@ proper_stamp form text s from e = record {
   of_family = refl;
 }
 
+proper_time : (form text : List ℕ) → time_form text ≡ Some form → FromRead kind.Time (cell.Time form)
+proper_time form text s from e = record {
+  form = form;
+  is = refl;
+  spelled = IsUtf8-from_ascii form (time_ascii text form s);
+  read = read-back kind.Time from (cell.Time form) e;
+  of_family = refl;
+}
+
 proper_bin : (octets : List ℕ) → FromRead kind.Bin (cell.Bin (encode_upper octets))
 proper_bin octets from e = record {
   form = encode_upper octets;
@@ -84,4 +93,5 @@ proper kind.Date c text u e =
     subst (FromRead kind.Date) h.1 (λ from f. record { form = text; is = refl; spelled = u; read = read-back kind.Date from (cell.Date text) f; of_family = refl }) text e
 proper kind.Stamp c text u e = let h = stamp_ok (stamp_form text) c e in subst (FromRead kind.Stamp) h.2 (proper_stamp h.0 text h.1) text e
 proper kind.Bin c text u e = let h = octets_ok (decode_of text) c e in subst (FromRead kind.Bin) h.1 (proper_bin h.0) text e
+proper kind.Time c text u e = let h = time_ok (time_form text) c e in subst (FromRead kind.Time) h.2 (proper_time h.0 text h.1) text e
 proper kind.Term c text u e = cc

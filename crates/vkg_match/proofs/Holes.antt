@@ -77,6 +77,7 @@ null_right c d e = ap (λ x. is_known_true (same c x)) e ∙ of c
     of (cell.Date a) = refl
     of (cell.Stamp a) = refl
     of (cell.Bin a) = refl
+    of (cell.Time a) = refl
     of (cell.Term a) = refl
 
 -- ---- the cell that has a form

@@ -65,6 +65,7 @@ lexical-null kind.Bool (cell.Term t) n f = cc
 lexical-null kind.Date (cell.Term t) n f = cc
 lexical-null kind.Stamp (cell.Term t) n f = cc
 lexical-null kind.Bin (cell.Term t) n f = cc
+lexical-null kind.Time (cell.Term t) n f = cc
 lexical-null k _ n f = refl
 
 lexical_test : (o : Option SqlType) (l : SqlType) → lexical_kind o ≡ Some l → (k : SqlType) × (o ≡ Some k) × (not (same_kind kind.Term k) ≡ true)

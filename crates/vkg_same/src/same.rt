@@ -67,6 +67,7 @@ fn same_cell(a: &Cell, b: &Cell) -> bool
         (Cell::Date(s), Cell::Date(t)) => s.as_str() == t.as_str(),
         (Cell::Stamp(s), Cell::Stamp(t)) => s.as_str() == t.as_str(),
         (Cell::Bin(s), Cell::Bin(t)) => s.as_str() == t.as_str(),
+        (Cell::Time(s), Cell::Time(t)) => s.as_str() == t.as_str(),
         (Cell::Term(s), Cell::Term(t)) => s.same(t),
         _ => false,
     }

@@ -21,19 +21,20 @@ use Rattle.vkg_schema.specs.Meets.{IsColumn, IsKey}
 use Rattle.vkg_schema.specs.Resolve.{is_primary, column_at, columns_at, place_of, key_at, table_at}
 use Rattle.vkg_schema.proofs.Faultless.{AreKnown}
 
-kinds : (a b c d e f g : Bool) → unwrap_or (cond a (Some kind.Text) (cond b (Some kind.Int) (cond c (Some kind.Dec) (cond d (Some kind.Bool) (cond e (Some kind.Date) (cond f (Some kind.Stamp) (cond g (Some kind.Bin) None))))))) kind.Text ≢ kind.Term
-kinds true b c d e f g = λ q. cc
-kinds false true c d e f g = λ q. cc
-kinds false false true d e f g = λ q. cc
-kinds false false false true e f g = λ q. cc
-kinds false false false false true f g = λ q. cc
-kinds false false false false false true g = λ q. cc
-kinds false false false false false false true = λ q. cc
-kinds false false false false false false false = λ q. cc
+kinds : (a b c d e f g h : Bool) → unwrap_or (cond a (Some kind.Text) (cond b (Some kind.Int) (cond c (Some kind.Dec) (cond d (Some kind.Bool) (cond e (Some kind.Date) (cond f (Some kind.Stamp) (cond g (Some kind.Bin) (cond h (Some kind.Time) None)))))))) kind.Text ≢ kind.Term
+kinds true b c d e f g h = λ q. cc
+kinds false true c d e f g h = λ q. cc
+kinds false false true d e f g h = λ q. cc
+kinds false false false true e f g h = λ q. cc
+kinds false false false false true f g h = λ q. cc
+kinds false false false false false true g h = λ q. cc
+kinds false false false false false false true h = λ q. cc
+kinds false false false false false false false true = λ q. cc
+kinds false false false false false false false false = λ q. cc
 
 pub no_terms : (c : WrittenColumn) → column_kind c ≢ kind.Term
 unfolding kind_named
-no_terms c = kinds _ _ _ _ _ _ _
+no_terms c = kinds _ _ _ _ _ _ _ _
 
 pub column_form : (keys : List WrittenKey) (c : WrittenColumn) → IsNamed c → IsColumn (column_at keys c)
 column_form keys c h = record { name = h; kind = no_terms c }

@@ -79,7 +79,7 @@ number (Calls w es) = 6
 abbrev pub class : List ℕ → ℕ
 class w =
     if list_any (bytes_eq w) (codes "TRUE" ∷ codes "FALSE" ∷ []) then 0
-    else if list_any (bytes_eq w) (codes "INT" ∷ codes "DEC" ∷ codes "DATE" ∷ codes "STAMP" ∷ codes "BIN" ∷ []) then 1
+    else if list_any (bytes_eq w) (codes "INT" ∷ codes "DEC" ∷ codes "DATE" ∷ codes "STAMP" ∷ codes "BIN" ∷ codes "TIME" ∷ []) then 1
     else if bytes_eq w [] then 2
     else if bytes_eq w (codes "c") then 3
     else if bytes_eq w (codes "CAST") then 4
@@ -100,6 +100,7 @@ cell_head (cell.Text s) k = Quote s
 cell_head (cell.Date s) k = Spaced (codes "DATE") s
 cell_head (cell.Stamp s) k = Spaced (codes "STAMP") s
 cell_head (cell.Bin s) k = Spaced (codes "BIN") s
+cell_head (cell.Time s) k = Spaced (codes "TIME") s
 cell_head (cell.Term t) k = Whole t
 
 -- a quoted argument has the text of a constant
@@ -254,7 +255,8 @@ spaced_back w s =
     else if bytes_eq w (codes "DEC") then Const (cell.Dec s) kind.Dec
     else if bytes_eq w (codes "DATE") then Const (cell.Date s) kind.Date
     else if bytes_eq w (codes "STAMP") then Const (cell.Stamp s) kind.Stamp
-    else Const (cell.Bin s) kind.Bin
+    else if bytes_eq w (codes "BIN") then Const (cell.Bin s) kind.Bin
+    else Const (cell.Time s) kind.Time
 
 abbrev back : Head → Expr
 back (Bare w) = Const (cell.Bool (bytes_eq w (codes "TRUE"))) kind.Bool
@@ -275,6 +277,7 @@ cell_back (cell.Text s) kind.Text h = refl
 cell_back (cell.Date s) kind.Date h = refl
 cell_back (cell.Stamp s) kind.Stamp h = refl
 cell_back (cell.Bin s) kind.Bin h = refl
+cell_back (cell.Time s) kind.Time h = refl
 cell_back (cell.Term t) kind.Term h = refl
 cell_back c k h = absurd (cc)
 
@@ -417,6 +420,7 @@ kind_back w =
     else if bytes_eq w (codes "DATE") then kind.Date
     else if bytes_eq w (codes "STAMP") then kind.Stamp
     else if bytes_eq w (codes "BIN") then kind.Bin
+    else if bytes_eq w (codes "TIME") then kind.Time
     else kind.Term
 
 kind_is_back : (k : SqlType) → kind_back (kind_text k) ≡ k
@@ -427,6 +431,7 @@ kind_is_back kind.Text = refl
 kind_is_back kind.Date = refl
 kind_is_back kind.Stamp = refl
 kind_is_back kind.Bin = refl
+kind_is_back kind.Time = refl
 kind_is_back kind.Term = refl
 
 kind_letters : (k : SqlType) → list_all is_letter (kind_text k) ≡ true
@@ -437,6 +442,7 @@ kind_letters kind.Text = refl
 kind_letters kind.Date = refl
 kind_letters kind.Stamp = refl
 kind_letters kind.Bin = refl
+kind_letters kind.Time = refl
 kind_letters kind.Term = refl
 
 pub kind_same : (k l : SqlType) (x y : List ℕ) → stops is_letter x ≡ true → stops is_letter y ≡ true → kind_text k ++ x ≡ kind_text l ++ y → (k ≡ l) × (x ≡ y)

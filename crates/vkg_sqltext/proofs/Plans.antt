@@ -56,6 +56,7 @@ kind_first kind.Text z x e = absurd (let bad = head_same 41 84 _ _ e in omega (a
 kind_first kind.Date z x e = absurd (let bad = head_same 41 68 _ _ e in omega (arith, bad))
 kind_first kind.Stamp z x e = absurd (let bad = head_same 41 83 _ _ e in omega (arith, bad))
 kind_first kind.Bin z x e = absurd (let bad = head_same 41 66 _ _ e in omega (arith, bad))
+kind_first kind.Time z x e = absurd (let bad = head_same 41 84 _ _ e in omega (arith, bad))
 kind_first kind.Term z x e = absurd (let bad = head_same 41 84 _ _ e in omega (arith, bad))
 
 abbrev more_kinds : List SqlType → List ℕ

@@ -28,6 +28,7 @@ HoldsCell (cell.Text text) = IsUtf8 text
 HoldsCell (cell.Date text) = IsUtf8 text
 HoldsCell (cell.Stamp text) = IsUtf8 text
 HoldsCell (cell.Bin text) = IsUtf8 text
+HoldsCell (cell.Time text) = IsUtf8 text
 HoldsCell (cell.Term term) = HoldsText term × IsUtf8 (term_text term)
 
 abbrev mutual

@@ -38,6 +38,7 @@ kind_text kind.Text = codes "TEXT"
 kind_text kind.Date = codes "DATE"
 kind_text kind.Stamp = codes "STAMP"
 kind_text kind.Bin = codes "BIN"
+kind_text kind.Time = codes "TIME"
 kind_text kind.Term = codes "TERM"
 
 abbrev pub constant_text : Cell → SqlType → List ℕ
@@ -50,6 +51,7 @@ constant_text (cell.Text s) k = quoted s
 constant_text (cell.Date s) k = codes "DATE " ++ quoted s
 constant_text (cell.Stamp s) k = codes "STAMP " ++ quoted s
 constant_text (cell.Bin s) k = codes "BIN " ++ quoted s
+constant_text (cell.Time s) k = codes "TIME " ++ quoted s
 constant_text (cell.Term t) k = codes "TERM " ++ quoted (term_text t)
 
 abbrev pub compare_text : TermCompare → List ℕ

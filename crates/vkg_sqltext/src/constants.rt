@@ -21,6 +21,7 @@ pub fn kind_name(kind: SqlType) -> &'static str
         SqlType::Date => "DATE",
         SqlType::Stamp => "STAMP",
         SqlType::Bin => "BIN",
+        SqlType::Time => "TIME",
         SqlType::Term => "TERM",
     }
 }
@@ -82,6 +83,7 @@ pub fn constant_text(alloc: Global, cell: &Cell, kind: SqlType) -> Result<Text, 
         Cell::Date(form) => tagged(alloc, "DATE ", form.as_str()),
         Cell::Stamp(form) => tagged(alloc, "STAMP ", form.as_str()),
         Cell::Bin(form) => tagged(alloc, "BIN ", form.as_str()),
+        Cell::Time(form) => tagged(alloc, "TIME ", form.as_str()),
         Cell::Term(term) => tagged(alloc, "TERM ", term_text(alloc, term)?.as_str()),
     }
 }

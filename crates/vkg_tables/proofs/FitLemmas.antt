@@ -46,6 +46,7 @@ kind-NoTerm kind.Bool c h (text, u, e) = λ s. cc (sym (family_is kind.Bool c te
 kind-NoTerm kind.Date c h (text, u, e) = λ s. cc (sym (family_is kind.Date c text e) ∙ s)
 kind-NoTerm kind.Stamp c h (text, u, e) = λ s. cc (sym (family_is kind.Stamp c text e) ∙ s)
 kind-NoTerm kind.Bin c h (text, u, e) = λ s. cc (sym (family_is kind.Bin c text e) ∙ s)
+kind-NoTerm kind.Time c h (text, u, e) = λ s. cc (sym (family_is kind.Time c text e) ∙ s)
 kind-NoTerm kind.Term c h i = absurd (h refl)
 
 fits-NoTerm : (column : Column) (c : Cell) → IsColumn column → FitsColumn column c → IsNoTerm c
@@ -78,6 +79,7 @@ of-kind kind.Bool text c u e = (text, u, e)
 of-kind kind.Date text c u e = (text, u, e)
 of-kind kind.Stamp text c u e = (text, u, e)
 of-kind kind.Bin text c u e = (text, u, e)
+of-kind kind.Time text c u e = (text, u, e)
 of-kind kind.Term text c u e = cc e
 
 csv-fits : (k : SqlType) (text : List ℕ) (c : Cell) → IsUtf8 text → cell_of_csv k text ≡ Ok c → (c ≡ cell.Null) ⊎ IsOfKind k c

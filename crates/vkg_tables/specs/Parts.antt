@@ -24,7 +24,7 @@ abbrev pub all_parts : List ℕ → List Row → List (List (List ℕ))
 all_parts columns rows = flat_map (λ r. option_to_list (parts columns r)) rows
 
 abbrev pub IsNoTerm : Cell → Type 0
-IsNoTerm c = family_of c ≢ 7
+IsNoTerm c = family_of c ≢ 8
 
 abbrev pub HasNoTerm : Row → Type 0
 HasNoTerm row = AllByRecursion IsNoTerm row

@@ -34,6 +34,7 @@ fn part(alloc: Global, cell: &Cell) -> Result<Option<String>, Memory>
         Cell::Date(text) => tagged(alloc, '4', text.as_str()),
         Cell::Stamp(text) => tagged(alloc, '5', text.as_str()),
         Cell::Bin(text) => tagged(alloc, '6', text.as_str()),
+        Cell::Time(text) => tagged(alloc, '7', text.as_str()),
         Cell::Term(_) => Ok(None),
     }
 }

@@ -6,7 +6,8 @@ use std::alloc::Global;
 use std::test::Fail;
 use vkg_base::{Box, Items, Memory, Text};
 use vkg_cells::{Cell, SqlType, form};
-use vkg_expr::{Expr, Operator, Row, eval, nulls_on_null, typed};
+use vkg_eval::{Row, eval};
+use vkg_expr::{Expr, Operator, nulls_on_null, typed};
 use vkg_terms::{Annotation, term_text};
 use vkg_values::Test;
 

@@ -1,7 +1,7 @@
 use std::cmp::Ordering;
 use vkg_cells::{
-    Cell, FieldFault, SqlType, form, is_too_wide, is_well_typed, lex, natural, order, read_cell,
-    same,
+    Cell, CellRef, FieldFault, SqlType, form, is_too_wide, is_well_typed, key_parts, lex, natural,
+    order, order_ref, read_cell, same, same_ref,
 };
 use vkg_terms::Annotation;
 
@@ -70,6 +70,8 @@ fn accepted_fields(rt: HostRuntime) {
             "2024-02-29T12:00:00.5",
         ),
         (SqlType::Bin, "0aFF", "0AFF"),
+        (SqlType::Time, "09:05:00.500", "09:05:00.5"),
+        (SqlType::Time, "23:59:59.000", "23:59:59"),
     ] {
         assert!(rt; reads_as(&rt, kind, field, expected), "{field}");
     }
@@ -90,6 +92,7 @@ fn natural_datatypes(rt: HostRuntime) {
         (SqlType::Date, "date"),
         (SqlType::Stamp, "dateTime"),
         (SqlType::Bin, "hexBinary"),
+        (SqlType::Time, "time"),
     ] {
         assert!(rt; is_natural(&rt, kind, expected), "{expected}");
     }
@@ -107,6 +110,9 @@ fn refused_fields(rt: HostRuntime) {
         (SqlType::Stamp, "2024-02-29 24:00:00"),
         (SqlType::Stamp, "2024-02-29 12:00:00."),
         (SqlType::Bin, "0aF"),
+        (SqlType::Time, "24:00:00"),
+        (SqlType::Time, "09:05:00."),
+        (SqlType::Time, "9:05:00"),
         (SqlType::Term, "a"),
     ] {
         assert_eq!(rt;
@@ -174,4 +180,17 @@ fn cells_in_order(rt: HostRuntime) {
         compared(&rt, SqlType::Text, "7", "7.0"),
         Some((Ordering::Less, Some(false)))
     );
+}
+
+#[test]
+fn lent_cells(rt: HostRuntime) {
+    let null = CellRef::null();
+    assert_eq!(rt; same_ref(&null, &null.shown()), None);
+    assert!(rt; matches!(key_parts(rt.alloc(), &null), Ok(None)));
+    let (seven, other) = (CellRef::int("7"), CellRef::dec("7"));
+    assert_eq!(rt; same_ref(&seven, &other), Some(true));
+    assert!(rt; matches!(other.to_cell(rt.alloc()), Ok(Cell::Dec(_))));
+    let (early, late) = (CellRef::time("09:05:00"), CellRef::time("09:05:00.5"));
+    assert_eq!(rt; order_ref(&early, &late), Ordering::Less);
+    assert_eq!(rt; late.form(), Some("09:05:00.5"));
 }

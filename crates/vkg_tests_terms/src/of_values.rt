@@ -21,7 +21,7 @@ fn tagged(alloc: Global, text: &str, tag: &str) -> Result<Term, Memory> {
 }
 
 // Two literals, each with its datatype, and the answers of `=` and of `<`.
-const COMPARED: [(&str, &str, &str, &str, Option<bool>, Option<bool>); 12] = [
+const COMPARED: [(&str, &str, &str, &str, Option<bool>, Option<bool>); 13] = [
     ("integer", "01", "integer", "1", Some(true), Some(false)),
     ("integer", "9", "decimal", "10.0", Some(false), Some(true)),
     ("decimal", "-0.0", "integer", "+0", Some(true), Some(false)),
@@ -55,6 +55,7 @@ const COMPARED: [(&str, &str, &str, &str, Option<bool>, Option<bool>); 12] = [
         None,
         None,
     ),
+    ("time", "09:05:00.50", "time", "09:05:00.5", None, None),
 ];
 
 // What a comparison answers of two literals, each with its datatype.

@@ -79,6 +79,7 @@ natural_writable (Some column) = of column.kind
     of data_kind.Date = refl
     of data_kind.Stamp = refl
     of data_kind.Bin = refl
+    of data_kind.Time = refl
     of data_kind.Term = tt
 
 -- ---- annotations

@@ -8,7 +8,7 @@ PLAIN_NAMES = "id name dept T1 _x Code k2 INT value select x title BOSS End n_1"
 STRANGE_NAMES = ["first name", "é", "Straße", 'a"b', "100%", "a/b", "x;y", "k=v", "#h", "a{b}", "back\\slash", "語", "😀",
                  "it's", "a.b", "a,b", "~", "..", "PRIMARY", "x<y>", "\u00a0", " lead", "e-mail", "{", '"q"', "?", "ref-x",
                  "%41", "É"]
-KINDS = "string string integer integer decimal boolean date dateTime hexBinary".split()
+KINDS = "string string integer integer decimal boolean date dateTime hexBinary time".split()
 
 
 @dataclass

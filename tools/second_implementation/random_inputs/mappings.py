@@ -11,7 +11,7 @@ INNER_TEXTS = ["-", "/", ";", "=", "", "_", ".", "%20", "é", "~", "(", "&", "#"
 LAST_TEXTS = ["", "", "", "/", "#me", "x"]
 LITERAL_TEXTS = ["", " ", "x", "{", "}", "\\", '"', "\n", ": ", "é", "{}", "'", "😀", "\t", "a:"]
 TAGS = ["en", "en-GB", "DE", "zh-Hans-CN", "x-1", "fr"]
-DATATYPES = [XSD + sort for sort in "integer decimal boolean date dateTime string double hexBinary token int".split()]
+DATATYPES = [XSD + sort for sort in "integer decimal boolean date dateTime string double hexBinary time token int".split()]
 DATATYPES += ["urn:d:t"]
 CLASSES = [iri(text) for text in ("http://e/C", "http://e/D", "http://ex.org/ns#Person", "urn:a:C")]
 CONSTANTS = {

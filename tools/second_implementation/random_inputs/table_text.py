@@ -22,7 +22,7 @@ def spelled(chance, kind, form):
         return spelled_number(chance, kind, form)
     if kind == "boolean":
         return chance.any_case(chance.choice(["true", "t", "1"] if form == "true" else ["false", "f", "0"]))
-    if kind == "dateTime":
+    if kind in ("dateTime", "time"):
         clock, _, fraction = form.partition(".")
         fraction = fraction.ljust(chance.choice([0, 0, 1, 3, 9]), "0")
         return clock.replace("T", chance.choice("T ")) + ("." + fraction if fraction else "")

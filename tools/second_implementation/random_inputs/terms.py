@@ -20,7 +20,7 @@ TEXTS = {
     "float": ["1"],
     "int": ["1"],
     "hexBinary": ["0AFF", "0aff"],
-    "time": ["12:00:00"],
+    "time": ["12:00:00", "12:00:00.50", "24:00:00", "x"],
     "nonNegativeInteger": ["0"],
 }
 LITERALS = [literal(text, datatype=XSD + sort) for sort, texts in TEXTS.items() for text in texts]

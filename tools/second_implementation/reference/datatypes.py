@@ -1,6 +1,6 @@
 """Fields of tables by the kinds of their columns (R2RML, 10.2), and literals by their datatypes (XML Schema 1.1 Part 2).
 
-A kind is called by its natural datatype: string, integer, decimal, boolean, date, dateTime or hexBinary.
+A kind is called by its natural datatype: string, integer, decimal, boolean, date, dateTime, hexBinary or time.
 """
 import datetime
 import re
@@ -25,6 +25,7 @@ FIELDS = {
     "date": DATE,
     "dateTime": DATE + "[T ]" + CLOCK + r"(\.[0-9]{1,9})?",
     "hexBinary": "([0-9A-Fa-f]{2})*",
+    "time": CLOCK + r"(\.[0-9]{1,9})?",
 }
 
 # XML Schema 1.1 Part 2: 3.4.13, 3.3.3, 3.3.2, 3.3.9 and 3.3.7, the last two with years of four digits.
@@ -73,7 +74,7 @@ def lexical_form(kind, field):
         return canonical_number(field)
     if kind == "boolean":
         return "true" if field[0] in "tT1" else "false"
-    if kind == "dateTime":
+    if kind in ("dateTime", "time"):
         moment = field.replace(" ", "T")
         return moment.rstrip("0").rstrip(".") if "." in moment else moment
     return field.upper() if kind == "hexBinary" else field

@@ -7,7 +7,7 @@ from dataclasses import dataclass
 from reference.rdf import Term, term_text
 
 KIND_NAMES = {"integer": "INT", "decimal": "DEC", "boolean": "BOOL", "string": "TEXT", "date": "DATE", "dateTime": "STAMP",
-              "hexBinary": "BIN", "term": "TERM"}
+              "hexBinary": "BIN", "time": "TIME", "term": "TERM"}
 
 # The functions that give terms, and those that give texts; COALESCE gives what its arguments are, every other one a boolean.
 TERM_FUNCTIONS = ("IRI", "BLANK", "LIT", "STR", "LANG", "DATATYPE")

@@ -13,6 +13,7 @@ TYPES = {
     "date": "DATE",
     "dateTime": "TIMESTAMP",
     "hexBinary": "BINARY VARBINARY BLOB",
+    "time": "TIME",
 }
 KIND_OF = {word: kind for kind, words in TYPES.items() for word in words.split()}
 LONGEST = 2147483647
@@ -82,7 +83,7 @@ def takes_numbers(kind, numbers):
     if kind == "decimal":
         precision, *scale = numbers
         return 1 <= precision <= 38 and all(one <= precision for one in scale)
-    ranges = {"string": (1, LONGEST), "hexBinary": (1, LONGEST), "dateTime": (0, 9)}
+    ranges = {"string": (1, LONGEST), "hexBinary": (1, LONGEST), "dateTime": (0, 9), "time": (0, 9)}
     return kind in ranges and len(numbers) == 1 and ranges[kind][0] <= numbers[0] <= ranges[kind][1]
 
 

@@ -5,12 +5,11 @@ ghost use Rattle.vkg_expr.specs.Value.{truth_cell};
 ghost use Rattle.vkg_expr.specs.Seen.{expr_seen};
 ghost use Rattle.vkg_expr.specs.Steps.{TakesEach, TakesOne, of_each, of_one};
 
-use crate::expr::Expr;
-use crate::strict::is_null;
 use crate::{cells, lists};
 use std::alloc::Global;
 use vkg_base::{Items, Memory};
 use vkg_cells::Cell;
+use vkg_expr::{Expr, is_null};
 
 /// Of an expression of one part, on the part's value.
 pub fn after_one(alloc: Global, e: &Expr, value: Result<Cell, Memory>) -> Result<Cell, Memory>

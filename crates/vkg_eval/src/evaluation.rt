@@ -6,16 +6,16 @@ ghost use Rattle.vkg_expr.specs.Seen.{expr_seen};
 ghost use Rattle.vkg_expr.specs.Value.{value_of, values_of};
 
 use crate::cells::column;
-use crate::expr::Expr;
 use crate::row::Row;
 use crate::steps::{after_both, after_each, after_one};
 use std::alloc::Global;
 use vkg_base::{Items, Memory};
 use vkg_cells::Cell;
+use vkg_expr::Expr;
 
 /// The value of an expression that is typed on the row; unknown and error are NULL. Over columns whose kinds the cells have,
 /// it is of the expression's kind or NULL.
-#[tactic(auto, using(crate::proofs::ValueFits::fitting))]
+#[tactic(auto, using(vkg_expr::proofs::ValueFits::fitting))]
 pub fn eval(alloc: Global, e: &Expr, row: &Row) -> Result<Cell, Memory>
     requires { IsTyped (expr_seen e.now) row.now }
     ensures value { IfOk result (λ c. c ≡ value_of (expr_seen e.now) row.now) }
@@ -25,7 +25,7 @@ pub fn eval(alloc: Global, e: &Expr, row: &Row) -> Result<Cell, Memory>
 }
 
 /// The value of an expression that is typed on the cells of a row.
-#[tactic(auto, using(crate::proofs::ValueFits::fitting))]
+#[tactic(auto, using(vkg_expr::proofs::ValueFits::fitting))]
 pub fn eval_cells(alloc: Global, e: &Expr, row: &[Cell]) -> Result<Cell, Memory>
     requires { IsTyped (expr_seen e.now) row.now }
     ensures value { IfOk result (λ c. c ≡ value_of (expr_seen e.now) row.now) }

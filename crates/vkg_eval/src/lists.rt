@@ -5,10 +5,10 @@ ghost use Rattle.vkg_expr.specs.Steps.{AllFit};
 ghost use Rattle.vkg_expr.specs.Value.{all_of, any_of, coalesced, concat_of, text_cell, truth_cell as cell_of_truth};
 
 use crate::cells::{truth_cell, truth_of};
-use crate::strict::is_null;
 use std::alloc::Global;
 use vkg_base::{Memory, Text};
 use vkg_cells::Cell;
+use vkg_expr::is_null;
 use vkg_values::{conjunction, disjunction};
 
 /// The texts after each other, and NULL where one is.

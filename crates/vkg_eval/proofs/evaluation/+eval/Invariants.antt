@@ -4,7 +4,7 @@ use Rattle.vkg_expr.specs.Expr.{exprs}
 use Rattle.vkg_expr.specs.Seen.{expr_seen}
 use Rattle.vkg_expr.specs.Value.{values_of}
 use Rattle.vkg_expr.proofs.Weights.{weight_of, weight_of_each}
-use Rattle.vkg_expr.proofs.evaluation.+eval.Given as goal
+use Rattle.vkg_eval.proofs.evaluation.+eval.Given as goal
 
 abbrev pub decreases-eval_on : goal.decreases-eval_on
 decreases-eval_on l = 2 * weight_of l.e.now

@@ -15,10 +15,10 @@ ghost use Rattle.vkg_expr.specs.Steps.{AllFit, Fits};
 ghost use Rattle.vkg_expr.specs.Typing.{arity};
 ghost use Rattle.vkg_expr.specs.Value.{operator_value, term_cell, term_of as term_in, text_cell, text_of as text_in, truth_cell as cell_of_truth, truth_of as truth_in};
 
-use crate::expr::Operator;
 use std::alloc::Global;
 use vkg_base::{Memory, Text};
 use vkg_cells::{Cell, lex, same};
+use vkg_expr::Operator;
 use vkg_terms::{Annotation, Term, blank_label, iri_safe, is_absolute};
 use vkg_values::{Compare, Take, Test, compare_terms, effective_truth, negation, take_of, test_of};
 
