@@ -33,6 +33,7 @@ use Rattle.vkg_turtle.specs.Reading.{IsDocumentOf}
 use Rattle.vkg_r2rml.specs.Mapping.{mapping_of}
 use Rattle.vkg_cli.specs.declared.load.TheConstants.{LIMIT}
 use Rattle.vkg_tables.specs.declared.fault.TableFault.{TableFault}
+use Rattle.vkg_tables.specs.declared.load.TheConstants.{MOST_BYTES}
 use Rattle.vkg_cli.specs.declared.stops.Fault.{Fault}
 use Rattle.vkg_cli.specs.declared.stops.Fault.TheVariants as limits
 use Rattle.vkg_cli.specs.declared.stops.Stop.{Stop}
@@ -73,8 +74,8 @@ not_long : {F : Type 0} (long : Bool) (f : F) (faults : List F) (rows others : L
 not_long true f faults rows others e = cc e
 not_long false f faults rows others e = refl
 
-short_file : (columns : List Column) (bytes : List ℕ) (rows : List Row) → table_of_bytes columns bytes ≡ Ok rows → nat_lt 2147483647 (length bytes) ≡ false
-short_file columns bytes rows e = not_long (nat_lt 2147483647 (length bytes)) _ _ _ rows (sym e)
+short_file : (columns : List Column) (bytes : List ℕ) (rows : List Row) → table_of_bytes columns bytes ≡ Ok rows → nat_lt MOST_BYTES (length bytes) ≡ false
+short_file columns bytes rows e = not_long (nat_lt MOST_BYTES (length bytes)) _ _ _ rows (sym e)
 
 abbrev with_tables : List Table → List (List Row) → Seen
 with_tables schema tables = record { schema = schema; tables = tables }
@@ -89,7 +90,7 @@ module _ (files : Files) (folder : List ℕ) where
       let read = rows_read db next k (table_of_bytes (columns_of db.schema k) bytes) (settled.1) in
       let rows : table_of_bytes table.columns bytes ≡ Ok read.0 = ap (λ c. table_of_bytes c bytes) (sym columns) ∙ read.1 in
       let short = short_file table.columns bytes read.0 rows in
-      let whole = uncut LIMIT 2147483647 file.0 refl (ap (λ b. nat_lt 2147483647 (length b)) (sym file.2) ∙ short) in (
+      let whole = uncut LIMIT MOST_BYTES file.0 refl (ap (λ b. nat_lt MOST_BYTES (length b)) (sym file.2) ∙ short) in (
         read.0,
         record { bytes = file.0; file = file.1; reads = ap (table_of_bytes table.columns) (sym whole ∙ sym file.2) ∙ rows },
         read.2,
@@ -136,10 +137,10 @@ unless_key found v later e = sym (unless_given (option_map table_stop found) lat
 module _ (files : Files) (schema : List Table) (base : List ℕ) (mapping : Mapping) where
   -- what a document's triples say
   read_text : (bytes : List ℕ) (names : List (List ℕ)) → Then (Settles (ReadsTriples bytes base)) (λ triples. Settles (MapsTriples triples schema base)) names (Ok mapping)
-      → (nat_lt 2147483647 (length bytes) ≡ false) × ((triples : List Triple) × IsDocumentOf bytes base triples × (mapping_of triples schema base ≡ Ok mapping))
+      → (nat_lt MOST_BYTES (length bytes) ≡ false) × ((triples : List Triple) × IsDocumentOf bytes base triples × (mapping_of triples schema base ≡ Ok mapping))
   unfolding ReadsTriples Settles
   read_text bytes names (goes_on triples head tail settled maps is) =
-      let says = short_read (limits.Mapping 22 2147483647) (SaysTriples bytes base) (nat_lt 2147483647 (length bytes)) triples (settled.1) in
+      let says = short_read (limits.Mapping 22 MOST_BYTES) (SaysTriples bytes base) (nat_lt MOST_BYTES (length bytes)) triples (settled.1) in
       (says.0, (triples, says.1, given_made mapping_stop (mapping_of triples schema base) mapping (maps.1)))
   read_text bytes names (stops stop settled is) = absurd (ok_err mapping stop is)
 
@@ -148,7 +149,7 @@ module _ (files : Files) (schema : List Table) (base : List ℕ) (mapping : Mapp
   text_holds name names (goes_on bytes head tail load later is) =
       let file = given LIMIT (held files name) bytes (load.1) in
       let read = read_text bytes tail later in
-      let whole = uncut LIMIT 2147483647 file.0 refl (ap (λ b. nat_lt 2147483647 (length b)) (sym file.2) ∙ read.0) in
+      let whole = uncut LIMIT MOST_BYTES file.0 refl (ap (λ b. nat_lt MOST_BYTES (length b)) (sym file.2) ∙ read.0) in
       record { bytes = file.0; file = file.1; triples = read.1.0; says = subst (λ b. IsDocumentOf b base read.1.0) (file.2 ∙ whole) read.1.1; reads = read.1.2 }
   text_holds name names (stops stop load is) = absurd (ok_err mapping stop is)
 
@@ -163,8 +164,8 @@ module _ (files : Files) where
   unfolding Loads ReadsSchema Settles
   schema_holds name schema names (goes_on bytes head tail load settled is) =
       let file = given LIMIT (held files name) bytes (load.1) in
-      let says = short_read (limits.Schema 14 2147483647) (Reads bytes) (nat_lt 2147483647 (length bytes)) schema (settled.1) in
-      let whole = uncut LIMIT 2147483647 file.0 refl (ap (λ b. nat_lt 2147483647 (length b)) (sym file.2) ∙ says.0) in
+      let says = short_read (limits.Schema 14 MOST_BYTES) (Reads bytes) (nat_lt MOST_BYTES (length bytes)) schema (settled.1) in
+      let whole = uncut LIMIT MOST_BYTES file.0 refl (ap (λ b. nat_lt MOST_BYTES (length b)) (sym file.2) ∙ says.0) in
       record { text = file.0; file = file.1; says = subst (λ b. IsSchemaOf b schema) (file.2 ∙ whole) says.1 }
   schema_holds name schema names (stops stop load is) = absurd (ok_err schema stop is)
 
@@ -172,8 +173,8 @@ module _ (files : Files) where
   unfolding Loads ReadsQuery Settles
   query_holds name base asked names (goes_on bytes head tail load settled is) =
       let file = given LIMIT (held files name) bytes (load.1) in
-      let says = short_read (limits.Query 9 2147483647) (SaysQuery bytes base) (nat_lt 2147483647 (length bytes)) asked (settled.1) in
-      let whole = uncut LIMIT 2147483647 file.0 refl (ap (λ b. nat_lt 2147483647 (length b)) (sym file.2) ∙ says.0) in
+      let says = short_read (limits.Query 9 MOST_BYTES) (SaysQuery bytes base) (nat_lt MOST_BYTES (length bytes)) asked (settled.1) in
+      let whole = uncut LIMIT MOST_BYTES file.0 refl (ap (λ b. nat_lt MOST_BYTES (length b)) (sym file.2) ∙ says.0) in
       record { bytes = file.0; file = file.1; says = subst (λ b. IsQuery b base asked) (file.2 ∙ whole) says.1 }
   query_holds name base asked names (stops stop load is) = absurd (ok_err asked stop is)
 

@@ -27,6 +27,7 @@ use Rattle.vkg_tables.specs.Seen.{Seen, columns_of, loaded, placed, with_read}
 use Rattle.vkg_tables.specs.TableFile.{fault, faults_of_read, field_faults, field_under, file_faults, file_rows, not_once_faults, record_faults, row_faults, table_of_bytes, unknown_faults}
 use Rattle.vkg_tables.specs.declared.fault.FileFault.{FileFault}
 use Rattle.vkg_tables.specs.declared.fault.TableFault.{TableFault}
+use Rattle.vkg_tables.specs.declared.load.TheConstants.{MOST_BYTES}
 use Rattle.vkg_turtle.specs.Reading.{IsFaultOf as IsTurtleFault, fault_if as turtle_if, fault_of as turtle_fault, lexical as turtle_lexical, too_deep as turtle_too_deep, no_text as turtle_no_text, no_document}
 use Rattle.vkg_turtle.specs.declared.document.Document.{Document}
 use Rattle.vkg_turtle.specs.declared.reading.TurtleFault.{TurtleFault}
@@ -188,7 +189,7 @@ record_all columns (header ∷ rows) =
     (each_walked OfFile (λ r. row_faults header columns r.0 r.1) (λ r. row_all header columns r.0 r.1) (enumerate_from 1 rows)))
 
 file_all : (columns : List Column) (bytes : List ℕ) → AllByRecursion OfFile (file_faults columns bytes)
-file_all columns bytes = all_if (nat_lt 2147483647 (length bytes)) (fault 11 0 0 ∷ []) _ ((omega arith, omega arith), tt) (all_if (is_utf8 bytes) _ (fault 5 0 0 ∷ []) (record_all columns _) ((omega arith, omega arith), tt))
+file_all columns bytes = all_if (nat_lt MOST_BYTES (length bytes)) (fault 11 0 0 ∷ []) _ ((omega arith, omega arith), tt) (all_if (is_utf8 bytes) _ (fault 5 0 0 ∷ []) (record_all columns _) ((omega arith, omega arith), tt))
 
 first_found : {A F : Type 0} (o : Option F) (v : A) (f : F) → ◌≡◌ {A = Result A F} (unless o (Ok v)) (Err f) → o ≡ Some f
 first_found (Some x) v f e = cc e

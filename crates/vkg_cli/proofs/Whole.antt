@@ -15,6 +15,7 @@ use Rattle.vkg_cli.specs.declared.stops.Stop.{Stop}
 use Rattle.vkg_cli.specs.declared.stops.Stop.TheVariants.{Refused, Read, Memory}
 use Rattle.vkg_tables.specs.Seen.{Seen, without_rows}
 use Rattle.vkg_schema.proofs.One.{determined}
+use Rattle.vkg_tables.specs.declared.load.TheConstants.{MOST_BYTES}
 use Rattle.vkg_turtle.proofs.One.{determined as determined_triples}
 use Rattle.vkg_sparql.specs.declared.fault.QueryFault.{QueryFault}
 use Rattle.vkg_sparql.specs.declared.query.Query.{Query}
@@ -60,7 +61,7 @@ one_unless limit reads false one = one
 
 pub one_schema : (bytes : List ℕ) → IsOneOutcome (ReadsSchema bytes)
 unfolding ReadsSchema
-one_schema bytes = one_unless (Schema 14 2147483647) (Reads bytes) (nat_lt 2147483647 (length bytes)) (one_reading bytes)
+one_schema bytes = one_unless (Schema 14 MOST_BYTES) (Reads bytes) (nat_lt MOST_BYTES (length bytes)) (one_reading bytes)
 
 one_saying : (bytes : List ℕ) → (base : List ℕ) → IsOneOutcome (SaysTriples bytes base)
 one_saying bytes base (Ok v) (Ok w) first second = ap (λ (t : List Triple). Ok t) (determined_triples.one_value bytes base v w first second)
@@ -93,7 +94,7 @@ one_saying bytes base (Err Memory) p first second = absurd first
 
 pub one_document : (bytes base : List ℕ) → IsOneOutcome (ReadsTriples bytes base)
 unfolding ReadsTriples
-one_document bytes base = one_unless (Mapping 22 2147483647) (SaysTriples bytes base) (nat_lt 2147483647 (length bytes)) (one_saying bytes base)
+one_document bytes base = one_unless (Mapping 22 MOST_BYTES) (SaysTriples bytes base) (nat_lt MOST_BYTES (length bytes)) (one_saying bytes base)
 
 one_direct : (schema : List Table) (base : List ℕ) → IsOneOutcome (MapsDirectly schema base)
 unfolding MapsDirectly
@@ -130,7 +131,7 @@ one_asking bytes base (Err Memory) p first second = absurd first
 
 pub one_query : (bytes base : List ℕ) → IsOneOutcome (ReadsQuery bytes base)
 unfolding ReadsQuery
-one_query bytes base = one_unless (AtQuery 9 2147483647) (SaysQuery bytes base) (nat_lt 2147483647 (length bytes)) (one_asking bytes base)
+one_query bytes base = one_unless (AtQuery 9 MOST_BYTES) (SaysQuery bytes base) (nat_lt MOST_BYTES (length bytes)) (one_asking bytes base)
 
 pub one_check : (db : Seen) → IsOneOutcome (Checks db)
 unfolding Checks

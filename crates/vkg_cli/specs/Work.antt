@@ -12,6 +12,7 @@ use Rattle.vkg_cli.specs.declared.stops.Stop.{Stop}
 use Rattle.vkg_cli.specs.declared.stops.Stop.TheVariants as stop
 use Rattle.vkg_cli.specs.declared.load.TheConstants.{LIMIT}
 use Rattle.vkg_tables.specs.declared.fault.TableFault.{TableFault}
+use Rattle.vkg_tables.specs.declared.load.TheConstants.{MOST_BYTES}
 use Rattle.vkg_direct.specs.declared.direct_error.DirectError.{DirectError}
 use Rattle.vkg_direct.specs.declared.direct_error.DirectError.TheVariants as direct_error
 use Rattle.vkg_direct.specs.DirectMapping.{direct_result}
@@ -55,7 +56,7 @@ Reads bytes (Err stop.Memory) = ⊥
 
 -- own: a schema of 2147483648 bytes is past the limit (S14), before any other fault of it
 unfoldable pub ReadsSchema : List ℕ → Result (List Table) Stop → Type 0
-ReadsSchema bytes outcome = UnlessLong (fault.Schema 14 2147483647) (Reads bytes) (nat_lt 2147483647 (length bytes)) outcome
+ReadsSchema bytes outcome = UnlessLong (fault.Schema 14 MOST_BYTES) (Reads bytes) (nat_lt MOST_BYTES (length bytes)) outcome
 
 -- the file of a table: the folder, `/`, the IRI-safe form of the table's name, `.csv`
 abbrev pub table_file : List ℕ → Table → List ℕ
@@ -117,7 +118,7 @@ SaysTriples bytes base (Err stop.Memory) = ⊥
 
 -- own: a mapping of 2147483648 bytes is past the limit (M22), before any other fault of it
 unfoldable pub ReadsTriples : List ℕ → List ℕ → Result (List Triple) Stop → Type 0
-ReadsTriples bytes base outcome = UnlessLong (fault.Mapping 22 2147483647) (SaysTriples bytes base) (nat_lt 2147483647 (length bytes)) outcome
+ReadsTriples bytes base outcome = UnlessLong (fault.Mapping 22 MOST_BYTES) (SaysTriples bytes base) (nat_lt MOST_BYTES (length bytes)) outcome
 
 abbrev pub mapping_stop : MapFault → Stop
 mapping_stop f = stop.Refused (fault.Mapping f.check f.map)
@@ -163,7 +164,7 @@ SaysQuery bytes base (Err stop.Memory) = ⊥
 
 -- own: a query of 2147483648 bytes is past the limit (Q09), before any other fault of it
 unfoldable pub ReadsQuery : List ℕ → List ℕ → Result Query Stop → Type 0
-ReadsQuery bytes base outcome = UnlessLong (fault.Query 9 2147483647) (SaysQuery bytes base) (nat_lt 2147483647 (length bytes)) outcome
+ReadsQuery bytes base outcome = UnlessLong (fault.Query 9 MOST_BYTES) (SaysQuery bytes base) (nat_lt MOST_BYTES (length bytes)) outcome
 
 -- the query of a file
 abbrev pub LoadsQuery : Files → List ℕ → List ℕ → Stage Query

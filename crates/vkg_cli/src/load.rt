@@ -9,7 +9,7 @@ use crate::{Fault, Stop};
 use std::alloc::Global;
 use vkg_base::{LoadFault, Memory, Store};
 use vkg_schema::{Schema, SchemaError, Table, read_schema};
-use vkg_tables::{Database, TableError, TableFault};
+use vkg_tables::{Database, MOST_BYTES, TableError, TableFault};
 use vkg_terms::iri_safe;
 
 /// The most bytes that are taken of a file: one more than a file may have.
@@ -35,10 +35,10 @@ fn schema_of(alloc: Global, bytes: &[u8]) -> Result<Schema, Stop>
     ensures kind { IfErr result (λ why. (is_of_query why ≡ false) × (is_of_tables why ≡ false)) }
     ensures numbered { IfErr result IsNumbered }
 {
-    if bytes.len() > 2147483647 {
+    if bytes.len() > MOST_BYTES {
         return Err(Stop::Refused(Fault::Schema {
             check: 14,
-            at: 2147483647,
+            at: MOST_BYTES,
         }));
     }
     match read_schema(alloc, bytes) {

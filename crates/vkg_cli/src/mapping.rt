@@ -14,6 +14,7 @@ use vkg_direct::{DirectError, direct};
 use vkg_maps::Mapping;
 use vkg_r2rml::{MapError, read_mapping};
 use vkg_schema::Schema;
+use vkg_tables::MOST_BYTES;
 use vkg_turtle::{Triple, TurtleError, read_turtle};
 
 /// The direct mapping of the schema.
@@ -44,10 +45,10 @@ fn triples_of(alloc: Global, base: &str, bytes: &[u8]) -> Result<Items<Triple>, 
     ensures kind { IfErr result (λ why. (is_of_query why ≡ false) × (is_of_tables why ≡ false)) }
     ensures numbered { IfErr result IsNumbered }
 {
-    if bytes.len() > 2147483647 {
+    if bytes.len() > MOST_BYTES {
         return Err(Stop::Refused(Fault::Mapping {
             check: 22,
-            at: 2147483647,
+            at: MOST_BYTES,
         }));
     }
     match read_turtle(alloc, bytes, base) {

@@ -25,7 +25,7 @@ use vkg_base::{Lines, Memory, Store};
 use vkg_maps::Mapping;
 use vkg_rewrite::answer_lines;
 use vkg_sparql::{Query, QueryError, read_query};
-use vkg_tables::Database;
+use vkg_tables::{Database, MOST_BYTES};
 
 /// The query of a file's bytes.
 #[tactic(auto, unfolding(crate::specs::Work::ReadsQuery), using(crate::proofs::Numbers::query_number))]
@@ -35,10 +35,10 @@ fn query_of(alloc: Global, base: &str, bytes: &[u8]) -> Result<Query, Stop>
     ensures kind { IfErr result (λ why. is_of_tables why ≡ false) }
     ensures numbered { IfErr result IsNumbered }
 {
-    if bytes.len() > 2147483647 {
+    if bytes.len() > MOST_BYTES {
         return Err(Stop::Refused(Fault::Query {
             check: 9,
-            at: 2147483647,
+            at: MOST_BYTES,
         }));
     }
     match read_query(alloc, bytes, base) {

@@ -15,6 +15,7 @@ use Rattle.vkg_tables.specs.Field.{cell_of_csv}
 use Rattle.vkg_tables.specs.Steps.{cells_from, checked, file_from, onto, row_from, rows_from, table_from, table_of_records}
 use Rattle.vkg_tables.specs.TableFile.{cell_or_null, fault, faults_of_read, field_faults, field_under, not_once_faults, record_faults, row_faults, row_of, rows_of_records, table_of_bytes, unknown_faults}
 use Rattle.vkg_tables.specs.declared.fault.FileFault.{FileFault}
+use Rattle.vkg_tables.specs.declared.load.TheConstants.{MOST_BYTES}
 
 -- the value, or the first of the faults
 abbrev settled : {A : Type 0} → List FileFault → A → Result A FileFault
@@ -90,7 +91,7 @@ table-settled columns (header ∷ rows) =
     ∙ either-first (unknown_faults columns header) (not_once_faults columns header) _ _ _ (rows-settled header columns 1 rows)
 
 pub file_from-settled : (columns : List Column) (bytes : List ℕ) → file_from columns bytes ≡ table_of_bytes columns bytes
-file_from-settled columns bytes = long (nat_lt 2147483647 (length bytes))
+file_from-settled columns bytes = long (nat_lt MOST_BYTES (length bytes))
   where
     recs : List (List (List ℕ))
     recs = records default_config (strip_bom bytes)

@@ -36,6 +36,7 @@ use Rattle.vkg_tables.specs.Parts.{HasNoTerm, IsNoTerm}
 use Rattle.vkg_tables.proofs.FileFaults.{file_from-settled}
 use Rattle.vkg_tables.specs.Seen.{HoldsCells, HoldsRows, columns_at, columns_of}
 use Rattle.vkg_tables.specs.declared.fault.FileFault.{FileFault}
+use Rattle.vkg_tables.specs.declared.load.TheConstants.{MOST_BYTES}
 
 -- ---- a field is read as no term
 kind-NoTerm : (k : SqlType) (c : Cell) → k ≢ kind.Term → IsOfKind k c → IsNoTerm c
@@ -143,7 +144,7 @@ table-fits columns (header ∷ rs) rows t e = by (header_fault columns header) e
     by None h = rows-fit header columns 1 rs rows t.1 h
 
 from-fits : (columns : List Column) (bytes : List ℕ) (rows : List Row) → file_from columns bytes ≡ Ok rows → AllByRecursion (AllZip FitsColumn columns) rows
-from-fits columns bytes rows e = long (nat_lt 2147483647 (length bytes)) e
+from-fits columns bytes rows e = long (nat_lt MOST_BYTES (length bytes)) e
   where
     text : (b : Bool) → is_utf8 bytes ≡ b → table_of_records columns (if b then Ok (records default_config (strip_bom bytes)) else Err (fault 5 0 0)) ≡ Ok rows → AllByRecursion (AllZip FitsColumn columns) rows
     text true u h = table-fits columns (records default_config (strip_bom bytes)) rows (AreTexts-records (strip_bom bytes) (IsUtf8-strip_bom bytes (IsUtf8-from_is_utf8 bytes u))) h

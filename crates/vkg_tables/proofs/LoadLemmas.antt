@@ -7,6 +7,7 @@ use Rattle.vkg_lists.specs.Results.{followed_by, in_front}
 use Rattle.vkg_tables.specs.declared.fault.FileFault.{FileFault}
 use Rattle.vkg_tables.specs.declared.fault.FileError.{FileError}
 use Rattle.vkg_tables.specs.declared.fault.FileError.TheVariants as file_error
+use Rattle.vkg_tables.specs.declared.load.TheConstants.{MOST_BYTES}
 use Rattle.csv.specs.Reading.{default_config, records, strip_bom}
 use Rattle.csv.specs.Records.{field_at}
 use Rattle.std.specs.Str.{is_utf8}
@@ -49,12 +50,12 @@ pub rows-next : (header : List (List ℕ)) (columns : List Column) (i : ℕ) (re
     → rows_from header columns (i + 1) (drop i records) ≡ onto (row_from header columns (i + 1) (get_or records i d)) (rows_from header columns (i + 1 + 1) (drop (i + 1) records))
 rows-next header columns i records d h = ap (rows_from header columns (i + 1)) (drop-cons records i d h ∙ ap (λ n. get_or records i d ∷ drop n records) (sym (add-one i)))
 
-pub file-text : (bytes : List ℕ) → length bytes ≤ 2147483647 → IsUtf8 bytes → file_records bytes ≡ Ok (records default_config (strip_bom bytes))
-file-text bytes h u = rw (le-ltb 2147483647 (length bytes) h, is_utf8-from_IsUtf8 bytes u) refl
+pub file-text : (bytes : List ℕ) → length bytes ≤ MOST_BYTES → IsUtf8 bytes → file_records bytes ≡ Ok (records default_config (strip_bom bytes))
+file-text bytes h u = rw (le-ltb MOST_BYTES (length bytes) h, is_utf8-from_IsUtf8 bytes u) refl
 
-pub file-no-text : (bytes : List ℕ) → length bytes ≤ 2147483647 → ¬ (IsUtf8 bytes) → file_records bytes ≡ Err (fault 5 0 0)
+pub file-no-text : (bytes : List ℕ) → length bytes ≤ MOST_BYTES → ¬ (IsUtf8 bytes) → file_records bytes ≡ Err (fault 5 0 0)
 file-no-text bytes h u = by (is_utf8 bytes) refl
   where
     by : (b : Bool) → is_utf8 bytes ≡ b → file_records bytes ≡ Err (fault 5 0 0)
     by true e = absurd (u (IsUtf8-from_is_utf8 bytes e))
-    by false e = rw (le-ltb 2147483647 (length bytes) h, e) refl
+    by false e = rw (le-ltb MOST_BYTES (length bytes) h, e) refl

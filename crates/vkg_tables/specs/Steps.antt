@@ -14,6 +14,7 @@ use Rattle.vkg_tables.specs.TableFile.{fault, value_check}
 use Rattle.vkg_tables.specs.declared.fault.FileFault.{FileFault}
 use Rattle.vkg_tables.specs.declared.fault.FileError.{FileError}
 use Rattle.vkg_tables.specs.declared.fault.FileError.TheVariants as file_error
+use Rattle.vkg_tables.specs.declared.load.TheConstants.{MOST_BYTES}
 
 -- the error is the fault that is defined, or a want of memory
 abbrev pub FailsAs : {A : Type 0} → Result A FileFault → FileError → Type 0
@@ -73,7 +74,7 @@ table_from columns (header ∷ rows) = unless (header_fault columns header) (row
 -- the records of a file, or that it is too long or no text
 abbrev pub file_records : List ℕ → Result (List (List (List ℕ))) FileFault
 file_records bytes =
-    if nat_lt 2147483647 (length bytes) then Err (fault 11 0 0)
+    if nat_lt MOST_BYTES (length bytes) then Err (fault 11 0 0)
     else if is_utf8 bytes then Ok (records default_config (strip_bom bytes))
     else Err (fault 5 0 0)
 

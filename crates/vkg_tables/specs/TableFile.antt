@@ -13,6 +13,7 @@ use Rattle.vkg_schema.specs.declared.table.Column.{Column}
 use Rattle.vkg_schema.specs.Rows.{Row, is_null}
 use Rattle.vkg_tables.specs.Field.{cell_of_csv, field_of}
 use Rattle.vkg_tables.specs.declared.fault.FileFault.{FileFault}
+use Rattle.vkg_tables.specs.declared.load.TheConstants.{MOST_BYTES}
 
 -- a check that fails at a row and a column, which count from 1; the header is row 0
 abbrev pub fault : ℕ → ℕ → ℕ → FileFault
@@ -58,7 +59,7 @@ record_faults columns (header ∷ rows) =
 -- T11: more than 2147483647 bytes; T05: not UTF-8 (RFC 3629)
 abbrev pub file_faults : List Column → List ℕ → List FileFault
 file_faults columns bytes =
-    if nat_lt 2147483647 (length bytes) then fault 11 0 0 ∷ []
+    if nat_lt MOST_BYTES (length bytes) then fault 11 0 0 ∷ []
     else if is_utf8 bytes then record_faults columns (records default_config (strip_bom bytes))
     else fault 5 0 0 ∷ []
 

@@ -20,3 +20,4 @@ mod records;
 pub use database::Database;
 pub use fault::{TableError, TableFault};
 pub use keys::{child_columns, parent_columns};
+pub use load::MOST_BYTES;

@@ -14,8 +14,8 @@ use vkg_base::Items;
 use vkg_cells::Cell;
 use vkg_schema::Column;
 
-/// The most bytes of a file.
-const LIMIT: usize = 2_147_483_647;
+/// The most bytes of a file: of a table (T11), and of every other file that the program reads.
+pub const MOST_BYTES: usize = 2_147_483_647;
 
 // The cells of a row, in the order of the schema's columns.
 fn read_cells(
@@ -94,7 +94,7 @@ fn read_records(alloc: Global, bytes: &[u8]) -> Result<Vec<StringRecord>, FileEr
     ensures ok { IfOk result (λ v. file_records bytes.now ≡ Ok (map fields_of v.items)) }
     ensures err { IfErr result (λ e. FailsAs (file_records bytes.now) e) }
 {
-    if bytes.len() > LIMIT {
+    if bytes.len() > MOST_BYTES {
         return Err(at(11, 0, 0));
     }
     let Ok(text) = str::from_utf8(bytes) else {
