@@ -27,6 +27,16 @@ fn one_employee_works_in_one_department(rt: HostRuntime) -> Result<(), Fail> {
 }
 
 #[test]
+fn a_cell_stands_at_its_row_and_column(rt: HostRuntime) -> Result<(), Fail> {
+    let db = generate(rt.alloc(), 1)?;
+    assert!(rt; 0 < db.rows(1));
+    assert!(rt; 1 < db.columns(1));
+    let cell = db.cell(1, 0, 1)?;
+    assert_eq!(rt; field(&cell), "N1");
+    Ok(())
+}
+
+#[test]
 fn every_fourth_employee_has_no_department(rt: HostRuntime) -> Result<(), Fail> {
     let db = generate(rt.alloc(), 10)?;
     assert_eq!(rt; file(rt.alloc(), db.rows_of(0))?.as_str(), "1,D1,\n2,D2,\n");
