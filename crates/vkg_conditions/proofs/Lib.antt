@@ -2,3 +2,4 @@ pub mod ListLemmas
 pub mod Found
 pub mod PlaceLemmas
 pub mod Tried
+pub mod Told

@@ -15,7 +15,7 @@ use std::alloc::Global;
 use vkg_base::{Box, Items, Memory};
 use vkg_expr::Expr;
 use vkg_plan::{Plan, copy_plan_box, copy_plans};
-use vkg_rules::{Fell, Rewrite};
+use vkg_rules::{Answer, Fell, Rewrite, answered, last_turn, unchanged};
 use vkg_schema::Schema;
 
 /// What is constant, nested or said twice in a plan's own expressions goes, one step at a time: the first case that applies
@@ -42,6 +42,23 @@ impl Rewrite for SimplifyCondition {
             Case::Repeated,
         ];
         first_case(alloc, &cases, plan)
+    }
+
+    fn apply_again(
+        &self,
+        alloc: Global,
+        schema: &Schema,
+        plan: Box<Plan>,
+        place: &[usize],
+    ) -> Result<Answer, Memory> {
+        match last_turn(place) {
+            // the plan's own expressions are what they were
+            Some(_) => Ok(unchanged(plan)),
+            None => {
+                let made = self.apply(alloc, schema, &plan)?;
+                answered(alloc, plan, made)
+            }
+        }
     }
 
     ghost keeps = { λ r. simplify_condition-keeps };

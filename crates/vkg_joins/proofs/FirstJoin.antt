@@ -1,19 +1,21 @@
 -- The first member of a list that is a Join, opened where it stands.
 use Rattle.std.proofs.Common.{◌≡◌, ◌∙◌, ℕ, ◌+◌, ◌<◌, List, [], ◌∷◌, ◌++◌, Option, Some, None, map, take, drop, length, get_or, refl, sym, ap, append_assoc}
-use Rattle.std.specs.Prelude.{option_map}
+use Rattle.std.specs.Prelude.{false, option_map}
+use Rattle.std.specs.List.{list_any}
+use Rattle.vkg_lists.proofs.Bools.{neither}
 use Rattle.std.specs.Option.{option_map_or, option_or}
 use Rattle.std.proofs.lemmas.List.{map-append}
 use Rattle.vkg_expr.specs.declared.expr.Expr.{Expr as ExprValue}
 use Rattle.vkg_expr.specs.Seen.{expr_seen}
 use Rattle.vkg_plan.specs.declared.plan.Plan.{Plan as PlanValue}
 use Rattle.vkg_plan.specs.Kinds.{Tables, width}
-use Rattle.vkg_plan.specs.Plan.{Plan, Plans, More, Nil, each, plans}
+use Rattle.vkg_plan.specs.Plan.{Plan, Plans, Unit as UnitPlan, Empty, Scan, Select, Project, Join, Left, UnionAll, Distinct, More, Nil, each, plans}
 use Rattle.vkg_plan.specs.Seen.{plan_seen}
 use Rattle.vkg_rules.specs.declared.rewrite.Fell.TheVariants as fell
 use Rattle.vkg_rules.specs.StepSeen.{plans_seen}
 use Rattle.vkg_rules.proofs.Inside.{after_all}
 use Rattle.vkg_rules.proofs.Members.{after_seen, before_one, drop_here, seen_more}
-use Rattle.vkg_joins.specs.JoinInJoin.{Members, before, behind, opened, parts_behind}
+use Rattle.vkg_joins.specs.JoinInJoin.{Members, before, behind, is_join, opened, parts_behind}
 
 -- the members of the list that were passed stay before what comes of the rest
 abbrev pub passed : List Plan → Option Members → Option Members
@@ -65,3 +67,23 @@ no_join_here s ps i n m p below is none w k =
     closed-here s ps i n p None below is none k
     ∙ passed-one (map plan_seen (take i ps)) (plan_seen p) (opened s (n + width s (plan_seen p)) rest)
     ∙ (λ j. passed (sym (seen_more ps i p below is) j) (opened s (sym w j) rest))
+
+-- without a Join among them nothing is opened
+no-parts : (p : Plan) (n : ℕ) → is_join p ≡ false → parts_behind n p ≡ None
+no-parts UnitPlan n e = refl
+no-parts (Empty ks) n e = refl
+no-parts (Scan table) n e = refl
+no-parts (Select c p) n e = refl
+no-parts (Project es p) n e = refl
+no-parts (Join ps c) n e = cc
+no-parts (Left p q c) n e = refl
+no-parts (UnionAll ps) n e = refl
+no-parts (Distinct p) n e = refl
+
+pub no_join : (s : Tables) (n : ℕ) (ps : List PlanValue) → list_any (λ p. is_join (plan_seen p)) ps ≡ false → opened s n (plans_seen ps) ≡ None
+no_join s n [] e = refl
+no_join s n (p ∷ ps) e =
+    let none = neither (is_join (plan_seen p)) (list_any (λ q. is_join (plan_seen q)) ps) e in
+    let m = n + width s (plan_seen p) in
+    ap (λ o. option_or (option_map (before (plans_seen ps)) o) (option_map (behind (plan_seen p)) (opened s m (plans_seen ps)))) (no-parts (plan_seen p) n none.0)
+    ∙ ap (option_map (behind (plan_seen p))) (no_join s m ps none.1)

@@ -1,5 +1,5 @@
 -- A Join among the members of a Join: its members and its condition become those of the Join around it.
-use Rattle.std.specs.Prelude.{ℕ, ◌+◌, ◌++◌, Option, Some, None, option_map}
+use Rattle.std.specs.Prelude.{ℕ, ◌+◌, ◌++◌, Bool, true, false, Option, Some, None, option_map}
 use Rattle.std.specs.Option.{option_or}
 use Rattle.vkg_expr.specs.Expr.{Expr}
 use Rattle.vkg_expr.specs.Logic.{and_then}
@@ -8,6 +8,11 @@ use Rattle.vkg_plan.specs.Kinds.{Tables, width}
 use Rattle.vkg_plan.specs.Plan.{Plan, Plans, Join, Nil, More, each, plans}
 use Rattle.vkg_rules.specs.declared.rewrite.Fell.TheVariants as fell
 use Rattle.vkg_rules.specs.Steps.{Rule}
+
+-- the plan is a Join
+abbrev pub is_join : Plan → Bool
+is_join (Join ps c) = true
+is_join p = false
 
 -- members, and a condition on their columns
 abbrev pub Members : Type 0

@@ -1,4 +1,5 @@
 ghost use Rattle.std.specs.Prelude.{◌≡◌, ◌+◌, ◌<◌, ◌++◌, IfOk, length, take, drop, option_map};
+ghost use Rattle.std.specs.List.{list_any};
 ghost use Rattle.vkg_expr.specs.Logic.{and_then as one_then_other};
 ghost use Rattle.vkg_expr.specs.Seen.{expr_seen};
 ghost use Rattle.vkg_plan.specs.Plan.{Join};
@@ -8,7 +9,7 @@ ghost use Rattle.vkg_rules.specs.Measure.{kinds_or_none};
 ghost use Rattle.vkg_rules.specs.Parts.{AreTyped};
 ghost use Rattle.vkg_rules.specs.Steps.{IsTyped};
 ghost use Rattle.vkg_rules.specs.StepSeen.{plans_seen, step_seen};
-ghost use Rattle.vkg_joins.specs.JoinInJoin.{join_in_join, opened as opened_behind, parts_behind as parts_moved};
+ghost use Rattle.vkg_joins.specs.JoinInJoin.{is_join as a_join, join_in_join, opened as opened_behind, parts_behind as parts_moved};
 ghost use Rattle.vkg_joins.specs.JoinInJoinLaw.{join_in_join-keeps, join_in_join-falls};
 ghost use Rattle.vkg_joins.specs.MembersSeen.{members_seen};
 
@@ -78,6 +79,7 @@ fn rejoined(
 }
 
 /// The plans with the members of the first join in its place, and its condition over their columns, if there is one.
+#[tactic(auto, using(crate::proofs::FirstJoin::no_join))]
 fn opened(
     alloc: Global,
     schema: &Schema,
@@ -86,6 +88,9 @@ fn opened(
     requires { AreTyped schema.now (plans_seen ps.now) }
     ensures { IfOk result (λ o. option_map members_seen o ≡ opened_behind schema.now 0 (plans_seen ps.now)) }
 {
+    if !has_join(ps) {
+        return Ok(None);
+    }
     let mut before = Items::new(alloc);
     for i in 0..ps.len() {
         let p = &ps[i];
@@ -95,6 +100,19 @@ fn opened(
         before.append(kinds(alloc, schema, p)?)?;
     }
     Ok(None)
+}
+
+/// Whether one of the plans is a join. Without one no columns are counted.
+fn has_join(ps: &[Plan]) -> bool
+    ensures { result ≡ list_any (λ p. a_join (plan_seen p)) ps.now }
+{
+    ps.iter().any(|p| is_join(p))
+}
+
+fn is_join(p: &Plan) -> bool
+    ensures { result ≡ a_join (plan_seen p.now) }
+{
+    matches!(p, Plan::Join(_, _))
 }
 
 /// The members of a join and its condition, whose columns are moved behind those before the join.

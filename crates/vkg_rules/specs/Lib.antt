@@ -2,6 +2,7 @@ pub mod Measure
 pub mod Steps
 pub mod Everywhere
 pub mod StepSeen
+pub mod Places
 pub mod Nodes
 pub mod Parts
 pub mod Weights

@@ -9,11 +9,15 @@
 //! Stands on vkg_plan for plans and their rows, and on vkg_schema for the tables.
 #![tactic(auto)]
 
+mod answers;
 mod either;
 mod everywhere;
 pub mod nodes;
+mod places;
 mod rewrite;
 
+pub use answers::{Answer, answered, unchanged};
 pub use either::Either;
 pub use everywhere::Everywhere;
+pub use places::last_turn;
 pub use rewrite::{Fell, Rewrite};

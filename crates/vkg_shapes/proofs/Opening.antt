@@ -8,7 +8,8 @@ use Rattle.vkg_rules.specs.StepSeen.{plans_seen}
 use Rattle.vkg_rules.proofs.Inside.{after_all}
 use Rattle.vkg_rules.proofs.Members.{after_seen, drop_here, seen_more}
 use Rattle.vkg_shapes.proofs.Dropping.{before_one}
-use Rattle.vkg_shapes.specs.FlatUnion.{before_all, is_union, members, opened}
+use Rattle.vkg_rules.specs.Places.{before_all}
+use Rattle.vkg_shapes.specs.FlatUnion.{is_union, members, opened}
 
 -- the members before i stay
 abbrev pub Closed : List PlanValue → ℕ → Type 0

@@ -11,7 +11,7 @@ use Rattle.vkg_plan.specs.Seen.{plan_seen}
 use Rattle.vkg_plan.specs.Kinds.{Tables}
 use Rattle.vkg_rules.specs.Parts.{AreTyped, typed_more}
 use Rattle.vkg_rules.specs.Steps.{IsTyped}
-use Rattle.vkg_plan.specs.Plan.{Plan, Plans, Nil, More, plans, Unit as UnitPlan, Empty, Scan, Select, Project, Join, Left, UnionAll, Distinct}
+use Rattle.vkg_plan.specs.Plan.{Plan, Plans, Nil, More, plans, Select, Project, Join, Left, UnionAll, Distinct}
 use Rattle.vkg_rules.specs.declared.rewrite.Fell.{Fell}
 use Rattle.vkg_rules.specs.Everywhere.{among, around, everywhere, first_of_list, in_members, inside, later_in_list}
 use Rattle.vkg_rules.specs.Steps.{ListStep, Step}
@@ -19,36 +19,14 @@ use Rattle.vkg_rules.proofs.Members.{everywhere-root}
 use Rattle.vkg_rules.proofs.Seen.{seen-Join, seen-Distinct}
 use Rattle.vkg_plan.proofs.SeenParts.{seen-Select, seen-Project, seen-Left, seen-UnionAll}
 use Rattle.vkg_steps.specs.Behind.{Behind, BehindEach, BehindMember}
-use Rattle.vkg_steps.specs.Outcomes.{IsInside, IsListStep, IsStep, list_outcome, outcome}
+use Rattle.vkg_rules.proofs.Outcomes.{outcome-some}
+use Rattle.vkg_rules.specs.Places.{DidNotApply, DiffersAt, DiffersBefore, outcome, with_at}
+use Rattle.vkg_steps.specs.Outcomes.{DifferAt, IsInside, IsListStep, IsNext, IsStep, list_outcome}
+use Rattle.vkg_steps.proofs.PlaceLemmas.{differ-set, differs-distinct, differs-join, differs-left, differs-project, differs-right, differs-select, differs-union, dropped as drop_behind, not-applied, nothing_behind}
 
 pub ruleset outcomes = (seen-Select, seen-Project, seen-Left, seen-UnionAll, seen-Join, seen-Distinct)
 
--- ---- from the outcome to the step
-
-pub outcome-none : (p q : Plan) (o : Option Step) → (q, None) ≡ outcome p o → (o ≡ None) × (q ≡ p)
-outcome-none p q None e = (refl, ap (λ (y : Plan × Option Fell). y.0) e)
-outcome-none p q (Some x) e = let d : ◌≡◌ {A = Option Fell} None (Some x.1) = ap (λ (y : Plan × Option Fell). y.1) e in cc d
-
-pub outcome-some : (p q : Plan) (f : Fell) (o : Option Step) → (q, Some f) ≡ outcome p o → o ≡ Some (q, f)
-outcome-some p q f None e = let d : Some f ≡ None = ap (λ (y : Plan × Option Fell). y.1) e in cc d
-outcome-some p q f (Some x) e =
-    let here : q ≡ x.0 = ap (λ (y : Plan × Option Fell). y.0) e in
-    let there : f ≡ x.1 = same_Some f x.1 (ap (λ (y : Plan × Option Fell). y.1) e) in
-    λ i. Some (sym here i, sym there i)
-
 -- ---- places
-
--- nothing stands before the root but what is around it
-pub nothing_behind : (r : Plan → Option Step) (p : Plan) → Behind r [] p
-nothing_behind r UnitPlan = tt
-nothing_behind r (Empty ks) = tt
-nothing_behind r (Scan table) = tt
-nothing_behind r (Select c p) = nothing_behind r p
-nothing_behind r (Project es p) = nothing_behind r p
-nothing_behind r (Join ps c) = tt
-nothing_behind r (Left p q c) = tt
-nothing_behind r (UnionAll ps) = tt
-nothing_behind r (Distinct p) = nothing_behind r p
 
 pub first_behind : (r : Plan → Option Step) (ps : Plans) → BehindMember r zero [] ps
 first_behind r Nil = tt
@@ -60,11 +38,22 @@ turned place at = reverse-append place (at ∷ [])
 
 -- ---- the root
 
-pub at_root : (r : Plan → Option Step) (p q : Plan) (f : Fell) → r p ≡ Some (q, f) → IsStep r p q (Some f) []
-at_root r p q f e = (sym (ap (outcome p) (everywhere-root r p ∙ ap (λ o. option_or o (inside r p)) e)), nothing_behind r q)
+-- where a member was dropped, or the root
+next_place : (r : Plan → Option Step) (path next : List ℕ) (dropped : Option ℕ) (p q : Plan) → Behind r path p → DiffersBefore dropped p q → IsNext path dropped next → Behind r next q × DiffersAt next p q
+next_place r path [] dropped p q b d n = (nothing_behind r q, tt)
+next_place r [] (at ∷ []) dropped p q b d n = absurd n.1
+next_place r (m ∷ path) (at ∷ []) dropped p q b d n =
+    let there : DiffersAt (at ∷ []) p q = subst (λ (o : Option ℕ). DiffersBefore o p q) n.0 d in
+    let behind : Behind r (at ∷ path) (with_at (at ∷ []) there.0 q) = subst (Behind r (at ∷ path)) (sym there.1) (subst (λ (k : ℕ). Behind r (k ∷ path) p) n.1 b) in
+    (drop_behind r at path there.0 q behind, there)
+next_place r path (at ∷ m ∷ more) dropped p q b d n = absurd n
+
+pub at_root : (r : Plan → Option Step) (path next : List ℕ) (dropped : Option ℕ) (p q : Plan) (f : Fell) → r p ≡ Some (q, f) → Behind r path p → DiffersBefore dropped p q → IsNext path dropped next →
+    ((q, Some f) ≡ outcome p (everywhere r p)) × Behind r next q × DiffersAt next p q
+at_root r path next dropped p q f e b d n = let h = next_place r path next dropped p q b d n in (sym (ap (outcome p) (everywhere-root r p ∙ ap (λ o. option_or o (inside r p)) e)), h.0, h.1)
 
 pub from_inside : (r : Plan → Option Step) (p q : Plan) (f : Option Fell) (place : List ℕ) → r p ≡ None → IsInside r p q f place → IsStep r p q f place
-from_inside r p q f place e is = (is.0 ∙ sym (ap (outcome p) (everywhere-root r p ∙ ap (λ o. option_or o (inside r p)) e)), is.1)
+from_inside r p q f place e is = (is.0 ∙ sym (ap (outcome p) (everywhere-root r p ∙ ap (λ o. option_or o (inside r p)) e)), is.1, is.2)
 
 -- ---- the nodes
 
@@ -88,38 +77,46 @@ outcome-UnionAll : (ps : Plans) (o : Option ListStep) → outcome (UnionAll ps) 
 outcome-UnionAll ps None = refl
 outcome-UnionAll ps (Some x) = refl
 
-pub in_select : (r : Plan → Option Step) (c : Expr) (p q : Plan) (f : Option Fell) (place : List ℕ) → IsStep r p q f place → IsInside r (Select c p) (Select c q) f place
-in_select r c p q f place is = (ap (λ (y : Plan × Option Fell). (Select c y.0, y.1)) is.0 ∙ sym (outcome-Select c p (everywhere r p)), is.1)
+pub in_select : (r : Plan → Option Step) (c : Expr) (p q : Plan) (f : Option Fell) (place : List ℕ) → r (Select c p) ≡ None → IsStep r p q f place → IsInside r (Select c p) (Select c q) f place
+in_select r c p q f place none is =
+    let d = differs-select c (reverse place) p q is.2 in
+    (ap (λ (y : Plan × Option Fell). (Select c y.0, y.1)) is.0 ∙ sym (outcome-Select c p (everywhere r p)), (not-applied r (reverse place) (Select c p) (Select c q) none d, is.1), d)
 
-pub in_project : (r : Plan → Option Step) (es : List Expr) (p q : Plan) (f : Option Fell) (place : List ℕ) → IsStep r p q f place → IsInside r (Project es p) (Project es q) f place
-in_project r es p q f place is = (ap (λ (y : Plan × Option Fell). (Project es y.0, y.1)) is.0 ∙ sym (outcome-Project es p (everywhere r p)), is.1)
+pub in_project : (r : Plan → Option Step) (es : List Expr) (p q : Plan) (f : Option Fell) (place : List ℕ) → r (Project es p) ≡ None → IsStep r p q f place → IsInside r (Project es p) (Project es q) f place
+in_project r es p q f place none is =
+    let d = differs-project es (reverse place) p q is.2 in
+    (ap (λ (y : Plan × Option Fell). (Project es y.0, y.1)) is.0 ∙ sym (outcome-Project es p (everywhere r p)), (not-applied r (reverse place) (Project es p) (Project es q) none d, is.1), d)
 
-pub in_distinct : (r : Plan → Option Step) (p q : Plan) (f : Option Fell) (place : List ℕ) → IsStep r p q f place → IsInside r (Distinct p) (Distinct q) f place
-in_distinct r p q f place is = (ap (λ (y : Plan × Option Fell). (Distinct y.0, y.1)) is.0 ∙ sym (outcome-Distinct p (everywhere r p)), is.1)
+pub in_distinct : (r : Plan → Option Step) (p q : Plan) (f : Option Fell) (place : List ℕ) → r (Distinct p) ≡ None → IsStep r p q f place → IsInside r (Distinct p) (Distinct q) f place
+in_distinct r p q f place none is =
+    let d = differs-distinct (reverse place) p q is.2 in
+    (ap (λ (y : Plan × Option Fell). (Distinct y.0, y.1)) is.0 ∙ sym (outcome-Distinct p (everywhere r p)), (not-applied r (reverse place) (Distinct p) (Distinct q) none d, is.1), d)
 
-each_behind_join : (r : Plan → Option Step) (path : List ℕ) (ps : Plans) (c : Expr) → BehindEach r path ps → Behind r path (Join ps c)
-each_behind_join r [] ps c h = tt
-each_behind_join r (at ∷ path) ps c h = h
+each_behind_join : (r : Plan → Option Step) (path : List ℕ) (ps : Plans) (c : Expr) → DidNotApply r path (Join ps c) → BehindEach r path ps → Behind r path (Join ps c)
+each_behind_join r [] ps c none h = tt
+each_behind_join r (at ∷ path) ps c none h = (none, h)
 
-each_behind_union : (r : Plan → Option Step) (path : List ℕ) (ps : Plans) → BehindEach r path ps → Behind r path (UnionAll ps)
-each_behind_union r [] ps h = tt
-each_behind_union r (at ∷ path) ps h = h
+each_behind_union : (r : Plan → Option Step) (path : List ℕ) (ps : Plans) → DidNotApply r path (UnionAll ps) → BehindEach r path ps → Behind r path (UnionAll ps)
+each_behind_union r [] ps none h = tt
+each_behind_union r (at ∷ path) ps none h = (none, h)
 
 pub join_behind : (r : Plan → Option Step) (path : List ℕ) (ps : Plans) (c : Expr) → Behind r path (Join ps c) → BehindEach r path ps
 join_behind r [] ps c h = tt
-join_behind r (at ∷ path) ps c h = h
+join_behind r (at ∷ path) ps c h = h.1
 
 pub union_behind : (r : Plan → Option Step) (path : List ℕ) (ps : Plans) → Behind r path (UnionAll ps) → BehindEach r path ps
 union_behind r [] ps h = tt
-union_behind r (at ∷ path) ps h = h
+union_behind r (at ∷ path) ps h = h.1
 
-pub in_join : (r : Plan → Option Step) (ps qs : Plans) (c : Expr) (f : Option Fell) (place : List ℕ) → IsListStep r ps qs f place → IsInside r (Join ps c) (Join qs c) f place
-in_join r ps qs c f place is =
-    (ap (λ (y : Plans × Option Fell). (Join y.0 c, y.1)) is.0 ∙ sym (outcome-Join ps c (in_members r ps)), each_behind_join r (reverse place) qs c is.1)
+pub in_join : (r : Plan → Option Step) (ps qs : Plans) (c : Expr) (f : Option Fell) (place : List ℕ) → r (Join ps c) ≡ None → IsListStep r ps qs f place → IsInside r (Join ps c) (Join qs c) f place
+in_join r ps qs c f place none is =
+    let d = differs-join c (reverse place) ps qs is.2 in
+    (ap (λ (y : Plans × Option Fell). (Join y.0 c, y.1)) is.0 ∙ sym (outcome-Join ps c (in_members r ps)), each_behind_join r (reverse place) qs c (not-applied r (reverse place) (Join ps c) (Join qs c) none d) is.1, d)
 
-pub in_union : (r : Plan → Option Step) (ps qs : Plans) (f : Option Fell) (place : List ℕ) → IsListStep r ps qs f place → IsInside r (UnionAll ps) (UnionAll qs) f place
-in_union r ps qs f place is =
-    (ap (λ (y : Plans × Option Fell). (UnionAll y.0, y.1)) is.0 ∙ sym (outcome-UnionAll ps (in_members r ps)), each_behind_union r (reverse place) qs is.1)
+pub in_union : (r : Plan → Option Step) (ps qs : Plans) (f : Option Fell) (place : List ℕ) → r (UnionAll ps) ≡ None → IsListStep r ps qs f place → IsInside r (UnionAll ps) (UnionAll qs) f place
+in_union r ps qs f place none is =
+    let d = differs-union (reverse place) ps qs is.2 in
+    (ap (λ (y : Plans × Option Fell). (UnionAll y.0, y.1)) is.0 ∙ sym (outcome-UnionAll ps (in_members r ps)), each_behind_union r (reverse place) qs (not-applied r (reverse place) (UnionAll ps) (UnionAll qs) none d) is.1, d)
 
 -- ---- Left: the left side, or else the right one
 
@@ -131,20 +128,26 @@ right-outcome : (p q : Plan) (c : Expr) (n : Option Step) → outcome (Left p q 
 right-outcome p q c None = refl
 right-outcome p q c (Some x) = refl
 
-pub in_left : (r : Plan → Option Step) (p q p' : Plan) (c : Expr) (f : Fell) (place : List ℕ) → IsStep r p p' (Some f) place → IsInside r (Left p q c) (Left p' q c) (Some f) (place ++ 0 ∷ [])
-in_left r p q p' c f place is = (
-  sym (left-some p q c (everywhere r p) (everywhere r q) (p', f) (outcome-some p p' f (everywhere r p) is.0)),
-  subst (λ (path : List ℕ). Behind r path (Left p' q c)) (sym (turned place 0)) is.1,
-)
+pub in_left : (r : Plan → Option Step) (p q p' : Plan) (c : Expr) (f : Fell) (place : List ℕ) → r (Left p q c) ≡ None → IsStep r p p' (Some f) place → IsInside r (Left p q c) (Left p' q c) (Some f) (place ++ 0 ∷ [])
+in_left r p q p' c f place none is =
+    let d = differs-left (reverse place) p p' q c is.2 in
+    let same = sym (turned place 0) in (
+      sym (left-some p q c (everywhere r p) (everywhere r q) (p', f) (outcome-some p p' f (everywhere r p) is.0)),
+      subst (λ (path : List ℕ). Behind r path (Left p' q c)) same (not-applied r (0 ∷ reverse place) (Left p q c) (Left p' q c) none d, is.1),
+      subst (λ (path : List ℕ). DiffersAt path (Left p q c) (Left p' q c)) same d,
+    )
 
-pub in_right : (r : Plan → Option Step) (p q q' : Plan) (c : Expr) (f : Option Fell) (place : List ℕ) → everywhere r p ≡ None → IsStep r q q' f place →
+pub in_right : (r : Plan → Option Step) (p q q' : Plan) (c : Expr) (f : Option Fell) (place : List ℕ) → everywhere r p ≡ None → r (Left p q c) ≡ None → IsStep r q q' f place →
     IsInside r (Left p q c) (Left p q' c) f (place ++ 1 ∷ [])
-in_right r p q q' c f place none is = (
-  ap (λ (y : Plan × Option Fell). (Left p y.0 c, y.1)) is.0
-      ∙ sym (right-outcome p q c (everywhere r q))
-      ∙ sym (ap (λ (z : Option Step). outcome (Left p q c) (option_or (option_map (around (λ x. Left x q c)) z) (option_map (around (λ x. Left p x c)) (everywhere r q)))) none),
-  subst (λ (path : List ℕ). Behind r path (Left p q' c)) (sym (turned place 1)) (none, is.1),
-)
+in_right r p q q' c f place settled none is =
+    let d = differs-right (reverse place) p q q' c is.2 in
+    let same = sym (turned place 1) in (
+      ap (λ (y : Plan × Option Fell). (Left p y.0 c, y.1)) is.0
+          ∙ sym (right-outcome p q c (everywhere r q))
+          ∙ sym (ap (λ (z : Option Step). outcome (Left p q c) (option_or (option_map (around (λ x. Left x q c)) z) (option_map (around (λ x. Left p x c)) (everywhere r q)))) settled),
+      subst (λ (path : List ℕ). Behind r path (Left p q' c)) same (not-applied r (1 ∷ reverse place) (Left p q c) (Left p q' c) none d, (settled, is.1)),
+      subst (λ (path : List ℕ). DiffersAt path (Left p q c) (Left p q' c)) same d,
+    )
 
 -- ---- lists
 
@@ -192,11 +195,13 @@ in_list r xs ys at path place p q f b e is same = (
       ∙ sym (ap (list_outcome (plans xs)) (found_behind r xs at path p (q, f) b e (outcome-some p q f (everywhere r p) is.0))),
   subst (λ (way : List ℕ). BehindEach r way (plans ys)) (sym (turned place at))
       (subst (λ (l : List Plan). BehindMember r at (reverse place) (plans l)) (sym same) (set_behind r xs at path (reverse place) q b is.1)),
+  subst (λ (way : List ℕ). DifferAt way (plans xs) (plans ys)) (sym (turned place at))
+      (subst (λ (l : List Plan). DifferAt (at ∷ reverse place) (plans xs) (plans l)) (sym same) (differ-set xs at (reverse place) p q e is.2)),
 )
 
 pub in_none : (r : Plan → Option Step) (xs ys : List Plan) (at : ℕ) (path : List ℕ) → BehindMember r at path (plans xs) → length xs ≤ at → ys ≡ xs → IsListStep r (plans xs) (plans ys) None []
 in_none r xs ys at path b h same =
-    (ap (λ (l : List Plan). (plans l, None)) same ∙ sym (ap (list_outcome (plans xs)) (none_left r xs at path b h)), tt)
+    (ap (λ (l : List Plan). (plans l, None)) same ∙ sym (ap (list_outcome (plans xs)) (none_left r xs at path b h)), tt, tt)
 
 -- ---- what is at a place
 
@@ -216,15 +221,20 @@ typed_at s (x ∷ ps) (suc i) p t e = typed_at s ps i p (typed_more s x (plans p
 -- ---- left joins by the turn
 
 pub left_turn : (r : Plan → Option Step) (turn : ℕ) (path : List ℕ) (p q : Plan) (c : Expr) → Behind r (turn ∷ path) (Left p q c) → turn ≡ 0 → Behind r path p
-left_turn r zero path p q c h e = h
+left_turn r zero path p q c h e = h.1
 left_turn r (suc n) path p q c h e = absurd (omega (arith, e))
 
 pub right_turn : (r : Plan → Option Step) (turn : ℕ) (path : List ℕ) (p q : Plan) (c : Expr) → Behind r (turn ∷ path) (Left p q c) → 0 < turn → (everywhere r p ≡ None) × Behind r path q
 right_turn r zero path p q c h e = absurd (omega (arith, e))
-right_turn r (suc n) path p q c h e = h
+right_turn r (suc n) path p q c h e = h.1
 
 -- what is told of a result part by part
 pub told : {X : Type 0} (P : Plan → Option Fell → List ℕ → Type 0) (a : X → Plan) (b : X → Option Fell) (d : X → List ℕ) (p : Plan) (f : Option Fell) (n : List ℕ) (made : Result X Memory)
     → IfOk made (λ x. a x ≡ p) → IfOk made (λ x. b x ≡ f) → IfOk made (λ x. d x ≡ n) → P p f n → IfOk made (λ x. P (a x) (b x) (d x))
 told P a b d p f n (Ok x) e h k is = subst (λ z. P z (b x) (d x)) (sym e) (subst (λ z. P p z (d x)) (sym h) (subst (λ z. P p f z) (sym k) is))
 told P a b d p f n (Err m) e h k is = tt
+
+pub told_next : {X : Type 0} (P : Plan → Option Fell → List ℕ → Type 0) (N : List ℕ → Type 0) (a : X → Plan) (b : X → Option Fell) (d : X → List ℕ) (p : Plan) (f : Option Fell) (made : Result X Memory)
+    → IfOk made (λ x. a x ≡ p) → IfOk made (λ x. b x ≡ f) → IfOk made (λ x. N (d x)) → ((n : List ℕ) → N n → P p f n) → IfOk made (λ x. P (a x) (b x) (d x))
+told_next P N a b d p f (Ok x) e h k is = subst (λ z. P z (b x) (d x)) (sym e) (subst (λ z. P p z (d x)) (sym h) (is (d x) k))
+told_next P N a b d p f (Err m) e h k is = tt

@@ -2,7 +2,7 @@
 //
 // Where a call fails, a condition at hand is dropped by a call, and so is a member that is put back: in line, each of their many
 // forms is one more way out of the function, which the prover goes.
-ghost use Rattle.std.specs.Prelude.{◌≡◌, [], ◌∷◌, ◌++◌, IfOk, MatchOption, None, map, reverse};
+ghost use Rattle.std.specs.Prelude.{◌≡◌, [], ◌∷◌, ◌++◌, IfOk, IfSome, None, Some, map, reverse};
 ghost use Rattle.vkg_expr.specs.Seen.{expr_seen};
 ghost use Rattle.vkg_plan.specs.Plan.{Distinct, Join, Left, Project, Select, UnionAll};
 ghost use Rattle.vkg_plan.specs.Seen.{plan_seen};
@@ -11,14 +11,14 @@ ghost use Rattle.vkg_rules.specs.Parts.{AreTyped};
 ghost use Rattle.vkg_rules.specs.Steps.{IsTyped};
 ghost use Rattle.vkg_rules.specs.StepSeen.{plans_seen};
 ghost use Rattle.vkg_steps.specs.Behind.{Behind, BehindEach, BehindMember};
-ghost use Rattle.vkg_steps.specs.Outcomes.{IsInside, IsListStep, IsStep};
+ghost use Rattle.vkg_steps.specs.Outcomes.{IsFirst, IsInside, IsListStep, IsNext, IsStep};
 
 use std::alloc::Global;
 use std::mem;
 use vkg_base::{Box, Items, Memory};
 use vkg_expr::Expr;
 use vkg_plan::Plan;
-use vkg_rules::{Fell, Rewrite};
+use vkg_rules::{Answer, Fell, Rewrite, last_turn};
 use vkg_schema::Schema;
 
 /// A plan after a step.
@@ -54,10 +54,51 @@ pub fn step_in<R: Rewrite>(
     requires behind { Behind (R.becomes rule.now schema.now) (reverse place.now) (plan_seen plan) }
     ensures { IfOk result (λ x. IsStep (R.becomes rule.now schema.now) (plan_seen plan) (plan_seen x.plan) x.fell x.place) }
 {
-    match rule.apply(alloc, schema, &plan)? {
-        Some((q, fell)) => boxed(alloc, q, Some(fell), Items::new(alloc)),
-        None => step_below(rule, alloc, schema, plan.into_inner(), place),
+    let asked = rule.apply_again(alloc, schema, plan, place)?;
+    match asked.fell {
+        Some(_) => changed(alloc, asked, place),
+        None => step_below(rule, alloc, schema, asked.plan.into_inner(), place),
     }
+}
+
+/// A plan that the rule changed at the root, which was reached on the way to a place.
+fn changed(alloc: Global, asked: Answer, place: &[usize]) -> Result<Stepped, Memory>
+    ensures plan { IfOk result (λ x. x.plan ≡ asked.plan) }
+    ensures fell { IfOk result (λ x. x.fell ≡ asked.fell) }
+    ensures place { IfOk result (λ x. IsNext (reverse place.now) asked.dropped (reverse x.place)) }
+{
+    let Answer {
+        plan,
+        fell,
+        dropped,
+    } = asked;
+    let place = next_place(alloc, place, dropped)?;
+    Ok(Stepped { plan, fell, place })
+}
+
+/// Where to look next: where a member was dropped, if the place led there, else from the root on.
+fn next_place(
+    alloc: Global,
+    place: &[usize],
+    dropped: Option<usize>,
+) -> Result<Items<usize>, Memory>
+    ensures { IfOk result (λ next. IsNext (reverse place.now) dropped (reverse next)) }
+{
+    let mut next = Items::new(alloc);
+    let Some(turn) = same_turn(place, dropped) else {
+        return Ok(next);
+    };
+    next.push(turn)?;
+    Ok(next)
+}
+
+/// The first turn on the way to a place, if a member was dropped there.
+fn same_turn(place: &[usize], dropped: Option<usize>) -> Option<usize>
+    ensures { IfSome result (λ at. (dropped ≡ Some at) × IsFirst at (reverse place.now)) }
+{
+    let at = dropped?;
+    let (turn, _) = last_turn(place)?;
+    if turn == at { Some(at) } else { None }
 }
 
 fn boxed(
@@ -83,6 +124,7 @@ fn step_below<R: Rewrite>(
     place: &[usize],
 ) -> Result<Stepped, Memory>
     requires typed { IsTyped schema.now (plan_seen plan) }
+    requires none { R.becomes rule.now schema.now (plan_seen plan) ≡ None }
     requires behind { Behind (R.becomes rule.now schema.now) (reverse place.now) (plan_seen plan) }
     ensures { IfOk result (λ x. IsInside (R.becomes rule.now schema.now) (plan_seen plan) (plan_seen x.plan) x.fell x.place) }
 {
@@ -174,6 +216,7 @@ fn step_left<R: Rewrite>(
 ) -> Result<Stepped, Memory>
     requires p { IsTyped schema.now (plan_seen p) }
     requires q { IsTyped schema.now (plan_seen q) }
+    requires none { R.becomes rule.now schema.now (Left (plan_seen p) (plan_seen q) (expr_seen c)) ≡ None }
     requires behind { Behind (R.becomes rule.now schema.now) (reverse place.now) (Left (plan_seen p) (plan_seen q) (expr_seen c)) }
     ensures { IfOk result (λ x. IsInside (R.becomes rule.now schema.now) (Left (plan_seen p) (plan_seen q) (expr_seen c)) (plan_seen x.plan) x.fell x.place) }
 {
@@ -184,16 +227,6 @@ fn step_left<R: Rewrite>(
         step_sides(rule, alloc, schema, p, q, c, below)
     } else {
         step_right(rule, alloc, schema, p, q, c, below)
-    }
-}
-
-/// The last turn of a place, if there is one, and the place without it.
-fn last_turn(place: &[usize]) -> Option<(usize, &[usize])>
-    ensures { MatchOption result (place.now ≡ []) (λ x. reverse place.now ≡ x.0 ∷ reverse x.1.now) }
-{
-    match place {
-        [] => None,
-        [below @ .., at] => Some((*at, below)),
     }
 }
 
@@ -210,6 +243,7 @@ fn step_sides<R: Rewrite>(
 ) -> Result<Stepped, Memory>
     requires p { IsTyped schema.now (plan_seen p) }
     requires q { IsTyped schema.now (plan_seen q) }
+    requires none { R.becomes rule.now schema.now (Left (plan_seen p) (plan_seen q) (expr_seen c)) ≡ None }
     requires behind { Behind (R.becomes rule.now schema.now) (reverse place.now) (plan_seen p) }
     ensures { IfOk result (λ x. IsInside (R.becomes rule.now schema.now) (Left (plan_seen p) (plan_seen q) (expr_seen c)) (plan_seen x.plan) x.fell x.place) }
 {
@@ -238,6 +272,7 @@ fn step_right<R: Rewrite>(
 ) -> Result<Stepped, Memory>
     requires p { everywhere (R.becomes rule.now schema.now) (plan_seen p) ≡ None }
     requires q { IsTyped schema.now (plan_seen q) }
+    requires none { R.becomes rule.now schema.now (Left (plan_seen p) (plan_seen q) (expr_seen c)) ≡ None }
     requires behind { Behind (R.becomes rule.now schema.now) (reverse place.now) (plan_seen q) }
     ensures { IfOk result (λ x. IsInside (R.becomes rule.now schema.now) (Left (plan_seen p) (plan_seen q) (expr_seen c)) (plan_seen x.plan) x.fell x.place) }
 {

@@ -1,3 +1,4 @@
 pub mod Keys
 pub mod Repeats
 pub mod SamePairs
+pub mod Told

@@ -12,7 +12,7 @@ abbrev mutual
   same_plan (Empty ks) (Empty ls) = pointwise same_kind ks ls
   same_plan (Scan t) (Scan u) = t == u
   same_plan (Select c p) (Select d q) = same_expr c d && same_plan p q
-  same_plan (Project es p) (Project fs q) = same_exprs (exprs es) (exprs fs) && same_plan p q
+  same_plan (Project es p) (Project fs q) = same_plan p q && same_exprs (exprs es) (exprs fs)
   same_plan (Join ps c) (Join qs d) = same_plans ps qs && same_expr c d
   same_plan (Left p q c) (Left r t d) = same_plan p r && same_plan q t && same_expr c d
   same_plan (UnionAll ps) (UnionAll qs) = same_plans ps qs

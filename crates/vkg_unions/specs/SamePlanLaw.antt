@@ -38,8 +38,8 @@ mutual
   same_plan-is (Select c p) (Select d q) h = let b = and_parts _ _ h in let l = same_expr-is c d b.0 in let r = same_plan-is p q b.1 in λ i. Select (l i) (r i)
   same_plan-is (Project es p) (Project fs q) h =
       let b = and_parts _ _ h in
-      let l = exprs-is es fs (same_exprs-is (exprs es) (exprs fs) b.0) in
-      let r = same_plan-is p q b.1 in λ i. Project (l i) (r i)
+      let l = exprs-is es fs (same_exprs-is (exprs es) (exprs fs) b.1) in
+      let r = same_plan-is p q b.0 in λ i. Project (l i) (r i)
   same_plan-is (Join ps c) (Join qs d) h = let b = and_parts _ _ h in let l = same_plans-is ps qs b.0 in let r = same_expr-is c d b.1 in λ i. Join (l i) (r i)
   same_plan-is (Left p q c) (Left r t d) h =
       let b = and_parts (same_plan p r && same_plan q t) (same_expr c d) h in
@@ -62,7 +62,7 @@ mutual
   same_plan-itself (Empty ks) = eq_itself (list_test kinds_apart) ks
   same_plan-itself (Scan t) = eq_itself nat_test t
   same_plan-itself (Select c p) = and_true (same_expr c c) (same_plan p p) (same_expr-itself c) (same_plan-itself p)
-  same_plan-itself (Project es p) = and_true (same_exprs (exprs es) (exprs es)) (same_plan p p) (same_exprs-itself (exprs es)) (same_plan-itself p)
+  same_plan-itself (Project es p) = and_true (same_plan p p) (same_exprs (exprs es) (exprs es)) (same_plan-itself p) (same_exprs-itself (exprs es))
   same_plan-itself (Join ps c) = and_true (same_plans ps ps) (same_expr c c) (same_plans-itself ps) (same_expr-itself c)
   same_plan-itself (Left p q c) = and_true (same_plan p p && same_plan q q) (same_expr c c) (and_true (same_plan p p) (same_plan q q) (same_plan-itself p) (same_plan-itself q)) (same_expr-itself c)
   same_plan-itself (UnionAll ps) = same_plans-itself ps

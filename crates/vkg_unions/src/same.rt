@@ -21,7 +21,7 @@ pub fn same_plan(a: &Plan, b: &Plan) -> bool
         (Plan::Scan(t), Plan::Scan(u)) => *t == *u,
         (Plan::Select(c, p), Plan::Select(d, q)) => same_expr(c, d) && same_plan(p, q),
         (Plan::Project(es, p), Plan::Project(fs, q)) => {
-            same_exprs(es.as_slice(), fs.as_slice()) && same_plan(p, q)
+            same_plan(p, q) && same_exprs(es.as_slice(), fs.as_slice())
         }
         (Plan::Join(ps, c), Plan::Join(qs, d)) => {
             same_plans(ps.as_slice(), qs.as_slice()) && same_expr(c, d)

@@ -13,9 +13,10 @@ use Rattle.vkg_chains.specs.Ends.{IsEndOf, Settled, end_of}
 use Rattle.vkg_chains.specs.Fix.{more, run}
 use Rattle.vkg_chains.specs.FixLaw.{run-none, run-some, typed-after}
 use Rattle.vkg_chains.proofs.EndLemmas.{end-is, end-keeps, end-settled}
-use Rattle.vkg_steps.specs.Outcomes.{outcome}
+use Rattle.vkg_rules.specs.Places.{outcome}
 use Rattle.vkg_steps.specs.Behind.{Behind}
-use Rattle.vkg_steps.proofs.OutcomeLemmas.{nothing_behind, outcome-none, outcome-some}
+use Rattle.vkg_rules.proofs.Outcomes.{outcome-none, outcome-some}
+use Rattle.vkg_steps.proofs.PlaceLemmas.{nothing_behind}
 use Rattle.vkg_steps.proofs.normal.normalise.Goals as goal
 
 module _ (r : Rule) (keeps : KeepsAll r) (falls : FallsAll r) (s : Tables) (form : IsWellFormed s) (p q : Plan) (t : IsTyped s p) where

@@ -1,0 +1,15 @@
+-- The member that changed is no union: none is.
+use Rattle.std.proofs.Common.{◌∙◌, sym, ap}
+use Rattle.std.specs.Prelude.{reverse}
+use Rattle.vkg_plan.specs.Seen.{plan_seen}
+use Rattle.vkg_shapes.proofs.Told.{flat-stays, stayed}
+use Rattle.vkg_shapes.specs.FlatUnion.{flat_union}
+use Rattle.vkg_shapes.proofs.flat_union.FlatUnionRewrite.apply_again.Goals as goal
+
+pub returns-then-stays-clause-value : goal.returns-then-stays-clause-value
+returns-then-stays-clause-value c =
+    let s = c.args.schema.now in
+    let p = plan_seen c.args.plan in
+    let here = sym (rw c.deref.ensures at c.stays.ensures) ∙ c.if-stays.true in
+    stayed p (plan_seen c.unchanged.result.plan) c.unchanged.result.fell (flat_union s p) (ap plan_seen c.unchanged.ensures.plan) c.unchanged.ensures.fell
+    (flat-stays s (reverse c.args.place.now) p c.requires.before here)
