@@ -1,7 +1,8 @@
 #!/usr/bin/env python3
 """Times `vkg dump` on generated tables, and prints one line a case and size: rows, quads, processor seconds, peak memory.
 
-usage: benchmarks/dump.py [N ..]     (default: 10000 100000; build the program first, with ./vkg dump --help; VKG names another program)
+usage: benchmarks/dump.py [--against OTHER] [--only CASE] [N ..]     (default: 10000 100000; build the program first, with ./vkg dump --help; VKG
+names another program). With another program the two are run in turn over the same files, and the ratios of the first to the other are printed.
 
 `direct` and `mapping` dump a company of N employees, which has N / 10 + 1 departments, rounded down. Department k has the title
 `D` and k, NULL where 5 divides k. Employee i has the name `N` and the remainder of i by 7, and the department of number 1 plus the
@@ -10,11 +11,9 @@ remainder of i by the number of departments, NULL where 4 divides i. The mapping
 are no part of R2RML, over an empty table. Each size is run three times, and the least time is printed.
 """
 import os
-import subprocess
-import sys
 import tempfile
 
-PROGRAM = os.environ.get('VKG') or os.path.join(os.path.dirname(os.path.abspath(__file__)), '..', 'crates', 'vkg', 'out', 'vkg')
+import measuring
 
 COMPANY = ('CREATE TABLE dept (id INTEGER PRIMARY KEY, title VARCHAR(20)); '
            'CREATE TABLE emp (id INTEGER PRIMARY KEY, name VARCHAR(20), dept INTEGER REFERENCES dept);\n')
@@ -67,29 +66,21 @@ def write_triples(folder, triples):
           + ['<#n%d> <http://e/p> "%d" .' % (i, i) for i in range(triples)])
 
 
-def run_once(folder, mapping):
-    out = os.path.join(folder, 'out.nq')
-    words = [PROGRAM, 'dump', '--schema', folder + '/schema.sql', '--data', folder, '--base', 'http://e/']
-    with open(out, 'wb') as sink:
-        process = subprocess.Popen(words + (['--mapping', folder + '/mapping.ttl'] if mapping else []), stdout=sink)
-        _, status, usage = os.wait4(process.pid, 0)
-        seconds = usage.ru_utime + usage.ru_stime
-    if status != 0:
-        sys.exit('the program ended with status %d' % os.waitstatus_to_exitcode(status))
-    with open(out, 'rb') as file:
-        return seconds, usage.ru_maxrss / 1024, sum(1 for _ in file)
+def words_of(folder, mapping):
+    words = ['dump', '--schema', folder + '/schema.sql', '--data', folder, '--base', 'http://e/']
+    return words + (['--mapping', folder + '/mapping.ttl'] if mapping else [])
 
 
 CASES = [('direct', write_company, False), ('mapping', write_company, True), ('join', write_join, True), ('triples', write_triples, True)]
 
 
 def main():
+    sizes, programs, only = measuring.options(__doc__, [10000, 100000])
     for name, write_case, mapping in CASES:
-        for rows in [int(word) for word in sys.argv[1:]] or [10000, 100000]:
+        for rows in sizes if only in (None, name) else []:
             with tempfile.TemporaryDirectory() as folder:
                 write_case(folder, rows)
-                runs = [run_once(folder, mapping) for _ in range(3)]
-            print('%s %d: %d quads, %.2f s, %.0f MiB' % (name, rows, runs[0][2], min(r[0] for r in runs), max(r[1] for r in runs)), flush=True)
+                measuring.tell('%s %d' % (name, rows), 'quads', programs, words_of(folder, mapping), os.path.join(folder, 'out.nq'))
 
 
 if __name__ == '__main__':
