@@ -1,3 +1,4 @@
+pub mod CellRows
 pub mod DistinctLemmas
 pub mod IndexLemmas
 pub mod LeftLemmas

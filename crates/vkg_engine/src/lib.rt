@@ -16,6 +16,7 @@ mod links;
 mod nodes;
 mod rows;
 mod running;
+mod scanned;
 
 pub use rows::Rows;
 pub use running::run;

@@ -33,14 +33,6 @@ pub fn copy_row(alloc: Global, row: &[Cell]) -> Result<Items<Cell>, Memory>
     Ok(copy)
 }
 
-pub fn copy_rows(alloc: Global, rows: &[Items<Cell>]) -> Result<Items<Items<Cell>>, Memory>
-    ensures { IfOk result (λ copies. copies ≡ rows.now) }
-{
-    let mut copies = Items::new(alloc);
-    add_rows(alloc, &mut copies, rows)?;
-    Ok(copies)
-}
-
 pub fn add_rows(
     alloc: Global,
     out: &mut Items<Items<Cell>>,

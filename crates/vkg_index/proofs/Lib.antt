@@ -1,2 +1,4 @@
+pub mod Forms
 pub mod Groups
 pub mod OneKey
+pub mod OneMore

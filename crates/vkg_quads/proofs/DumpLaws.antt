@@ -1,5 +1,5 @@
 -- The lines of the quads, each once, are the dump of the dataset.
-use Rattle.std.proofs.Common.{◌≡◌, ◌∙◌, ℕ, List, map, length, sym, ap}
+use Rattle.std.proofs.Common.{◌≡◌, ◌∙◌, List, map, length, sym, ap}
 use Rattle.std.specs.Prelude.{Contains, bytes_eq}
 use Rattle.std.specs.Cmp.{both_ways}
 use Rattle.std.specs.List.{AllByRecursion}

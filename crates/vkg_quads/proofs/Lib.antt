@@ -1,4 +1,5 @@
 pub mod Targets
 pub mod DumpLaws
 pub mod Partners
+pub mod Pieces
 mod Examples

@@ -1,11 +1,11 @@
 -- The partners of a row are among the rows of its key.
-use Rattle.std.proofs.Common.{◌≡◌, ℕ, refl, sym, ◌∙◌, ap, List, [], ◌∷◌, ◌++◌, append-nil, map, flat_map, filter, Bool, true, Option, Some, None}
+use Rattle.std.proofs.Common.{◌≡◌, ℕ, ◌+◌, refl, sym, ◌∙◌, ap, List, [], ◌∷◌, ◌++◌, append-nil, append_assoc, map, flat_map, filter, take, Bool, true, Option, Some, None}
 use Rattle.std.specs.Prelude.{filter_map, slice_get, option_map}
 use Rattle.std.specs.List.{cons_option}
 use Rattle.std.specs.Str.{bytes_eq}
 use Rattle.std.proofs.lemmas.Slice.Eq.{bytes_eq-Decides}
 use Rattle.std.proofs.lemmas.List.Elements.{filter_map-append, filter-append}
-use Rattle.std.proofs.lemmas.List.{map-append}
+use Rattle.std.proofs.lemmas.List.{flat_map_more, map-append}
 use Rattle.std.proofs.lemmas.Option.{same_Some}
 use Rattle.vkg_lists.specs.Options.{both_pass}
 use Rattle.vkg_lists.proofs.Bools.{is_false}
@@ -16,6 +16,7 @@ use Rattle.vkg_terms.specs.NQuads.{Quad, line}
 use Rattle.vkg_schema.specs.Rows.{Row, agree}
 use Rattle.vkg_index.specs.Keys.{row_key, has_key}
 use Rattle.vkg_index.proofs.OneKey.{near, far, one_key}
+use Rattle.vkg_index.proofs.OneMore.{one_more}
 
 -- a row without key has no partner
 pub no_partner : (ps : List (ℕ × ℕ)) (r : Row) (rows : List Row) → row_key r (map near ps) ≡ None → filter (agree ps r) rows ≡ []
@@ -50,3 +51,11 @@ quad_some (Some q) l xs e = let f : l ≡ line q = cc in ap (λ m. xs ++ m ∷ [
 -- the numbered rows that a row agrees with are all that it agrees with
 pub partners_by : (ps : List (ℕ × ℕ)) (r : Row) (rows : List Row) (key ns : List ℕ) → row_key r (map near ps) ≡ Some key → filter_map (slice_get rows) ns ≡ filter (has_key (map far ps) key) rows → filter (agree ps r) (filter_map (slice_get rows) ns) ≡ filter (agree ps r) rows
 partners_by ps r rows key ns k e = ap (λ rs. filter (agree ps r) rs) e ∙ partners ps r rows key k
+
+-- the lines of one more row
+pub push_more : (f : Row → List Quad) (rows : List Row) (i : ℕ) (row : Row) (out was new : List (List ℕ)) → slice_get rows i ≡ Some row → was ≡ out ++ map line (flat_map f (take i rows)) → new ≡ was ++ map line (f row) → new ≡ out ++ map line (flat_map f (take (i + 1) rows))
+push_more f rows i row out was new e w n =
+    n ∙ (ap (λ ls. ls ++ map line (f row)) w
+    ∙ (append_assoc out (map line (flat_map f (take i rows))) (map line (f row))
+    ∙ ap (λ ls. out ++ ls) (sym (map-append line (flat_map f (take i rows)) (f row))
+    ∙ ap (map line) (flat_map_more f [] (take i rows) row ∙ ap (flat_map f) (sym (one_more rows i row e))))))

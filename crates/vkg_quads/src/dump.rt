@@ -1,6 +1,5 @@
 // The lines of the dataset of a mapping over a database.
 ghost use Rattle.std.specs.Prelude.{◌≡◌, ◌++◌, ◌∷◌, [], ℕ, List, map, flat_map, filter, filter_map, slice_get, IfOk, OnOk, string_bytes};
-ghost use Rattle.std.specs.Option.{option_copied};
 ghost use Rattle.vkg_terms.specs.NQuads.{line};
 ghost use Rattle.vkg_schema.specs.Rows.{agree as rows_agree};
 ghost use Rattle.vkg_index.specs.Keys.{has_key};
@@ -11,12 +10,10 @@ ghost use Rattle.vkg_base.specs.Groups.{group};
 use crate::quad::line_of_rows;
 use crate::rule_list::rules;
 use std::alloc::Global;
-use vkg_base::{Groups, Items, Lines, Memory};
-use vkg_cells::Cell;
-use vkg_index::{grouped, key_of};
+use vkg_base::{Groups, Lines, Memory};
+use vkg_index::{grouped_lent, key_of_lent};
 use vkg_maps::{Mapping, QuadRule};
-use vkg_schema::agree;
-use vkg_tables::{Database, child_columns, parent_columns};
+use vkg_tables::{Database, TableRow, TableRows, agree, child_columns, parent_columns};
 
 /// The lines of the quads of the dataset, each once, ascending by bytes. Where each term map of the mapping can be written,
 /// as in a mapping that is read and in the direct one, no two quads share a line.
@@ -52,15 +49,15 @@ fn push_rule(
     ensures { OnOk result (out.new ≡ out.old ++ map line (quads_of_rule base.now db.now.tables rule.now)) }
 {
     match &rule.join {
-        None => push_alone(alloc, out, base, rule, db.rows_of(rule.table)),
+        None => push_alone(alloc, out, base, rule, &db.table(rule.table)),
         Some(join) => push_joined(
             alloc,
             out,
             base,
             rule,
             join.conditions.as_slice(),
-            db.rows_of(rule.table),
-            db.rows_of(join.table),
+            &db.table(rule.table),
+            &db.table(join.table),
         ),
     }
 }
@@ -70,12 +67,13 @@ fn push_alone(
     out: &mut Lines,
     base: &str,
     rule: &QuadRule,
-    rows: &[Items<Cell>],
+    rows: &TableRows<'_>,
 ) -> Result<(), Memory>
     ensures { OnOk result (out.new ≡ out.old ++ map line (flat_map (λ row. filter_map (quad_of base.now rule.now row) (row ∷ [])) rows.now)) }
 {
-    for row in rows {
-        push_quad(alloc, out, base, rule, row.as_slice(), row.as_slice())?;
+    for k in 0..rows.len() {
+        let row = rows.row(k);
+        push_quad(alloc, out, base, rule, &row, &row)?;
     }
     Ok(())
 }
@@ -85,8 +83,8 @@ fn push_quad(
     out: &mut Lines,
     base: &str,
     rule: &QuadRule,
-    row: &[Cell],
-    other: &[Cell],
+    row: &TableRow<'_>,
+    other: &TableRow<'_>,
 ) -> Result<(), Memory>
     ensures { OnOk result (out.new ≡ out.old ++ map line (filter_map (quad_of base.now rule.now row.now) (other.now ∷ []))) }
 {
@@ -105,26 +103,18 @@ fn push_joined(
     base: &str,
     rule: &QuadRule,
     conditions: &[(usize, usize)],
-    rows: &[Items<Cell>],
-    parents: &[Items<Cell>],
+    rows: &TableRows<'_>,
+    parents: &TableRows<'_>,
 ) -> Result<(), Memory>
     ensures { OnOk result (out.new ≡ out.old ++ map line (flat_map (λ row. filter_map (quad_of base.now rule.now row) (filter (rows_agree conditions.now row) parents.now)) rows.now)) }
 {
     let own = child_columns(alloc, conditions)?;
     let theirs = parent_columns(alloc, conditions)?;
-    let groups = grouped(alloc, &theirs, parents)?;
-    for row in rows {
+    let groups = grouped_lent(alloc, &theirs, parents)?;
+    for k in 0..rows.len() {
+        let row = rows.row(k);
         push_partners(
-            alloc,
-            out,
-            base,
-            rule,
-            conditions,
-            &own,
-            &theirs,
-            row.as_slice(),
-            parents,
-            &groups,
+            alloc, out, base, rule, conditions, &own, &theirs, &row, parents, &groups,
         )?;
     }
     Ok(())
@@ -139,8 +129,8 @@ fn push_partners(
     conditions: &[(usize, usize)],
     own: &[usize],
     theirs: &[usize],
-    row: &[Cell],
-    parents: &[Items<Cell>],
+    row: &TableRow<'_>,
+    parents: &TableRows<'_>,
     groups: &Groups,
 ) -> Result<(), Memory>
     requires children { own.now ≡ map (λ p. p.0) conditions.now }
@@ -148,7 +138,7 @@ fn push_partners(
     requires index { (q : List ℕ) → filter_map (slice_get parents.now) (group groups.now q) ≡ filter (has_key theirs.now q) parents.now }
     ensures { OnOk result (out.new ≡ out.old ++ map line (filter_map (quad_of base.now rule.now row.now) (filter (rows_agree conditions.now row.now) parents.now))) }
 {
-    match key_of(alloc, own, row)? {
+    match key_of_lent(alloc, own, row)? {
         None => Ok(()),
         Some(key) => match groups.get(key.as_str()) {
             None => Ok(()),
@@ -176,8 +166,8 @@ fn push_agreeing(
     base: &str,
     rule: &QuadRule,
     conditions: &[(usize, usize)],
-    row: &[Cell],
-    parents: &[Items<Cell>],
+    row: &TableRow<'_>,
+    parents: &TableRows<'_>,
     numbers: &[usize],
 ) -> Result<(), Memory>
     ensures { OnOk result (out.new ≡ out.old ++ flat_map (λ n. map line (filter_map (quad_of base.now rule.now row.now) (filter (rows_agree conditions.now row.now) (filter_map (slice_get parents.now) (n ∷ []))))) numbers.now) }
@@ -194,24 +184,25 @@ fn push_if_agrees(
     base: &str,
     rule: &QuadRule,
     conditions: &[(usize, usize)],
-    row: &[Cell],
-    parents: &[Items<Cell>],
+    row: &TableRow<'_>,
+    parents: &TableRows<'_>,
     n: usize,
 ) -> Result<(), Memory>
     ensures { OnOk result (out.new ≡ out.old ++ map line (filter_map (quad_of base.now rule.now row.now) (filter (rows_agree conditions.now row.now) (filter_map (slice_get parents.now) (n ∷ []))))) }
 {
     match parent_at(parents, n) {
         None => Ok(()),
-        Some(other) => push_agreed(alloc, out, base, rule, conditions, row, other),
+        Some(other) => push_agreed(alloc, out, base, rule, conditions, row, &other),
     }
 }
 
-fn parent_at(parents: &[Items<Cell>], n: usize) -> Option<&[Cell]>
-    ensures { option_copied result ≡ slice_get parents.now n }
+fn parent_at<'a>(parents: &TableRows<'a>, n: usize) -> Option<TableRow<'a>>
+    ensures { result ≡ slice_get parents.now n }
 {
-    match parents.get(n) {
-        None => None,
-        Some(row) => Some(row.as_slice()),
+    if n < parents.len() {
+        Some(parents.row(n))
+    } else {
+        None
     }
 }
 
@@ -221,8 +212,8 @@ fn push_agreed(
     base: &str,
     rule: &QuadRule,
     conditions: &[(usize, usize)],
-    row: &[Cell],
-    other: &[Cell],
+    row: &TableRow<'_>,
+    other: &TableRow<'_>,
 ) -> Result<(), Memory>
     ensures { OnOk result (out.new ≡ out.old ++ map line (filter_map (quad_of base.now rule.now row.now) (filter (rows_agree conditions.now row.now) (other.now ∷ [])))) }
 {

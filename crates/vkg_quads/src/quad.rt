@@ -7,8 +7,8 @@ ghost use Rattle.vkg_maps.specs.Dataset.{quad_of, quad_from, target, graph_name}
 use crate::made::made_term;
 use std::alloc::Global;
 use vkg_base::Memory;
-use vkg_cells::Cell;
 use vkg_maps::{QuadRule, TermMap};
+use vkg_tables::TableRow;
 use vkg_terms::vocabulary::DEFAULT_GRAPH;
 use vkg_terms::{Term, quad_line};
 
@@ -17,8 +17,8 @@ pub fn line_of_rows(
     alloc: Global,
     base: &str,
     rule: &QuadRule,
-    row: &[Cell],
-    other: &[Cell],
+    row: &TableRow<'_>,
+    other: &TableRow<'_>,
 ) -> Result<Option<String>, Memory>
     ensures { IfOk result (λ o. option_map string_bytes o ≡ option_map line (quad_of base.now rule.now row.now other.now)) }
 {
@@ -29,7 +29,12 @@ pub fn line_of_rows(
     line_from(alloc, &subject, &predicate, &object, &graph)
 }
 
-fn term(alloc: Global, base: &str, map: &TermMap, row: &[Cell]) -> Result<Option<Term>, Memory>
+fn term(
+    alloc: Global,
+    base: &str,
+    map: &TermMap,
+    row: &TableRow<'_>,
+) -> Result<Option<Term>, Memory>
     ensures { IfOk result (λ o. o ≡ term_if_any (term_of base.now map.now row.now)) }
 {
     match made_term(alloc, base, map, row)? {
@@ -42,7 +47,7 @@ fn target_of(
     alloc: Global,
     base: &str,
     graph: &Option<TermMap>,
-    row: &[Cell],
+    row: &TableRow<'_>,
 ) -> Result<Option<Option<Term>>, Memory>
     ensures { IfOk result (λ o. o ≡ target base.now graph.now row.now) }
 {

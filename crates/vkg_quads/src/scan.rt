@@ -9,10 +9,9 @@ ghost use Rattle.vkg_maps.specs.LeastFault.{FindsLeast};
 
 use crate::made::made_term;
 use std::alloc::Global;
-use vkg_base::{Items, Memory};
-use vkg_cells::Cell;
+use vkg_base::Memory;
 use vkg_maps::{DataFault, Mapping, ObjectMap, PredicateObjectMap, TermFault, TermMap, TriplesMap};
-use vkg_tables::Database;
+use vkg_tables::{Database, TableRow, TableRows};
 
 /// The least data error by map, row and term map, and none exactly where there is no data error (R2RML, 4.3).
 pub fn scan_data(
@@ -36,7 +35,7 @@ fn scan_maps(
 {
     for (k, m) in maps.iter().enumerate() {
         let terms = asked_maps(alloc, m)?;
-        let found = scan_rows(alloc, base, &terms, k + 1, db.rows_of(m.table))?;
+        let found = scan_rows(alloc, base, &terms, k + 1, &db.table(m.table))?;
         match found {
             Some(fault) => return Ok(Some(fault)),
             None => {}
@@ -50,12 +49,13 @@ fn scan_rows(
     base: &str,
     terms: &[Option<&TermMap>],
     place: usize,
-    rows: &[Items<Cell>],
+    rows: &TableRows<'_>,
 ) -> Result<Option<DataFault>, Memory>
     ensures { IfOk result (λ o. o ≡ first_of (flat_map (row_faults base.now (map option_copied terms.now) place) (enumerate_from 1 rows.now))) }
 {
-    for (k, row) in rows.iter().enumerate() {
-        let found = scan_row(alloc, base, terms, place, k + 1, row.as_slice())?;
+    for k in 0..rows.len() {
+        let row = rows.row(k);
+        let found = scan_row(alloc, base, terms, place, k + 1, &row)?;
         match found {
             Some(fault) => return Ok(Some(fault)),
             None => {}
@@ -70,7 +70,7 @@ fn scan_row(
     terms: &[Option<&TermMap>],
     place: usize,
     row: usize,
-    cells: &[Cell],
+    cells: &TableRow<'_>,
 ) -> Result<Option<DataFault>, Memory>
     ensures { IfOk result (λ o. o ≡ first_of (row_faults base.now (map option_copied terms.now) place (row, cells.now))) }
 {
@@ -93,7 +93,7 @@ fn scan_row(
 fn fault_of(
     alloc: Global,
     base: &str,
-    cells: &[Cell],
+    cells: &TableRow<'_>,
     t: Option<&TermMap>,
 ) -> Result<Option<TermFault>, Memory>
     ensures { IfOk result (λ o. o ≡ first_of (term_faults base.now cells.now (option_copied t.entry))) }

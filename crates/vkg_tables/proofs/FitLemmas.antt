@@ -1,14 +1,12 @@
 -- The cells that are read fit their columns.
 use Rattle.std.proofs.Common.{◌≡◌, ◌≢◌, ◌∙◌, ◌+◌, ◌<◌, ◌&&◌, ◌==◌, ◌⊎◌, inl, inr, ℕ, zero, suc, Bool, true, false, List, [], ◌∷◌, Option, Some, None, if◌then◌else◌, refl, sym, ap, subst, arith, length, get_or, nat_lt, map, IsUtf8}
-use Rattle.std.specs.Prelude.{Result, Ok, Err, OnErr, OnOk, ◌++◌, slice_set}
+use Rattle.std.specs.Prelude.{Result, Ok, Err, slice_set}
 use Rattle.std.proofs.lemmas.List.{set-get_or}
 use Rattle.std.proofs.lemmas.Option.{slice_get-get_or, unwrap_or-slice_get}
-use Rattle.std.proofs.lemmas.Slice.Zip.{AllZip-long}
 use Rattle.std.proofs.lemmas.Str.{IsUtf8-nil, IsUtf8-from_is_utf8}
 use Rattle.std.specs.List.{AllByRecursion, AllZip}
 use Rattle.std.specs.Str.{is_utf8}
 use Rattle.vkg_lists.proofs.Each.{recursion_weaken}
-use Rattle.vkg_lists.proofs.Members.{recursion_at, recursion_push}
 use Rattle.vkg_lists.specs.Results.{unless}
 use Rattle.csv.specs.Reading.{default_config, records, strip_bom}
 use Rattle.csv.specs.Records.{AllText, field_at}
@@ -34,7 +32,7 @@ use Rattle.vkg_tables.specs.TableFile.{fault}
 use Rattle.vkg_tables.specs.TableFile.{table_of_bytes}
 use Rattle.vkg_tables.specs.Parts.{HasNoTerm, IsNoTerm}
 use Rattle.vkg_tables.proofs.FileFaults.{file_from-settled}
-use Rattle.vkg_tables.specs.Seen.{HoldsCells, HoldsRows, columns_at, columns_of}
+use Rattle.vkg_tables.specs.Seen.{HoldsCells, columns_at, columns_of}
 use Rattle.vkg_tables.specs.declared.fault.FileFault.{FileFault}
 use Rattle.vkg_tables.specs.declared.load.TheConstants.{MOST_BYTES}
 
@@ -122,7 +120,7 @@ cells-fit header (c ∷ cs) row place fields cells t e =
     subst (AllZip FitsColumn (c ∷ cs)) (sym o.4)
     (field-fits c row place (field_of fields (place_in header c)) o.0 (field-text fields (place_in header c) t) o.2, cells-fit header cs row (place + 1) fields o.1 t o.3)
 
-row-fits : (header : List (List ℕ)) (columns : List Column) (row : ℕ) (fields : List (List ℕ)) (cells : Row) → AllText fields → row_from header columns row fields ≡ Ok cells → AllZip FitsColumn columns cells
+pub row-fits : (header : List (List ℕ)) (columns : List Column) (row : ℕ) (fields : List (List ℕ)) (cells : Row) → AllText fields → row_from header columns row fields ≡ Ok cells → AllZip FitsColumn columns cells
 row-fits header columns row fields cells t e = by (length fields == length header) e
   where
     by : (b : Bool) → (if b then cells_from header columns row 1 fields else Err (fault 4 row 0)) ≡ Ok cells → AllZip FitsColumn columns cells
@@ -158,11 +156,11 @@ pub file-fits : (columns : List Column) (bytes : List ℕ) (rows : List Row) →
 file-fits columns bytes rows e = from-fits columns bytes rows (file_from-settled columns bytes ∙ e)
 
 -- ---- a table among the others
-pub set-holds : (tables : List Table) (db : List (List Row)) (i : ℕ) (rows : List Row) (d : Table) → i < length tables → HoldsCells tables db → HoldsRows (get_or tables i d) rows → HoldsCells tables (slice_set db i rows)
-set-holds [] db i rows d l h r = absurd (omega (arith, l))
-set-holds (t ∷ ts) [] i rows d l h r = absurd h
-set-holds (t ∷ ts) (x ∷ db) zero rows d l h r = (r, h.1)
-set-holds (t ∷ ts) (x ∷ db) (suc i) rows d l h r = (h.0, set-holds ts db i rows d (omega (arith, l)) h.1 r)
+pub set-holds : (tables : List Table) (db : List (List Row)) (i : ℕ) (rows : List Row) → i < length tables → HoldsCells tables db → AllByRecursion (AllZip FitsColumn (columns_of tables i)) rows → HoldsCells tables (slice_set db i rows)
+set-holds [] db i rows l h r = absurd (omega (arith, l))
+set-holds (t ∷ ts) [] i rows l h r = absurd h
+set-holds (t ∷ ts) (x ∷ db) zero rows l h r = (r, h.1)
+set-holds (t ∷ ts) (x ∷ db) (suc i) rows l h r = (h.0, set-holds ts db i rows (omega (arith, l)) h.1 r)
 
 pub empty-holds : (tables : List Table) → HoldsCells tables (map (λ t. []) tables)
 empty-holds [] = tt
@@ -171,24 +169,11 @@ empty-holds (t ∷ ts) = (tt, empty-holds ts)
 pub columns-there : (tables : List Table) (i : ℕ) (d : Table) → i < length tables → columns_of tables i ≡ (get_or tables i d).columns
 columns-there tables i d l = ap columns_at (slice_get-get_or tables i d l)
 
--- a row has a cell for each column of its table
-pub table-width : (tables : List Table) (db : List (List Row)) (i row : ℕ) (d : Row) → HoldsCells tables db → row < length (rows_of db i) → length (get_or (rows_of db i) row d) ≡ length (columns_of tables i)
-table-width [] [] i row d h l = absurd (omega (arith, l))
-table-width [] (rows ∷ db) i row d h l = absurd h
-table-width (t ∷ ts) [] i row d h l = absurd h
-table-width (t ∷ ts) (rows ∷ db) zero row d h l = AllZip-long FitsColumn t.columns (get_or rows row d) (recursion_at (AllZip FitsColumn t.columns) rows row d h.0 l)
-table-width (t ∷ ts) (rows ∷ db) (suc i) row d h l = table-width ts db i row d h.1 l
-
-pub pushed-holds : (tables : List Table) (db : List (List Row)) (i : ℕ) (row : Row) → i < length tables → HoldsCells tables db → AllZip FitsColumn (columns_of tables i) row → HoldsCells tables (slice_set db i (rows_of db i ++ row ∷ []))
-pushed-holds [] db i row l h f = absurd (omega (arith, l))
-pushed-holds (t ∷ ts) [] i row l h f = absurd h
-pushed-holds (t ∷ ts) (rows ∷ db) zero row l h f = (recursion_push (AllZip FitsColumn t.columns) rows row h.0 f, h.1)
-pushed-holds (t ∷ ts) (rows ∷ db) (suc i) row l h f = (h.0, pushed-holds ts db i row (omega (arith, l)) h.1 f)
+pub holds-at : (tables : List Table) (db : List (List Row)) (i : ℕ) → i < length tables → HoldsCells tables db → AllByRecursion (AllZip FitsColumn (columns_of tables i)) (rows_of db i)
+holds-at [] db i l h = absurd (omega (arith, l))
+holds-at (t ∷ ts) [] i l h = absurd h
+holds-at (t ∷ ts) (rows ∷ db) zero l h = h.0
+holds-at (t ∷ ts) (rows ∷ db) (suc i) l h = holds-at ts db i (omega (arith, l)) h.1
 
 pub set-same : (db : List (List Row)) (i : ℕ) → slice_set db i (rows_of db i) ≡ db
 set-same db i = ap (slice_set db i) (unwrap_or-slice_get db i []) ∙ set-get_or db i []
-
--- a push gives the row behind the others, or changes nothing
-pub pushed-or-not : {A E : Type 0} (r : Result A E) (old new : List Row) (row : Row) → OnOk r (new ≡ old ++ row ∷ []) → OnErr r (new ≡ old) → (new ≡ old ++ row ∷ []) ⊎ (new ≡ old)
-pushed-or-not (Ok x) old new row a b = inl a
-pushed-or-not (Err x) old new row a b = inr b

@@ -1,9 +1,11 @@
 pub mod FileFaults
 pub mod FirstLemmas
 pub mod FitLemmas
+pub mod KeptLemmas
 pub mod LoadLemmas
 pub mod MeetsLemmas
 pub mod PartsLemmas
 pub mod Places
+pub mod PushLemmas
 pub mod RecordsLemmas
 pub mod TextLemmas

@@ -14,7 +14,7 @@ use Rattle.std.specs.Str.{is_utf8}
 use Rattle.std.proofs.lemmas.Str.{IsUtf8-from_is_utf8, is_utf8-from_IsUtf8}
 use Rattle.vkg_schema.specs.declared.table.Column.{Column}
 use Rattle.vkg_tables.specs.Field.{field_of}
-use Rattle.vkg_tables.specs.Steps.{FailsAs, cells_from, field_cell, file_records, onto, place_in, row_from, rows_from}
+use Rattle.vkg_tables.specs.Steps.{FailsAs, cells_from, field_cell, file_records, onto, place_in}
 use Rattle.vkg_tables.specs.TableFile.{fault}
 
 module _ {A : Type 0} where
@@ -31,6 +31,11 @@ module _ {A : Type 0} where
   walk-fails xs one rest whole file_error.Memory h w = tt
   walk-fails xs one rest whole (file_error.Fault f) h w = sym w ∙ ap (λ r. followed_by xs (onto r rest)) h
 
+  -- nothing is done
+  pub walk-start : (xs : List A) (whole : Result (List A) FileFault) → xs ≡ [] → followed_by xs whole ≡ whole
+  walk-start xs (Ok ys) e = ap (λ l. Ok (l ++ ys)) e
+  walk-start xs (Err f) e = refl
+
   pub walk-end : (xs : List A) (whole : Result (List A) FileFault) → followed_by xs (Ok []) ≡ whole → whole ≡ Ok xs
   walk-end xs whole w = sym w ∙ ap Ok (append-nil xs)
 
@@ -45,10 +50,6 @@ field-get (f ∷ fs) (suc i) = field-get fs i
 pub cells-next : (header : List (List ℕ)) (columns : List Column) (row i : ℕ) (fields : List (List ℕ)) (d : Column) → i < length columns
     → cells_from header (drop i columns) row (i + 1) fields ≡ onto (field_cell (get_or columns i d) row (i + 1) (field_of fields (place_in header (get_or columns i d)))) (cells_from header (drop (i + 1) columns) row (i + 1 + 1) fields)
 cells-next header columns row i fields d h = ap (λ cs. cells_from header cs row (i + 1) fields) (drop-cons columns i d h ∙ ap (λ n. get_or columns i d ∷ drop n columns) (sym (add-one i)))
-
-pub rows-next : (header : List (List ℕ)) (columns : List Column) (i : ℕ) (records : List (List (List ℕ))) (d : List (List ℕ)) → i < length records
-    → rows_from header columns (i + 1) (drop i records) ≡ onto (row_from header columns (i + 1) (get_or records i d)) (rows_from header columns (i + 1 + 1) (drop (i + 1) records))
-rows-next header columns i records d h = ap (rows_from header columns (i + 1)) (drop-cons records i d h ∙ ap (λ n. get_or records i d ∷ drop n records) (sym (add-one i)))
 
 pub file-text : (bytes : List ℕ) → length bytes ≤ MOST_BYTES → IsUtf8 bytes → file_records bytes ≡ Ok (records default_config (strip_bom bytes))
 file-text bytes h u = rw (le-ltb MOST_BYTES (length bytes) h, is_utf8-from_IsUtf8 bytes u) refl

@@ -1,5 +1,5 @@
 -- Rows agree where their parts are equal.
-use Rattle.std.proofs.Common.{◌≡◌, ◌∙◌, ◌&&◌, ◌||◌, ◌++◌, ℕ, zero, suc, Bool, true, false, not, List, [], ◌∷◌, Option, Some, None, map, option_map, if◌then◌else◌, refl, sym, ap, ap₂, string_bytes, length, get_or, ◌<◌, ◌≤◌}
+use Rattle.std.proofs.Common.{◌≡◌, ◌≢◌, ◌∙◌, ◌&&◌, ◌||◌, ◌++◌, ℕ, zero, suc, Bool, true, false, not, List, [], ◌∷◌, Option, Some, None, map, option_map, if◌then◌else◌, refl, sym, ap, ap₂, string_bytes, length, get_or, ◌<◌, ◌≤◌}
 use Rattle.std.specs.List.{list_any}
 use Rattle.std.specs.Cmp.Lexicographic.{bytes_decides, pointwise, pointwise_decides}
 use Rattle.std.specs.Cmp.Derive.Mapped.{pointwise-map}
@@ -17,6 +17,8 @@ use Rattle.vkg_lists.proofs.Onto.{is_some-first, onto_first}
 use Rattle.vkg_lists.proofs.Walks.{map-map}
 use Rattle.vkg_cells.specs.declared.cell.Cell.{Cell}
 use Rattle.vkg_cells.specs.declared.cell.Cell.TheVariants as cell
+use Rattle.vkg_cells.specs.Form.{lexical_form}
+use Rattle.vkg_cells.specs.Keys.{key_parts}
 use Rattle.vkg_cells.specs.Order.{same, same_form}
 use Rattle.vkg_schema.specs.Rows.{Row, agree, equal_at, has_no_null, is_known, is_known_true, is_null, cell_at}
 use Rattle.vkg_tables.specs.Checks.{is_orphan, repeats, with_itself}
@@ -106,6 +108,20 @@ cells-same (cell.Time a) (cell.Bin b) h = refl
 cells-same (cell.Time a) (cell.Time b) h = refl
 cells-same (cell.Time a) (cell.Term b) h = refl
 cells-same (cell.Term s) d h = absurd (h refl)
+
+-- the first of a cell's two texts
+pub part-first : (c : Cell) → lexical_form c ≢ None → option_map (λ p. p.0) (key_parts c) ≡ part c
+unfolding part
+part-first cell.Null h = absurd (h refl)
+part-first (cell.Text a) h = refl
+part-first (cell.Int a) h = refl
+part-first (cell.Dec a) h = refl
+part-first (cell.Bool a) h = refl
+part-first (cell.Date a) h = refl
+part-first (cell.Stamp a) h = refl
+part-first (cell.Bin a) h = refl
+part-first (cell.Time a) h = refl
+part-first (cell.Term s) h = absurd (h refl)
 
 cell-NoTerm : (r : Row) (k : ℕ) → HasNoTerm r → IsNoTerm (cell_at r k)
 cell-NoTerm [] k h = λ e. cc e

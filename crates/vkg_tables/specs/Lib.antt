@@ -1,6 +1,7 @@
 pub mod Checks
 pub mod Field
 pub mod Firsts
+pub mod Kept
 pub mod Parts
 pub mod Seen
 pub mod Steps

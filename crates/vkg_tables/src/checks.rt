@@ -1,17 +1,18 @@
 ghost use Rattle.std.specs.Prelude.{◌≡◌, ◌<◌, ◌+◌, IfOk, List, length, Option, Some, None, option_map};
-ghost use Rattle.vkg_schema.specs.Rows.{rows_of};
 ghost use Rattle.std.specs.List.{AllByRecursion};
+ghost use Rattle.vkg_schema.specs.Rows.{rows_of};
 ghost use Rattle.std.specs.Prelude.{slice_get};
 ghost use Rattle.vkg_tables.specs.Checks.{broken_references, key_fault, reference_fault, repeated_keys};
 ghost use Rattle.vkg_tables.specs.Firsts.{earlier as earlier_of};
+ghost use Rattle.vkg_tables.specs.Kept.{tables_seen};
 ghost use Rattle.vkg_tables.specs.Parts.{HasNoTerm};
 
 use crate::fault::TableFault;
 use crate::keys::{first_orphan, first_repeat};
 use std::alloc::Global;
-use vkg_base::{Items, Memory};
-use vkg_cells::Cell;
+use vkg_base::Memory;
 use vkg_schema::Table;
+use vkg_store::{StoredTable, TableRows, Texts};
 
 // The place of the lesser row; of one row, the former.
 fn earlier(a: Option<(usize, usize)>, b: Option<(usize, usize)>) -> Option<(usize, usize)>
@@ -37,7 +38,7 @@ fn with_number(row: Option<usize>, number: usize) -> Option<(usize, usize)>
 fn key_place(
     alloc: Global,
     table: &Table,
-    rows: &[Items<Cell>],
+    rows: &TableRows<'_>,
 ) -> Result<Option<(usize, usize)>, Memory>
     requires { AllByRecursion HasNoTerm rows.now }
     ensures { IfOk result (λ o. o ≡ slice_get (repeated_keys table.now rows.now) 0) }
@@ -53,43 +54,46 @@ fn key_place(
 // The least row that refers to no row, and the first foreign key by which it does.
 fn reference_place(
     alloc: Global,
-    tables: &[Items<Items<Cell>>],
+    texts: &Texts,
+    tables: &[StoredTable],
     table: &Table,
-    rows: &[Items<Cell>],
+    rows: &TableRows<'_>,
 ) -> Result<Option<(usize, usize)>, Memory>
     requires { AllByRecursion HasNoTerm rows.now }
-    ensures { IfOk result (λ o. o ≡ slice_get (broken_references tables.now table.now rows.now) 0) }
+    ensures { IfOk result (λ o. o ≡ slice_get (broken_references (tables_seen texts.now tables.now) table.now rows.now) 0) }
 {
     let mut least = None;
     for (k, reference) in table.references.as_slice().iter().enumerate() {
-        let targets = rows_at(tables, reference.table);
-        let row = first_orphan(alloc, rows, targets, reference.pairs.as_slice())?;
+        let targets = rows_at(texts, tables, reference.table);
+        let row = first_orphan(alloc, rows, &targets, reference.pairs.as_slice())?;
         least = earlier(least, with_number(row, k + 1));
     }
     Ok(least)
 }
 
 /// The rows of a table, and none past the last table.
-pub fn rows_at(tables: &[Items<Items<Cell>>], table: usize) -> &[Items<Cell>]
-    ensures { result.now ≡ rows_of tables.now table }
+pub fn rows_at<'a>(texts: &'a Texts, tables: &'a [StoredTable], table: usize) -> TableRows<'a>
+    ensures { result ≡ rows_of (tables_seen texts.now tables.now) table }
 {
     match tables.get(table) {
-        Some(rows) => rows.as_slice(),
-        None => &[],
+        Some(stored) => TableRows::new(stored, texts),
+        None => TableRows::none(texts),
     }
 }
 
 pub fn find_key_fault(
     alloc: Global,
     schema: &[Table],
-    tables: &[Items<Items<Cell>>],
+    texts: &Texts,
+    tables: &[StoredTable],
 ) -> Result<Option<TableFault>, Memory>
-    requires terms { AllByRecursion (AllByRecursion HasNoTerm) tables.now }
+    requires terms { AllByRecursion (AllByRecursion HasNoTerm) (tables_seen texts.now tables.now) }
     requires both { length tables.now ≡ length schema.now }
-    ensures { IfOk result (λ o. o ≡ key_fault schema.now tables.now) }
+    ensures { IfOk result (λ o. o ≡ key_fault schema.now (tables_seen texts.now tables.now)) }
 {
     for (i, table) in schema.iter().enumerate() {
-        if let Some((row, key)) = key_place(alloc, table, tables[i].as_slice())? {
+        let rows = TableRows::new(&tables[i], texts);
+        if let Some((row, key)) = key_place(alloc, table, &rows)? {
             return Ok(Some(TableFault {
                 check: 9,
                 table: i + 1,
@@ -104,14 +108,16 @@ pub fn find_key_fault(
 pub fn find_reference_fault(
     alloc: Global,
     schema: &[Table],
-    tables: &[Items<Items<Cell>>],
+    texts: &Texts,
+    tables: &[StoredTable],
 ) -> Result<Option<TableFault>, Memory>
-    requires terms { AllByRecursion (AllByRecursion HasNoTerm) tables.now }
+    requires terms { AllByRecursion (AllByRecursion HasNoTerm) (tables_seen texts.now tables.now) }
     requires both { length tables.now ≡ length schema.now }
-    ensures { IfOk result (λ o. o ≡ reference_fault schema.now tables.now) }
+    ensures { IfOk result (λ o. o ≡ reference_fault schema.now (tables_seen texts.now tables.now)) }
 {
     for (i, table) in schema.iter().enumerate() {
-        if let Some((row, key)) = reference_place(alloc, tables, table, tables[i].as_slice())? {
+        let rows = TableRows::new(&tables[i], texts);
+        if let Some((row, key)) = reference_place(alloc, texts, tables, table, &rows)? {
             return Ok(Some(TableFault {
                 check: 10,
                 table: i + 1,

@@ -3,6 +3,7 @@ ghost use Rattle.std.specs.List.{AllZip};
 ghost use Rattle.vkg_schema.specs.Meets.{FitsColumn, MeetsSchema};
 ghost use Rattle.vkg_schema.specs.Rows.{cell_at, rows_of};
 ghost use Rattle.vkg_tables.specs.Checks.{key_fault, reference_fault};
+ghost use Rattle.vkg_tables.specs.Kept.{AreStored, tables_seen};
 ghost use Rattle.vkg_tables.specs.Seen.{FailsWith, HoldsCells, Tells, cell_of, columns_of, loaded, with_row, without_rows};
 
 use crate::checks::{find_key_fault, find_reference_fault, rows_at};
@@ -14,25 +15,28 @@ use std::mem;
 use vkg_base::{Items, Memory};
 use vkg_cells::Cell;
 use vkg_schema::Schema;
+use vkg_store::{Column, StoredTable, TableRows, Texts};
 
-/// A schema, and of each of its tables the rows. Tables, rows and columns count from 0 in calls.
+/// A schema, and of each of its tables the rows, kept by columns as numbers of texts. Tables, rows and columns count from 0
+/// in calls.
 #[derive(Drop)]
 pub struct Database {
     schema: Schema,
-    tables: Items<Items<Items<Cell>>>,
+    texts: Texts,
+    tables: Items<StoredTable>,
 }
 
 impl Model for Database {
     ghost use Rattle.std.specs.Prelude.{List};
     ghost use Rattle.vkg_schema.specs.declared.table.Table.{Table};
-    ghost use Rattle.vkg_cells.specs.declared.cell.Cell.{Cell};
-    ghost use Rattle.vkg_tables.specs.Seen.{Seen, HoldsCells};
+    ghost use Rattle.vkg_tables.specs.Kept.{IsKept, tables_seen};
+    ghost use Rattle.vkg_tables.specs.Seen.{Seen};
 
     ghost Value = { Seen };
 
-    ghost view = { λ d. record { schema = d.schema; tables = d.tables } };
+    ghost view = { λ d. record { schema = d.schema; tables = tables_seen d.texts d.tables } };
 
-    ghost invariant = { λ d. HoldsCells d.schema d.tables };
+    ghost invariant = { λ d. IsKept d.schema d.texts d.tables };
 }
 
 impl Database {
@@ -42,7 +46,12 @@ impl Database {
     {
         let tables = empty_tables(alloc, schema)?;
         let schema = schema.copy()?;
-        Ok(Database { schema, tables })
+        let texts = Texts::new(alloc);
+        Ok(Database {
+            schema,
+            texts,
+            tables,
+        })
     }
 
     pub fn schema(&self) -> &Schema
@@ -52,18 +61,27 @@ impl Database {
     }
 
     /// The rows of a table, and none past the last table.
-    pub fn rows_of(&self, table: usize) -> &[Items<Cell>]
-        ensures rows { result.now ≡ rows_of self.now.tables table }
+    pub fn table(&self, table: usize) -> TableRows<'_>
+        ensures rows { result ≡ rows_of self.now.tables table }
         ensures holds { HoldsCells self.now.schema self.now.tables }
     {
-        rows_at(self.tables.as_slice(), table)
+        rows_at(&self.texts, self.tables.as_slice(), table)
+    }
+
+    /// A column of a table.
+    pub fn column(&self, table: usize, column: usize) -> Column<'_>
+        requires table { table < length self.now.schema }
+        requires column { column < length (columns_of self.now.schema table) }
+        ensures { result ≡ map (λ row. cell_at row column) (rows_of self.now.tables table) }
+    {
+        self.table(table).column(column)
     }
 
     /// How many rows a table has.
     pub fn rows(&self, table: usize) -> usize
         ensures { result ≡ length (rows_of self.now.tables table) }
     {
-        rows_at(self.tables.as_slice(), table).len()
+        self.table(table).len()
     }
 
     /// How many columns a table has.
@@ -82,8 +100,8 @@ impl Database {
         requires column { column < length (columns_of self.now.schema table) }
         ensures { IfOk result (λ c. c ≡ cell_of self.now table row column) }
     {
-        let rows = rows_at(self.tables.as_slice(), table);
-        copy_at(rows[row].as_slice(), column)
+        let row = self.table(table).row(row);
+        row.cell(column).to_cell(self.tables.alloc())
     }
 
     /// Reads a file in CSV (RFC 4180), and puts its rows in place of those of a table. An error changes nothing.
@@ -98,9 +116,10 @@ impl Database {
         ensures fault { IfErr result (FailsWith (loaded self.old table bytes.now)) }
         ensures err { OnErr result (self.new ≡ self.old) }
     {
-        match read_file(alloc, self.schema.tables()[table].columns.as_slice(), bytes) {
-            Ok(rows) => {
-                self.tables.set(table, rows);
+        let columns = self.schema.tables()[table].columns.as_slice();
+        match read_file(alloc, columns, bytes, &mut self.texts) {
+            Ok(stored) => {
+                self.tables.set(table, stored);
                 Ok(())
             }
             Err(FileError::Fault(fault)) => Err(TableError::Fault(TableFault {
@@ -120,9 +139,9 @@ impl Database {
         ensures ok { OnOk result (self.new ≡ with_row self.old table row.items) }
         ensures err { OnErr result (self.new ≡ self.old) }
     {
-        let none = Items::new(self.tables.alloc());
-        let mut tables = mem::replace(&mut self.tables, none).into_vec();
-        let pushed = tables[table].push(Items::from_vec(row));
+        let alloc = self.tables.alloc();
+        let mut tables = mem::replace(&mut self.tables, Items::new(alloc)).into_vec();
+        let pushed = tables[table].push(alloc, &mut self.texts, row.as_slice());
         self.tables = Items::from_vec(tables);
         pushed
     }
@@ -132,7 +151,12 @@ impl Database {
         ensures ok { OnOk result (key_fault self.now.schema self.now.tables ≡ None) }
         ensures fault { IfErr result (Tells (key_fault self.now.schema self.now.tables)) }
     {
-        match find_key_fault(alloc, self.schema.tables(), self.tables.as_slice()) {
+        match find_key_fault(
+            alloc,
+            self.schema.tables(),
+            &self.texts,
+            self.tables.as_slice(),
+        ) {
             Ok(None) => Ok(()),
             Ok(Some(fault)) => Err(TableError::Fault(fault)),
             Err(Memory) => Err(TableError::Memory),
@@ -146,7 +170,12 @@ impl Database {
         ensures meets { OnOk result (key_fault self.now.schema self.now.tables ≡ None → MeetsSchema self.now.schema self.now.tables) }
         ensures fault { IfErr result (Tells (reference_fault self.now.schema self.now.tables)) }
     {
-        match find_reference_fault(alloc, self.schema.tables(), self.tables.as_slice()) {
+        match find_reference_fault(
+            alloc,
+            self.schema.tables(),
+            &self.texts,
+            self.tables.as_slice(),
+        ) {
             Ok(None) => Ok(()),
             Ok(Some(fault)) => Err(TableError::Fault(fault)),
             Err(Memory) => Err(TableError::Memory),
@@ -154,19 +183,14 @@ impl Database {
     }
 }
 
-fn copy_at(row: &[Cell], column: usize) -> Result<Cell, Memory>
-    requires { column < length row.now }
-    ensures { IfOk result (λ c. c ≡ cell_at row.now column) }
-{
-    row[column].copy()
-}
-
-fn empty_tables(alloc: Global, schema: &Schema) -> Result<Items<Items<Items<Cell>>>, Memory>
-    ensures { IfOk result (λ ts. ts ≡ map (λ t. []) schema.now) }
+fn empty_tables(alloc: Global, schema: &Schema) -> Result<Items<StoredTable>, Memory>
+    ensures stored { IfOk result (AreStored [] schema.now) }
+    ensures none { IfOk result (λ ts. tables_seen [] ts ≡ map (λ t. []) schema.now) }
 {
     let mut tables = Items::new(alloc);
-    for _ in schema.tables() {
-        tables.push(Items::new(alloc))?;
+    for table in schema.tables() {
+        let stored = StoredTable::new(alloc, table.columns.as_slice())?;
+        tables.push(stored)?;
     }
     Ok(tables)
 }

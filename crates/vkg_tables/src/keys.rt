@@ -1,54 +1,48 @@
-ghost use Rattle.std.specs.Prelude.{◌≡◌, ◌<◌, ◌++◌, ◌∷◌, [], IfOk, OnOk, Some, None, List, ℕ, map, option_map, string_bytes, is_some};
+ghost use Rattle.std.specs.Prelude.{◌≡◌, ◌≢◌, IfOk, None, List, ℕ, map, option_map, string_bytes};
+ghost use Rattle.vkg_cells.specs.Form.{lexical_form};
 ghost use Rattle.std.specs.List.{AllByRecursion, list_any};
 ghost use Rattle.vkg_tables.specs.Firsts.{first_repeat as first_repeat_of, first_orphan as first_orphan_of};
 ghost use Rattle.vkg_tables.specs.Parts.{HasNoTerm, all_parts, is_missing, part as part_of_cell, parts as parts_of_row, texts_eq, texts_of};
 
 use indexmap::IndexSet;
 use std::alloc::Global;
-use vkg_base::{Items, Memory};
-use vkg_cells::Cell;
+use vkg_base::Memory;
+use vkg_cells::{CellRef, key_parts};
+use vkg_store::{TableRow, TableRows};
 
-// A family's digit, and a text.
-fn tagged(alloc: Global, tag: char, text: &str) -> Result<Option<String>, Memory>
-    requires { tag < 128 }
-    ensures { IfOk result (λ o. option_map string_bytes o ≡ Some (tag ∷ text.now)) }
-{
-    let mut out = String::new(alloc);
-    out.push(tag)?;
-    out.push_str(text)?;
-    Ok(Some(out))
-}
-
-// The text by which a cell is found. NULL has none.
-#[tactic(auto, unfolding(crate::specs::Parts::part))]
-fn part(alloc: Global, cell: &Cell) -> Result<Option<String>, Memory>
+// The text by which a cell of a table is found. NULL has none.
+fn part(alloc: Global, cell: &CellRef<'_>) -> Result<Option<String>, Memory>
     ensures { IfOk result (λ o. option_map string_bytes o ≡ part_of_cell cell.now) }
 {
-    match cell {
-        Cell::Null => Ok(None),
-        Cell::Text(text) => tagged(alloc, '1', text.as_str()),
-        Cell::Int(text) => tagged(alloc, '2', text.as_str()),
-        Cell::Dec(text) => tagged(alloc, '2', text.as_str()),
-        Cell::Bool(true) => tagged(alloc, '3', "true"),
-        Cell::Bool(false) => tagged(alloc, '3', "false"),
-        Cell::Date(text) => tagged(alloc, '4', text.as_str()),
-        Cell::Stamp(text) => tagged(alloc, '5', text.as_str()),
-        Cell::Bin(text) => tagged(alloc, '6', text.as_str()),
-        Cell::Time(text) => tagged(alloc, '7', text.as_str()),
-        Cell::Term(_) => Ok(None),
+    match cell.form() {
+        None => Ok(None),
+        Some(_) => first_part(alloc, cell),
     }
 }
 
+// The first of the two texts by which a cell that has a form is found.
+fn first_part(alloc: Global, cell: &CellRef<'_>) -> Result<Option<String>, Memory>
+    requires { lexical_form cell.now ≢ None }
+    ensures { IfOk result (λ o. option_map string_bytes o ≡ part_of_cell cell.now) }
+{
+    let Some((text, _)) = key_parts(alloc, cell)? else {
+        return Ok(None);
+    };
+    Ok(Some(text))
+}
+
 // The texts by which a row's columns are found, none where one is NULL.
-fn parts(alloc: Global, row: &[Cell], columns: &[usize]) -> Result<Option<Vec<String>>, Memory>
+fn parts(
+    alloc: Global,
+    row: &TableRow<'_>,
+    columns: &[usize],
+) -> Result<Option<Vec<String>>, Memory>
     ensures { IfOk result (λ o. option_map (λ v. map string_bytes v.items) o ≡ parts_of_row columns.now row.now) }
 {
-    let mut out = Vec::new(alloc);
+    let mut out = Vec::with_capacity(alloc, columns.len())?;
     for column in columns {
-        let Some(cell) = row.get(*column) else {
-            return Ok(None);
-        };
-        let Some(text) = part(alloc, cell)? else {
+        let cell = row.cell(*column);
+        let Some(text) = part(alloc, &cell)? else {
             return Ok(None);
         };
         out.push(text)?;
@@ -59,15 +53,16 @@ fn parts(alloc: Global, row: &[Cell], columns: &[usize]) -> Result<Option<Vec<St
 /// The first row that agrees with an earlier one on a whole key.
 pub fn first_repeat(
     alloc: Global,
-    rows: &[Items<Cell>],
+    rows: &TableRows<'_>,
     key: &[usize],
 ) -> Result<Option<usize>, Memory>
     requires { AllByRecursion HasNoTerm rows.now }
     ensures { IfOk result (λ o. o ≡ first_repeat_of key.now rows.now) }
 {
     let mut seen: IndexSet<Vec<String>> = IndexSet::new(alloc);
-    for (i, row) in rows.iter().enumerate() {
-        let Some(found) = parts(alloc, row.as_slice(), key)? else {
+    for i in 0..rows.len() {
+        let row = rows.row(i);
+        let Some(found) = parts(alloc, &row, key)? else {
             continue;
         };
         let (_, is_new) = seen.insert_full(found)?;
@@ -81,14 +76,15 @@ pub fn first_repeat(
 // The texts by which the rows are found.
 fn known_parts(
     alloc: Global,
-    rows: &[Items<Cell>],
+    rows: &TableRows<'_>,
     columns: &[usize],
 ) -> Result<IndexSet<Vec<String>>, Memory>
     ensures { IfOk result (λ s. (found : List (List ℕ)) → list_any (texts_eq found) (texts_of s.keys) ≡ list_any (texts_eq found) (all_parts columns.now rows.now)) }
 {
     let mut known: IndexSet<Vec<String>> = IndexSet::new(alloc);
-    for row in rows {
-        let Some(found) = parts(alloc, row.as_slice(), columns)? else {
+    for i in 0..rows.len() {
+        let row = rows.row(i);
+        let Some(found) = parts(alloc, &row, columns)? else {
             continue;
         };
         known.insert_full(found)?;
@@ -99,7 +95,7 @@ fn known_parts(
 // Whether the row refers to no row of those that are known.
 fn is_orphan(
     alloc: Global,
-    row: &[Cell],
+    row: &TableRow<'_>,
     children: &[usize],
     known: &IndexSet<Vec<String>>,
 ) -> Result<bool, Memory>
@@ -128,8 +124,8 @@ pub fn parent_columns(alloc: Global, pairs: &[(usize, usize)]) -> Result<Vec<usi
 /// The first row that refers to no row.
 pub fn first_orphan(
     alloc: Global,
-    rows: &[Items<Cell>],
-    targets: &[Items<Cell>],
+    rows: &TableRows<'_>,
+    targets: &TableRows<'_>,
     pairs: &[(usize, usize)],
 ) -> Result<Option<usize>, Memory>
     requires { AllByRecursion HasNoTerm rows.now }
@@ -138,8 +134,9 @@ pub fn first_orphan(
     let children = child_columns(alloc, pairs)?;
     let parents = parent_columns(alloc, pairs)?;
     let known = known_parts(alloc, targets, parents.as_slice())?;
-    for (i, row) in rows.iter().enumerate() {
-        if is_orphan(alloc, row.as_slice(), children.as_slice(), &known)? {
+    for i in 0..rows.len() {
+        let row = rows.row(i);
+        if is_orphan(alloc, &row, children.as_slice(), &known)? {
             return Ok(Some(i + 1));
         }
     }

@@ -16,7 +16,7 @@ fn want_of_memory(error: Error) -> Memory
     Memory
 }
 
-// Every record of a text, with the first, in memory of the reader.
+// Every record of the bytes, with the first.
 fn byte_records(alloc: Global, text: &[u8]) -> Result<Vec<ByteRecord>, Memory>
     ensures { IfOk result (λ v. map fields_of v.items ≡ records default_config (strip_bom text.now)) }
 {
@@ -37,16 +37,16 @@ fn byte_records(alloc: Global, text: &[u8]) -> Result<Vec<ByteRecord>, Memory>
     Ok(rows)
 }
 
-// The same, where their fields are texts.
-fn checked_records(alloc: Global, text: &str) -> Result<Vec<ByteRecord>, Memory>
+/// Every record of a text, the header row too; their fields are texts. A first byte order mark is dropped.
+pub fn text_records(alloc: Global, text: &str) -> Result<Vec<ByteRecord>, Memory>
     ensures records { IfOk result (λ v. map fields_of v.items ≡ records default_config (strip_bom text.now)) }
     ensures texts { IfOk result (λ v. AreTexts (map fields_of v.items)) }
 {
     byte_records(alloc, text.as_bytes())
 }
 
-// The text of a record whose fields are texts.
-fn text_of(row: ByteRecord) -> StringRecord
+/// The text of a record whose fields are texts.
+pub fn text_of(row: ByteRecord) -> StringRecord
     requires { AllText (fields_of row) }
     ensures { fields_of result ≡ fields_of row }
 {
@@ -54,15 +54,4 @@ fn text_of(row: ByteRecord) -> StringRecord
         Ok(row) => row,
         Err(_) => unreachable!(),
     }
-}
-
-/// Every record of a text, the header row too. A first byte order mark is dropped.
-pub fn text_records(alloc: Global, text: &str) -> Result<Vec<StringRecord>, Memory>
-    ensures { IfOk result (λ v. map fields_of v.items ≡ records default_config (strip_bom text.now)) }
-{
-    let mut rows = Vec::new(alloc);
-    for row in checked_records(alloc, text)? {
-        rows.push(text_of(row))?;
-    }
-    Ok(rows)
 }

@@ -1,16 +1,16 @@
 use crate::fields::field;
 use std::alloc::Global;
 use std::test::Fail;
-use vkg_base::Items;
-use vkg_cells::Cell;
 use vkg_company::{count_of, generate};
+use vkg_tables::TableRows;
 
 /// The rows as a table's file has them.
-fn file(alloc: Global, rows: &[Items<Cell>]) -> Result<String, Fail> {
+fn file(alloc: Global, rows: &TableRows<'_>) -> Result<String, Fail> {
     let mut out = String::new(alloc);
-    for row in rows {
-        for cell in row.as_slice() {
-            out.push_str(field(cell))?;
+    for i in 0..rows.len() {
+        let row = rows.row(i);
+        for k in 0..row.len() {
+            out.push_str(field(&row.cell(k).to_cell(alloc)?))?;
             out.push_str(",")?;
         }
         out.push_str("\n")?;
@@ -21,8 +21,8 @@ fn file(alloc: Global, rows: &[Items<Cell>]) -> Result<String, Fail> {
 #[test]
 fn one_employee_works_in_one_department(rt: HostRuntime) -> Result<(), Fail> {
     let db = generate(rt.alloc(), 1)?;
-    assert_eq!(rt; file(rt.alloc(), db.rows_of(0))?.as_str(), "1,D1,\n");
-    assert_eq!(rt; file(rt.alloc(), db.rows_of(1))?.as_str(), "1,N1,1,\n");
+    assert_eq!(rt; file(rt.alloc(), &db.table(0))?.as_str(), "1,D1,\n");
+    assert_eq!(rt; file(rt.alloc(), &db.table(1))?.as_str(), "1,N1,1,\n");
     Ok(())
 }
 
@@ -39,9 +39,9 @@ fn a_cell_stands_at_its_row_and_column(rt: HostRuntime) -> Result<(), Fail> {
 #[test]
 fn every_fourth_employee_has_no_department(rt: HostRuntime) -> Result<(), Fail> {
     let db = generate(rt.alloc(), 10)?;
-    assert_eq!(rt; file(rt.alloc(), db.rows_of(0))?.as_str(), "1,D1,\n2,D2,\n");
+    assert_eq!(rt; file(rt.alloc(), &db.table(0))?.as_str(), "1,D1,\n2,D2,\n");
     assert_eq!(rt;
-        file(rt.alloc(), db.rows_of(1))?.as_str(),
+        file(rt.alloc(), &db.table(1))?.as_str(),
         "1,N1,2,\n2,N2,1,\n3,N3,2,\n4,N4,\\N,\n5,N5,2,\n6,N6,1,\n7,N0,2,\n8,N1,\\N,\n9,N2,2,\n10,N3,1,\n"
     );
     Ok(())
@@ -51,7 +51,7 @@ fn every_fourth_employee_has_no_department(rt: HostRuntime) -> Result<(), Fail> 
 fn every_fifth_department_has_no_title(rt: HostRuntime) -> Result<(), Fail> {
     let db = generate(rt.alloc(), 40)?;
     assert_eq!(rt;
-        file(rt.alloc(), db.rows_of(0))?.as_str(),
+        file(rt.alloc(), &db.table(0))?.as_str(),
         "1,D1,\n2,D2,\n3,D3,\n4,D4,\n5,\\N,\n"
     );
     Ok(())

@@ -1,16 +1,13 @@
 use std::alloc::Global;
 use std::test::Fail;
 use vkg_base::{Items, Memory, Text};
-use vkg_cells::Cell;
 use vkg_maps::{Piece, TermMap, TermType};
 use vkg_quads::made_term;
+use vkg_schema::read_schema;
+use vkg_tables::{Database, TableRow};
 use vkg_terms::{Annotation, term_text};
 
 const INTEGER: &str = "http://www.w3.org/2001/XMLSchema#integer";
-
-fn text(alloc: Global, text: &str) -> Result<Cell, Memory> {
-    Ok(Cell::Text(Text::new(alloc, text)?))
-}
 
 /// `http://e/` and the first column.
 fn template(alloc: Global, term_type: TermType) -> Result<TermMap, Memory> {
@@ -20,11 +17,23 @@ fn template(alloc: Global, term_type: TermType) -> Result<TermMap, Memory> {
     Ok(TermMap::Template(pieces, term_type))
 }
 
-/// The text of the term of a row of one cell, `none`, or the code of its fault.
-fn shown(alloc: Global, map: &TermMap, cell: Cell) -> Result<String, Memory> {
-    let mut row = Items::new(alloc);
-    row.push(cell)?;
-    match made_term(alloc, "http://e/", map, row.as_slice())? {
+/// A table of one column of texts, with a row of this field.
+fn table_of(alloc: Global, field: &str) -> Result<Database, Fail> {
+    let schema = read_schema(alloc, b"CREATE TABLE t (v VARCHAR(50));")?;
+    let mut database = Database::new(alloc, &schema)?;
+    let mut file = String::from_str(alloc, "v\n")?;
+    file.push_str(field)?;
+    file.push('\n')?;
+    if database.schema().tables().is_empty() {
+        return Err(Fail::new("no table"));
+    }
+    database.load_table(alloc, 0, file.as_bytes())?;
+    Ok(database)
+}
+
+/// The text of the term of a row, `none`, or the code of its fault.
+fn shown(alloc: Global, map: &TermMap, row: &TableRow<'_>) -> Result<String, Memory> {
+    match made_term(alloc, "http://e/", map, row)? {
         Ok(Some(term)) => term_text(alloc, &term),
         Ok(None) => Ok(String::from_str(alloc, "none")?),
         Err(fault) => match fault.check() {
@@ -35,6 +44,16 @@ fn shown(alloc: Global, map: &TermMap, cell: Cell) -> Result<String, Memory> {
     }
 }
 
+/// As `shown`, of the row of one field.
+fn shown_field(alloc: Global, map: &TermMap, field: &str) -> Result<String, Fail> {
+    let database = table_of(alloc, field)?;
+    let rows = database.table(0);
+    if rows.len() == 0 {
+        return Err(Fail::new("no row"));
+    }
+    Ok(shown(alloc, map, &rows.row(0))?)
+}
+
 #[test]
 fn a_column_gives_iris(rt: HostRuntime) -> Result<(), Fail> {
     let map = TermMap::Column(0, TermType::Iri);
@@ -42,11 +61,10 @@ fn a_column_gives_iris(rt: HostRuntime) -> Result<(), Fail> {
         ("q", "<http://e/q>"),
         ("http://e/q", "<http://e/q>"),
         ("a b", "X01"),
+        ("\\N", "none"),
     ] {
-        let cell = text(rt.alloc(), cell)?;
-        assert_eq!(rt; shown(rt.alloc(), &map, cell)?.as_str(), expected);
+        assert_eq!(rt; shown_field(rt.alloc(), &map, cell)?.as_str(), expected);
     }
-    assert_eq!(rt; shown(rt.alloc(), &map, Cell::Null)?.as_str(), "none");
     Ok(())
 }
 
@@ -59,22 +77,15 @@ fn a_form_is_of_its_datatype(rt: HostRuntime) -> Result<(), Fail> {
         ("x", "X02"),
         ("999999999999999999999999999999999999999", "X03"),
     ] {
-        let cell = text(rt.alloc(), cell)?;
-        assert_eq!(rt; shown(rt.alloc(), &map, cell)?.as_str(), expected);
+        assert_eq!(rt; shown_field(rt.alloc(), &map, cell)?.as_str(), expected);
     }
     Ok(())
-}
-
-/// As `shown`, of a row of one text.
-fn shown_text(alloc: Global, map: &TermMap, field: &str) -> Result<String, Memory> {
-    let cell = text(alloc, field)?;
-    shown(alloc, map, cell)
 }
 
 #[test]
 fn a_template_is_made_safe_in_an_iri(rt: HostRuntime) -> Result<(), Fail> {
     let map = template(rt.alloc(), TermType::Iri)?;
-    let found = shown_text(rt.alloc(), &map, "a b/é%")?;
+    let found = shown_field(rt.alloc(), &map, "a b/é%")?;
     assert_eq!(rt; found.as_str(), "<http://e/a%20b%2Fé%25>");
     Ok(())
 }
@@ -82,7 +93,7 @@ fn a_template_is_made_safe_in_an_iri(rt: HostRuntime) -> Result<(), Fail> {
 #[test]
 fn a_template_is_kept_in_a_literal(rt: HostRuntime) -> Result<(), Fail> {
     let map = template(rt.alloc(), TermType::Literal(Annotation::Plain))?;
-    let found = shown_text(rt.alloc(), &map, "a b")?;
+    let found = shown_field(rt.alloc(), &map, "a b")?;
     assert_eq!(rt; found.as_str(), "\"http://e/a b\"");
     Ok(())
 }
@@ -90,7 +101,7 @@ fn a_template_is_kept_in_a_literal(rt: HostRuntime) -> Result<(), Fail> {
 #[test]
 fn a_blank_node_is_labelled_by_octets(rt: HostRuntime) -> Result<(), Fail> {
     let map = TermMap::Column(0, TermType::Blank);
-    let found = shown_text(rt.alloc(), &map, "q1")?;
+    let found = shown_field(rt.alloc(), &map, "q1")?;
     assert_eq!(rt; found.as_str(), "_:b7131");
     Ok(())
 }

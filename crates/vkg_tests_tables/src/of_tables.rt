@@ -1,6 +1,5 @@
 // What a database is behind an error; the faults of files, keys and references are cases of `vkg_cases`.
 use std::test::Fail;
-use vkg_base::Items;
 use vkg_cells::Cell;
 use vkg_schema::read_schema;
 use vkg_tables::{Database, TableError};
@@ -38,9 +37,9 @@ fn an_error_leaves_the_rows(rt: HostRuntime) -> Result<(), Fail> {
         (6, 1, 2, 1)
     );
     assert_eq!(rt; database.rows(0), 2);
-    let Some([_, title]) = database.rows_of(0).get(1).map(Items::as_slice) else {
-        panic!(rt; "a row of two cells");
-    };
-    assert!(rt; matches!(title, Cell::Null));
+    let rows = database.table(0);
+    assert!(rt; 1 < rows.len());
+    let title = rows.row(1).cell(1).to_cell(rt.alloc())?;
+    assert!(rt; matches!(&title, Cell::Null));
     Ok(())
 }

@@ -4,5 +4,5 @@ use Rattle.vkg_terms.specs.NQuads.{line}
 use Rattle.vkg_maps.specs.Dataset.{quad_of}
 use Rattle.vkg_quads.proofs.dump.push_alone.Given as goal
 
-abbrev pub invariant-loop-row : goal.invariant-loop-row
-invariant-loop-row l = l.out ≡ l.fn.out ++ map line (flat_map (λ row. filter_map (quad_of l.base l.rule row) (row ∷ [])) (take l.row-index l.rows))
+abbrev pub invariant-loop-k : goal.invariant-loop-k
+invariant-loop-k l = l.out ≡ l.fn.out ++ map line (flat_map (λ row. filter_map (quad_of l.base l.rule row) (row ∷ [])) (take l.k l.rows))

@@ -12,7 +12,7 @@ use Rattle.vkg_quads.proofs.dump.push_partners.Goals as goal
 pub returns-in-None : goal.returns-in-None
 returns-in-None c =
     let ps = c.args.conditions.now in
-    let k : row_key c.args.row.now (map (λ p. p.0) ps) ≡ None = ap (λ cs. row_key c.args.row.now cs) (sym c.requires.children) ∙ (sym c.in_ok-key_of.ensures ∙ ap (λ o. option_map string_bytes o) c.in-None.is) in
+    let k : row_key c.args.row.now (map (λ p. p.0) ps) ≡ None = ap (λ cs. row_key c.args.row.now cs) (sym c.requires.children) ∙ (sym c.in_ok-key_of_lent.ensures ∙ ap (λ o. option_map string_bytes o) c.in-None.is) in
     sym (append-nil c.args.out.now) ∙ ap (λ rs. c.args.out.now ++ map line (filter_map (quad_of c.args.base.now c.args.rule.now c.args.row.now) rs)) (sym (no_partner ps c.args.row.now c.args.parents.now k))
 
 pub returns-in-None-get : goal.returns-in-None-get
@@ -21,7 +21,7 @@ returns-in-None-get c =
     let key = c.as_str.result.now in
     let rows = c.args.parents.now in
     let k : row_key c.args.row.now (map (λ p. p.0) ps) ≡ Some key =
-    ap (λ cs. row_key c.args.row.now cs) (sym c.requires.children) ∙ (sym c.in_ok-key_of.ensures ∙ (ap (λ o. option_map string_bytes o) c.in-Some.is ∙ ap Some (sym c.as_str.ensures.value))) in
+    ap (λ cs. row_key c.args.row.now cs) (sym c.requires.children) ∙ (sym c.in_ok-key_of_lent.ensures ∙ (ap (λ o. option_map string_bytes o) c.in-Some.is ∙ ap Some (sym c.as_str.ensures.value))) in
     let g : get_by_text c.args.groups.now key ≡ None = sym c.get.ensures.value ∙ ap option_copied c.in-None-get.is in
     let e : filter_map (slice_get rows) [] ≡ filter (has_key (map (λ p. p.1) ps) key) rows =
     ap (λ o. filter_map (slice_get rows) (option_map_or (λ g. g.items) o [])) (sym g) ∙ (c.requires.index key ∙ ap (λ cs. filter (has_key cs key) rows) c.requires.parents) in
@@ -35,7 +35,7 @@ returns c =
     let ns = c.as_slice.result.now in
     let f = quad_of c.args.base.now c.args.rule.now c.args.row.now in
     let k : row_key c.args.row.now (map (λ p. p.0) ps) ≡ Some key =
-    ap (λ cs. row_key c.args.row.now cs) (sym c.requires.children) ∙ (sym c.in_ok-key_of.ensures ∙ (ap (λ o. option_map string_bytes o) c.in-Some.is ∙ ap Some (sym c.as_str.ensures.value))) in
+    ap (λ cs. row_key c.args.row.now cs) (sym c.requires.children) ∙ (sym c.in_ok-key_of_lent.ensures ∙ (ap (λ o. option_map string_bytes o) c.in-Some.is ∙ ap Some (sym c.as_str.ensures.value))) in
     let g : get_by_text c.args.groups.now key ≡ Some c.in-Some-get.numbers.now = sym c.get.ensures.value ∙ ap option_copied c.in-Some-get.is in
     let e : filter_map (slice_get rows) ns ≡ filter (has_key (map (λ p. p.1) ps) key) rows =
     ap (λ ns. filter_map (slice_get rows) ns) c.as_slice.ensures.value

@@ -13,7 +13,7 @@ returns-in-Some c =
     let inside : i < length c.args.maps.now = omega arith in
     let found : first_of (map_faults c.args.base.now c.args.db.now.tables (i + 1, c.index-maps-k.result)) ≡ Some c.in-Some.fault =
     ap (λ ts. first_of (flat_map (row_faults c.args.base.now ts (i + 1)) (enumerate_from 1 (rows_of c.args.db.now.tables c.index-maps-k.result.table)))) (sym (ap (λ ts. map option_copied ts) c.deref.ensures.value ∙ c.in_ok-terms.ensures))
-    ∙ (ap (λ rs. first_of (flat_map (row_faults c.args.base.now (map option_copied c.deref.result.now) (i + 1)) (enumerate_from 1 rs))) (sym c.rows_of.ensures.rows)
+    ∙ (ap (λ rs. first_of (flat_map (row_faults c.args.base.now (map option_copied c.deref.result.now) (i + 1)) (enumerate_from 1 rs))) (sym c.table.ensures.rows)
     ∙ (sym c.in_ok-found.ensures ∙ c.in-Some.is)) in
     sym (c.loop-k.invariant ∙ scan_some (map_faults c.args.base.now c.args.db.now.tables) c.args.maps.now (i + 1) i c.index-maps-k.result _ inside c.index-maps-k.is found)
 
@@ -23,6 +23,6 @@ loop-k-preserved c =
     let inside : i < length c.args.maps.now = omega arith in
     let found : first_of (map_faults c.args.base.now c.args.db.now.tables (i + 1, c.index-maps-k.result)) ≡ None =
     ap (λ ts. first_of (flat_map (row_faults c.args.base.now ts (i + 1)) (enumerate_from 1 (rows_of c.args.db.now.tables c.index-maps-k.result.table)))) (sym (ap (λ ts. map option_copied ts) c.deref.ensures.value ∙ c.in_ok-terms.ensures))
-    ∙ (ap (λ rs. first_of (flat_map (row_faults c.args.base.now (map option_copied c.deref.result.now) (i + 1)) (enumerate_from 1 rs))) (sym c.rows_of.ensures.rows)
+    ∙ (ap (λ rs. first_of (flat_map (row_faults c.args.base.now (map option_copied c.deref.result.now) (i + 1)) (enumerate_from 1 rs))) (sym c.table.ensures.rows)
     ∙ (sym c.in_ok-found.ensures ∙ c.in-None.is)) in
     c.loop-k.invariant ∙ scan_none (map_faults c.args.base.now c.args.db.now.tables) c.args.maps.now (i + 1) i c.index-maps-k.result inside c.index-maps-k.is found

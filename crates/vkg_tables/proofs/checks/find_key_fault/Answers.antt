@@ -1,6 +1,20 @@
+use Rattle.std.proofs.Common.{◌<◌, ◌∙◌, ap, arith, length, subst, sym}
+use Rattle.std.specs.List.{AllByRecursion}
+use Rattle.vkg_store.specs.Stored.{table_seen}
+use Rattle.vkg_tables.specs.Parts.{HasNoTerm}
+use Rattle.vkg_tables.proofs.KeptLemmas.{mapped-at}
 use Rattle.vkg_tables.specs.Checks.{repeated_keys}
+use Rattle.vkg_tables.specs.Kept.{tables_seen}
 use Rattle.vkg_tables.proofs.Places.{tables-first}
 use Rattle.vkg_tables.proofs.checks.find_key_fault.Goals as goal
 
 pub loop-i-init : goal.loop-i-init
-loop-i-init c = tables-first 9 repeated_keys 1 c.args.schema.now c.args.tables.now
+loop-i-init c = tables-first 9 repeated_keys 1 c.args.schema.now (tables_seen c.args.texts.now c.args.tables.now)
+
+pub key_place-requires : goal.key_place-requires
+key_place-requires c =
+    let texts = c.args.texts.now in
+    let t = c.index-tables-i.result in
+    let within : c.loop-i.i < length c.args.tables.now = omega arith in
+    subst (AllByRecursion HasNoTerm) (sym (c.new-rows.ensures ∙ ap (table_seen texts) c.index-tables-i.is))
+    (mapped-at (AllByRecursion HasNoTerm) (table_seen texts) c.args.tables.now c.loop-i.i t c.requires.terms within)

@@ -1,12 +1,12 @@
-use Rattle.std.proofs.Common.{◌∙◌, ap, map, subst, sym}
-use Rattle.csv.specs.Records.{fields_of}
-use Rattle.vkg_tables.specs.Steps.{Gives, table_from, table_of_records}
+use Rattle.std.proofs.Common.{◌∙◌, ap, subst, sym}
+use Rattle.vkg_tables.specs.Kept.{GivesTable}
+use Rattle.vkg_tables.specs.Steps.{table_of_records}
 use Rattle.vkg_tables.proofs.FileFaults.{file_from-settled}
 use Rattle.vkg_tables.proofs.load.read_file.Goals as goal
 
-pub returns : goal.returns
-returns c =
+pub returns-clause-rows : goal.returns-clause-rows
+returns-clause-rows c =
     let columns = c.args.columns.now in
-    subst (λ d. Gives d c.read_table.result)
-    (ap (λ rs. table_from columns (map fields_of rs)) c.as_slice.ensures.value ∙ ap (table_of_records columns) (sym c.in_ok-records.ensures.ok) ∙ file_from-settled columns c.args.bytes.now)
-    c.read_table.ensures
+    subst (λ d. GivesTable c.read_table.new.texts d c.read_table.result)
+    (ap (table_of_records columns) (sym c.in_ok-records.ensures.ok) ∙ file_from-settled columns c.args.bytes.now)
+    c.read_table.ensures.rows
