@@ -8,15 +8,21 @@ PROGRAM = os.environ.get('VKG') or os.path.join(os.path.dirname(os.path.abspath(
 RUNS = 3  # of each program; the least time and the greatest peak are told
 
 
-def measured(program, words, out):
-    """The processor seconds of a call, its peak memory in MiB, and how many lines it wrote to the file `out`."""
+def run(program, words, out):
+    """The status of a call, its processor seconds, its peak memory in MiB, and how many lines it wrote to the file `out`."""
     with open(out, 'wb') as sink:
         process = subprocess.Popen([program] + words, stdout=sink)
         _, status, usage = os.wait4(process.pid, 0)
-    if status != 0:
-        sys.exit('%s ended with status %d' % (program, os.waitstatus_to_exitcode(status)))
     with open(out, 'rb') as file:
-        return usage.ru_utime + usage.ru_stime, usage.ru_maxrss / 1024, sum(1 for _ in file)
+        return os.waitstatus_to_exitcode(status), usage.ru_utime + usage.ru_stime, usage.ru_maxrss / 1024, sum(1 for _ in file)
+
+
+def measured(program, words, out):
+    """What a call cost that has to end with 0: processor seconds, peak memory in MiB, lines."""
+    status, *cost = run(program, words, out)
+    if status != 0:
+        sys.exit('%s ended with status %d' % (program, status))
+    return cost
 
 
 def in_turn(programs, words, out):

@@ -8,10 +8,10 @@ and `three` are queries of one triple pattern and of three on one subject, each 
 over 800 such triples maps, and reads no table. A line tells the program, the case, its processor seconds, its peak memory and its lines.
 """
 import argparse
-import os
-import subprocess
 import tempfile
 from pathlib import Path
+
+import measuring
 
 BASE = "http://e/"
 PREDICATES = 5
@@ -58,13 +58,8 @@ def calls(folder):
 
 def measured(program, words, folder):
     """The processor seconds of a call, its peak memory in MiB, and how many lines it wrote, or its status."""
-    with open(folder / "out", "wb") as out:
-        process = subprocess.Popen([program, *words], stdout=out)
-        _, status, usage = os.wait4(process.pid, 0)
-    if status:
-        return usage.ru_utime + usage.ru_stime, usage.ru_maxrss / 1024, f"status {os.waitstatus_to_exitcode(status)}"
-    with open(folder / "out", "rb") as out:
-        return usage.ru_utime + usage.ru_stime, usage.ru_maxrss / 1024, f"{sum(1 for _ in out)} lines"
+    status, seconds, peak, lines = measuring.run(program, words, folder / "out")
+    return seconds, peak, f"status {status}" if status else f"{lines} lines"
 
 
 def main():
