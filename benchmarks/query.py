@@ -8,6 +8,10 @@ names another program). With another program the two are run in turn over the sa
 `load` asks for nothing: the tables are read, and their keys and references checked. `names` asks for the name of each employee: one pattern.
 `departments` asks for the title of the department of each employee who has one: a join of three patterns. `optional` asks for that of all
 employees, if they have one.
+
+`gap` asks for the name of each employee, for the department, if there is one, and then for each title of it, or of any department where
+there is none: of N employees one has no department. `value` asks which row has the number 7, over N rows whose mapping also refers from
+each row to each (N * N + N quads), and `value_load` asks nothing of the same files.
 """
 import os
 import tempfile
@@ -15,24 +19,52 @@ import tempfile
 import dump
 import measuring
 
-QUERIES = [('load', 'SELECT * {}'),
-           ('names', 'SELECT ?n { ?e <http://e/emp#name> ?n }'),
-           ('departments', 'SELECT ?n ?t { ?e <http://e/emp#name> ?n . ?e <http://e/emp#ref-dept> ?d . ?d <http://e/dept#title> ?t }'),
-           ('optional', 'SELECT ?n ?t { ?e <http://e/emp#name> ?n OPTIONAL { ?e <http://e/emp#ref-dept> ?d . ?d <http://e/dept#title> ?t } }')]
+PAIRS = dump.PREFIX + '''
+<#w> rr:logicalTable [ rr:tableName "w" ] ; rr:subjectMap [ rr:template "http://e/{k}" ] ;
+  rr:predicateObjectMap [ rr:predicate <http://e/k> ; rr:objectMap [ rr:column "k" ] ] ;
+  rr:predicateObjectMap [ rr:predicate <http://e/in> ; rr:objectMap [ rr:parentTriplesMap <#w> ;
+    rr:joinCondition [ rr:child "g" ; rr:parent "g" ] ] ] .
+'''
 
 
-def words_of(folder):
-    return ['query', '--schema', folder + '/schema.sql', '--data', folder, '--base', 'http://e/', '--query', folder + '/query.rq']
+def write_company_with_a_gap(folder, employees):
+    dump.write_company(folder, employees)
+    departments = employees // 10 + 1
+    dump.write(folder, 'dept.csv', ['id,title'] + ['%d,D%d' % (k, k) for k in range(1, departments + 1)])
+    dump.write(folder, 'emp.csv', ['id,name,dept', '1,N1,\\N'] + ['%d,N%d,%d' % (i, i, i % departments + 1) for i in range(2, employees + 1)])
+
+
+def write_pairs(folder, rows):
+    dump.write(folder, 'schema.sql', ['CREATE TABLE w (k INTEGER, g INTEGER);'])
+    dump.write(folder, 'w.csv', ['k,g'] + ['%d,1' % i for i in range(1, rows + 1)])
+    dump.write(folder, 'mapping.ttl', [PAIRS])
+
+
+QUERIES = [('load', dump.write_company, False, 'SELECT * {}'),
+           ('names', dump.write_company, False, 'SELECT ?n { ?e <http://e/emp#name> ?n }'),
+           ('departments', dump.write_company, False,
+            'SELECT ?n ?t { ?e <http://e/emp#name> ?n . ?e <http://e/emp#ref-dept> ?d . ?d <http://e/dept#title> ?t }'),
+           ('optional', dump.write_company, False,
+            'SELECT ?n ?t { ?e <http://e/emp#name> ?n OPTIONAL { ?e <http://e/emp#ref-dept> ?d . ?d <http://e/dept#title> ?t } }'),
+           ('gap', write_company_with_a_gap, False,
+            'SELECT ?n ?t { ?e <http://e/emp#name> ?n OPTIONAL { ?e <http://e/emp#ref-dept> ?d } ?d <http://e/dept#title> ?t }'),
+           ('value', write_pairs, True, 'SELECT ?s { ?s <http://e/k> 7 }'),
+           ('value_load', write_pairs, True, 'SELECT * {}')]
+
+
+def words_of(folder, mapping):
+    words = ['query', '--schema', folder + '/schema.sql', '--data', folder, '--base', 'http://e/', '--query', folder + '/query.rq']
+    return words + (['--mapping', folder + '/mapping.ttl'] if mapping else [])
 
 
 def main():
     sizes, programs, only = measuring.options(__doc__, [1000, 10000, 100000])
-    for name, query in QUERIES:
+    for name, write_case, mapping, query in QUERIES:
         for rows in sizes if only in (None, name) else []:
             with tempfile.TemporaryDirectory() as folder:
-                dump.write_company(folder, rows)
+                write_case(folder, rows)
                 dump.write(folder, 'query.rq', [query])
-                measuring.tell('%s %d' % (name, rows), 'lines', programs, words_of(folder), os.path.join(folder, 'out.tsv'))
+                measuring.tell('%s %d' % (name, rows), 'lines', programs, words_of(folder, mapping), os.path.join(folder, 'out.tsv'))
 
 
 if __name__ == '__main__':
