@@ -1,9 +1,7 @@
-pub mod CellRows
-pub mod DistinctLemmas
-pub mod IndexLemmas
-pub mod LeftLemmas
-pub mod LinkLemmas
-pub mod LinkedLemmas
+pub mod NodeArms
+pub mod NodeFacts
+pub mod PushLemmas
 pub mod RunLaws
+pub mod SideLemmas
 pub mod TableKinds
-pub mod TypedRows
+pub mod UnionLemmas

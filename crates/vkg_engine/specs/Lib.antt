@@ -1,3 +1,3 @@
-pub mod Linked
-pub mod Links
-pub mod Typed
+pub mod Sides
+pub mod Taken
+pub mod Weights

@@ -1,10 +1,10 @@
 // What the steps of an expression make of cells; NULL is unknown and error.
-ghost use Rattle.std.specs.Prelude.{◌≡◌, ◌++◌, ◌<◌, IfOk, Option, Some, None, length, option_and_then, option_map, if◌then◌else◌, string_bytes};
-ghost use Rattle.std.specs.Option.{option_map_or};
+ghost use Rattle.std.specs.Prelude.{◌≡◌, IfOk, length, option_and_then, option_map};
+ghost use Rattle.std.specs.Option.{option_copied};
 ghost use Rattle.vkg_cells.specs.declared.cell.SqlType.TheVariants as kind;
 ghost use Rattle.vkg_cells.specs.Form.{lexical_form};
 ghost use Rattle.vkg_cells.specs.Order.{same as same_cells};
-ghost use Rattle.vkg_schema.specs.Rows.{cell_at};
+ghost use Rattle.vkg_schema.specs.Rows.{is_null as is_null_cell};
 ghost use Rattle.vkg_terms.specs.Iri.{made_absolute};
 ghost use Rattle.vkg_terms.specs.Label.{blank_label as label_of};
 ghost use Rattle.vkg_terms.specs.Safe.{safe as safe_form};
@@ -17,30 +17,36 @@ ghost use Rattle.vkg_expr.specs.Value.{operator_value, term_cell, term_of as ter
 
 use std::alloc::Global;
 use vkg_base::{Memory, Text};
-use vkg_cells::{Cell, lex, same};
+use vkg_cells::{Cell, CellRef, same_ref};
 use vkg_expr::Operator;
 use vkg_terms::{Annotation, Term, blank_label, iri_safe, is_absolute};
 use vkg_values::{Compare, Take, Test, compare_terms, effective_truth, negation, take_of, test_of};
 
-/// The cell at a place.
-pub fn column(row: &[Cell], at: usize) -> Result<Cell, Memory>
-    requires { at < length row.now }
-    ensures { IfOk result (λ c. c ≡ cell_at row.now at) }
+/// Whether a cell is NULL.
+#[tactic(auto, using(crate::proofs::Forms::none_same))]
+pub fn is_null(cell: &CellRef<'_>) -> bool
+    ensures { result ≡ is_null_cell cell.now }
 {
-    match row.get(at) {
-        Some(cell) => cell.copy(),
-        None => unreachable!(),
-    }
+    same_ref(cell, &CellRef::truth(true)).is_none()
 }
 
-pub fn truth_of(cell: &Cell) -> Option<bool>
+/// The text of a cell, lent as long as the cell is.
+#[tactic(auto, using(crate::proofs::Forms::text_form))]
+pub fn text_of<'a>(cell: &CellRef<'a>) -> Option<&'a str>
+    requires { Fits kind.Text cell.now }
+    ensures { option_copied result ≡ text_in cell.now }
+{
+    cell.form()
+}
+
+#[tactic(auto, using(crate::proofs::Forms::truth_form))]
+pub fn truth_of(cell: &CellRef<'_>) -> Option<bool>
     requires { Fits kind.Bool cell.now }
     ensures { result ≡ truth_in cell.now }
 {
-    match cell {
-        Cell::Bool(truth) => Some(*truth),
-        Cell::Null => None,
-        _ => unreachable!(),
+    match cell.form() {
+        Some(form) => Some(form == "true"),
+        None => None,
     }
 }
 
@@ -53,97 +59,92 @@ pub fn truth_cell(truth: Option<bool>) -> Cell
     }
 }
 
-pub fn iri(cell: &Cell) -> Result<Cell, Memory>
+pub fn iri(alloc: Global, cell: &CellRef<'_>) -> Result<Cell, Memory>
     requires { Fits kind.Text cell.now }
     ensures { IfOk result (λ c. c ≡ term_cell (option_map Term.Iri (text_in cell.now))) }
 {
-    match cell {
-        Cell::Text(text) => Ok(Cell::Term(Term::Iri(text.copy()?))),
-        Cell::Null => Ok(Cell::Null),
-        _ => unreachable!(),
-    }
-}
-
-pub fn iri_of(alloc: Global, base: &Text, cell: &Cell) -> Result<Cell, Memory>
-    requires { Fits kind.Text cell.now }
-    ensures { IfOk result (λ c. c ≡ text_cell (option_map (made_absolute base.now) (text_in cell.now))) }
-{
-    match cell {
-        Cell::Text(text) => Ok(Cell::Text(against(alloc, base, text)?)),
-        Cell::Null => Ok(Cell::Null),
-        _ => unreachable!(),
-    }
-}
-
-fn against(alloc: Global, base: &Text, text: &Text) -> Result<Text, Memory>
-    ensures { IfOk result (λ t. t ≡ made_absolute base.now text.now) }
-{
-    if is_absolute(text.as_str()) {
-        return text.copy();
-    }
-    let mut whole = String::from_str(alloc, base.as_str())?;
-    whole.push_str(text.as_str())?;
-    Ok(Text::from_string(whole))
-}
-
-pub fn blank(alloc: Global, cell: &Cell) -> Result<Cell, Memory>
-    requires { Fits kind.Text cell.now }
-    ensures { IfOk result (λ c. c ≡ term_cell (option_map (λ s. Term.Blank (label_of s)) (text_in cell.now))) }
-{
-    match cell {
-        Cell::Text(text) => {
-            let label = blank_label(alloc, text.as_str())?;
-            Ok(Cell::Term(Term::Blank(Text::from_string(label))))
-        }
-        Cell::Null => Ok(Cell::Null),
-        _ => unreachable!(),
-    }
-}
-
-pub fn literal(cell: &Cell, annotation: &Annotation) -> Result<Cell, Memory>
-    requires { Fits kind.Text cell.now }
-    ensures { IfOk result (λ c. c ≡ term_cell (option_map (λ s. Term.Lit s annotation.now) (text_in cell.now))) }
-{
-    match cell {
-        Cell::Text(text) => {
-            let text = text.copy()?;
-            Ok(Cell::Term(Term::Lit(text, annotation.copy()?)))
-        }
-        Cell::Null => Ok(Cell::Null),
-        _ => unreachable!(),
-    }
-}
-
-pub fn lexical(alloc: Global, cell: &Cell) -> Result<Cell, Memory>
-    ensures { IfOk result (λ c. c ≡ text_cell (lexical_form cell.now)) }
-{
-    match lex(alloc, cell)? {
-        Some(form) => Ok(Cell::Text(Text::from_string(form))),
+    match text_of(cell) {
+        Some(text) => Ok(Cell::Term(Term::Iri(Text::new(alloc, text)?))),
         None => Ok(Cell::Null),
     }
 }
 
-pub fn safe(alloc: Global, cell: &Cell) -> Result<Cell, Memory>
+pub fn iri_of(alloc: Global, base: &Text, cell: &CellRef<'_>) -> Result<Cell, Memory>
     requires { Fits kind.Text cell.now }
-    ensures { IfOk result (λ c. c ≡ text_cell (option_map safe_form (text_in cell.now))) }
+    ensures { IfOk result (λ c. c ≡ text_cell (option_map (made_absolute base.now) (text_in cell.now))) }
 {
-    match cell {
-        Cell::Text(text) => {
-            let form = iri_safe(alloc, text.as_str())?;
-            Ok(Cell::Text(Text::from_string(form)))
-        }
-        Cell::Null => Ok(Cell::Null),
-        _ => unreachable!(),
+    match text_of(cell) {
+        Some(text) => Ok(Cell::Text(against(alloc, base, text)?)),
+        None => Ok(Cell::Null),
     }
 }
 
-pub fn equality(a: &Cell, b: &Cell) -> Cell
-    ensures { result ≡ cell_of_truth (same_cells a.now b.now) }
+fn against(alloc: Global, base: &Text, text: &str) -> Result<Text, Memory>
+    ensures { IfOk result (λ t. t ≡ made_absolute base.now text.now) }
 {
-    truth_cell(same(a, b))
+    if is_absolute(text) {
+        return Text::new(alloc, text);
+    }
+    let mut whole = String::from_str(alloc, base.as_str())?;
+    whole.push_str(text)?;
+    Ok(Text::from_string(whole))
 }
 
-pub fn not(cell: &Cell) -> Cell
+pub fn blank(alloc: Global, cell: &CellRef<'_>) -> Result<Cell, Memory>
+    requires { Fits kind.Text cell.now }
+    ensures { IfOk result (λ c. c ≡ term_cell (option_map (λ s. Term.Blank (label_of s)) (text_in cell.now))) }
+{
+    match text_of(cell) {
+        Some(text) => {
+            let label = blank_label(alloc, text)?;
+            Ok(Cell::Term(Term::Blank(Text::from_string(label))))
+        }
+        None => Ok(Cell::Null),
+    }
+}
+
+pub fn literal(alloc: Global, cell: &CellRef<'_>, annotation: &Annotation) -> Result<Cell, Memory>
+    requires { Fits kind.Text cell.now }
+    ensures { IfOk result (λ c. c ≡ term_cell (option_map (λ s. Term.Lit s annotation.now) (text_in cell.now))) }
+{
+    match text_of(cell) {
+        Some(text) => {
+            let text = Text::new(alloc, text)?;
+            Ok(Cell::Term(Term::Lit(text, annotation.copy()?)))
+        }
+        None => Ok(Cell::Null),
+    }
+}
+
+pub fn lexical(alloc: Global, cell: &CellRef<'_>) -> Result<Cell, Memory>
+    ensures { IfOk result (λ c. c ≡ text_cell (lexical_form cell.now)) }
+{
+    match cell.form() {
+        Some(form) => Ok(Cell::Text(Text::new(alloc, form)?)),
+        None => Ok(Cell::Null),
+    }
+}
+
+pub fn safe(alloc: Global, cell: &CellRef<'_>) -> Result<Cell, Memory>
+    requires { Fits kind.Text cell.now }
+    ensures { IfOk result (λ c. c ≡ text_cell (option_map safe_form (text_in cell.now))) }
+{
+    match text_of(cell) {
+        Some(text) => {
+            let form = iri_safe(alloc, text)?;
+            Ok(Cell::Text(Text::from_string(form)))
+        }
+        None => Ok(Cell::Null),
+    }
+}
+
+pub fn equality(a: &CellRef<'_>, b: &CellRef<'_>) -> Cell
+    ensures { result ≡ cell_of_truth (same_cells a.now b.now) }
+{
+    truth_cell(same_ref(a, b))
+}
+
+pub fn not(cell: &CellRef<'_>) -> Cell
     requires { Fits kind.Bool cell.now }
     ensures { result ≡ cell_of_truth (not3 (truth_in cell.now)) }
 {

@@ -5,28 +5,28 @@ ghost use Rattle.vkg_expr.specs.Laws.{IsOfItsKind, IsTyped};
 ghost use Rattle.vkg_expr.specs.Seen.{expr_seen};
 ghost use Rattle.vkg_expr.specs.Value.{value_of, values_of};
 
-use crate::cells::column;
 use crate::row::Row;
 use crate::steps::{after_both, after_each, after_one};
+use crate::value::Value;
 use std::alloc::Global;
 use vkg_base::{Items, Memory};
-use vkg_cells::Cell;
+use vkg_cells::{Cell, CellRef};
 use vkg_expr::Expr;
 
-/// The value of an expression that is typed on the row; unknown and error are NULL. Over columns whose kinds the cells have,
-/// it is of the expression's kind or NULL.
-#[tactic(auto, using(vkg_expr::proofs::ValueFits::fitting))]
-pub fn eval(alloc: Global, e: &Expr, row: &Row) -> Result<Cell, Memory>
+/// The value of an expression that is typed on the row, as `evaluated` has it; a lent one is copied.
+pub fn eval(alloc: Global, e: &Expr, row: &Row<'_>) -> Result<Cell, Memory>
     requires { IsTyped (expr_seen e.now) row.now }
     ensures value { IfOk result (λ c. c ≡ value_of (expr_seen e.now) row.now) }
     ensures kind { IfOk result (IsOfItsKind (expr_seen e.now) row.now) }
 {
-    eval_on(alloc, e, row.cells())
+    let value = evaluated(alloc, e, row)?;
+    value.into_cell(alloc)
 }
 
-/// The value of an expression that is typed on the cells of a row.
+/// The value of an expression that is typed on the row; unknown and error are NULL. A column and a constant are lent. Over columns
+/// whose kinds the cells have, it is of the expression's kind or NULL.
 #[tactic(auto, using(vkg_expr::proofs::ValueFits::fitting))]
-pub fn eval_cells(alloc: Global, e: &Expr, row: &[Cell]) -> Result<Cell, Memory>
+pub fn evaluated<'s>(alloc: Global, e: &'s Expr, row: &'s Row<'_>) -> Result<Value<'s>, Memory>
     requires { IsTyped (expr_seen e.now) row.now }
     ensures value { IfOk result (λ c. c ≡ value_of (expr_seen e.now) row.now) }
     ensures kind { IfOk result (IsOfItsKind (expr_seen e.now) row.now) }
@@ -35,13 +35,13 @@ pub fn eval_cells(alloc: Global, e: &Expr, row: &[Cell]) -> Result<Cell, Memory>
 }
 
 #[cycle(eval)]
-fn eval_on(alloc: Global, e: &Expr, row: &[Cell]) -> Result<Cell, Memory>
+fn eval_on<'s>(alloc: Global, e: &'s Expr, row: &'s Row<'_>) -> Result<Value<'s>, Memory>
     requires { IsTyped (expr_seen e.now) row.now }
     ensures { IfOk result (λ c. c ≡ value_of (expr_seen e.now) row.now) }
 {
     match e {
-        Expr::Col(at) => column(row, *at),
-        Expr::Const(cell, _) => cell.copy(),
+        Expr::Col(at) => Ok(Value::lent(row.cell(*at))),
+        Expr::Const(cell, _) => Ok(Value::lent(CellRef::of(cell))),
         Expr::MakeIri(part) => after_one(alloc, e, eval_on(alloc, part, row)),
         Expr::IriOf(_, part) => after_one(alloc, e, eval_on(alloc, part, row)),
         Expr::MakeBlank(part) => after_one(alloc, e, eval_on(alloc, part, row)),
@@ -60,9 +60,13 @@ fn eval_on(alloc: Global, e: &Expr, row: &[Cell]) -> Result<Cell, Memory>
     }
 }
 
-/// The values of some expressions that are typed on the cells of a row.
+/// The values of some expressions that are typed on the row.
 #[cycle(eval)]
-pub fn eval_each(alloc: Global, list: &[Expr], row: &[Cell]) -> Result<Items<Cell>, Memory>
+fn eval_each<'s>(
+    alloc: Global,
+    list: &'s [Expr],
+    row: &'s Row<'_>,
+) -> Result<Items<Value<'s>>, Memory>
     requires { All (λ e. IsTyped (expr_seen e) row.now) list.now }
     ensures { IfOk result (λ cs. cs ≡ values_of (exprs (map expr_seen list.now)) row.now) }
 {
@@ -71,4 +75,13 @@ pub fn eval_each(alloc: Global, list: &[Expr], row: &[Cell]) -> Result<Items<Cel
         values.push(eval_on(alloc, e, row)?)?;
     }
     Ok(values)
+}
+
+/// The row of the values of some expressions that are typed on a row.
+pub fn made<'s>(alloc: Global, list: &'s [Expr], row: &'s Row<'_>) -> Result<Row<'s>, Memory>
+    requires { All (λ e. IsTyped (expr_seen e) row.now) list.now }
+    ensures { IfOk result (λ cs. cs ≡ values_of (exprs (map expr_seen list.now)) row.now) }
+{
+    let values = eval_each(alloc, list, row)?;
+    Ok(Row::from_values(values))
 }

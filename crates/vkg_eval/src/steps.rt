@@ -5,57 +5,67 @@ ghost use Rattle.vkg_expr.specs.Value.{truth_cell};
 ghost use Rattle.vkg_expr.specs.Seen.{expr_seen};
 ghost use Rattle.vkg_expr.specs.Steps.{TakesEach, TakesOne, of_each, of_one};
 
+use crate::value::Value;
 use crate::{cells, lists};
 use std::alloc::Global;
 use vkg_base::{Items, Memory};
 use vkg_cells::Cell;
-use vkg_expr::{Expr, is_null};
+use vkg_expr::Expr;
 
 /// Of an expression of one part, on the part's value.
-pub fn after_one(alloc: Global, e: &Expr, value: Result<Cell, Memory>) -> Result<Cell, Memory>
+pub fn after_one<'s>(
+    alloc: Global,
+    e: &Expr,
+    value: Result<Value<'s>, Memory>,
+) -> Result<Value<'s>, Memory>
     requires { IfOk value (TakesOne (expr_seen e.now)) }
-    ensures { IfOk result (λ c. IsOkAnd value (λ v. c ≡ of_one (expr_seen e.now) v)) }
+    ensures { IfOk result (λ c. IsOkAnd value.entry (λ v. c ≡ of_one (expr_seen e.now) v)) }
 {
     let value = value?;
-    step_of_one(alloc, e, &value)
+    let cell = step_of_one(alloc, e, &value)?;
+    Ok(Value::own(cell))
 }
 
 /// Of an expression of a list of parts, on their values.
-pub fn after_each(
+pub fn after_each<'s>(
     alloc: Global,
     e: &Expr,
-    values: Result<Items<Cell>, Memory>,
-) -> Result<Cell, Memory>
+    values: Result<Items<Value<'s>>, Memory>,
+) -> Result<Value<'s>, Memory>
     requires { IfOk values (TakesEach (expr_seen e.now)) }
-    ensures { IfOk result (λ c. IsOkAnd values (λ vs. c ≡ of_each (expr_seen e.now) vs)) }
+    ensures { IfOk result (λ c. IsOkAnd values.entry (λ vs. c ≡ of_each (expr_seen e.now) vs)) }
 {
     let values = values?;
-    step_of_each(alloc, e, values.as_slice())
+    let cell = step_of_each(alloc, e, values)?;
+    Ok(Value::own(cell))
 }
 
 /// SQL's equality of two values.
-pub fn after_both(a: Result<Cell, Memory>, b: Result<Cell, Memory>) -> Result<Cell, Memory>
-    ensures { IfOk result (λ c. IsOkAnd a (λ v. IsOkAnd b (λ w. c ≡ truth_cell (same_cells v w)))) }
+pub fn after_both<'s>(
+    a: Result<Value<'s>, Memory>,
+    b: Result<Value<'s>, Memory>,
+) -> Result<Value<'s>, Memory>
+    ensures { IfOk result (λ c. IsOkAnd a.entry (λ v. IsOkAnd b.entry (λ w. c ≡ truth_cell (same_cells v w)))) }
 {
     let a = a?;
     let b = b?;
-    Ok(cells::equality(&a, &b))
+    Ok(Value::own(cells::equality(&a.shown(), &b.shown())))
 }
 
-fn step_of_one(alloc: Global, e: &Expr, value: &Cell) -> Result<Cell, Memory>
+fn step_of_one(alloc: Global, e: &Expr, value: &Value<'_>) -> Result<Cell, Memory>
     requires { TakesOne (expr_seen e.now) value.now }
     ensures { IfOk result (λ c. c ≡ of_one (expr_seen e.now) value.now) }
 {
     match e {
-        Expr::MakeIri(_) => cells::iri(value),
-        Expr::IriOf(base, _) => cells::iri_of(alloc, base, value),
-        Expr::MakeBlank(_) => cells::blank(alloc, value),
-        Expr::MakeLit(_, annotation) => cells::literal(value, annotation),
-        Expr::Lex(_) => cells::lexical(alloc, value),
-        Expr::IriSafe(_) => cells::safe(alloc, value),
-        Expr::IsNull(_) => Ok(Cell::Bool(is_null(value))),
-        Expr::Not(_) => Ok(cells::not(value)),
-        Expr::Ebv(_) => cells::truth_of_term(alloc, value),
+        Expr::MakeIri(_) => cells::iri(alloc, &value.shown()),
+        Expr::IriOf(base, _) => cells::iri_of(alloc, base, &value.shown()),
+        Expr::MakeBlank(_) => cells::blank(alloc, &value.shown()),
+        Expr::MakeLit(_, annotation) => cells::literal(alloc, &value.shown(), annotation),
+        Expr::Lex(_) => cells::lexical(alloc, &value.shown()),
+        Expr::IriSafe(_) => cells::safe(alloc, &value.shown()),
+        Expr::IsNull(_) => Ok(Cell::Bool(cells::is_null(&value.shown()))),
+        Expr::Not(_) => Ok(cells::not(&value.shown())),
+        Expr::Ebv(_) => value.truth_of_term(alloc),
         Expr::Col(_) => unreachable!(),
         Expr::Const(_, _) => unreachable!(),
         Expr::Concat(_) => unreachable!(),
@@ -67,16 +77,19 @@ fn step_of_one(alloc: Global, e: &Expr, value: &Cell) -> Result<Cell, Memory>
     }
 }
 
-fn step_of_each(alloc: Global, e: &Expr, values: &[Cell]) -> Result<Cell, Memory>
-    requires { TakesEach (expr_seen e.now) values.now }
-    ensures { IfOk result (λ c. c ≡ of_each (expr_seen e.now) values.now) }
+fn step_of_each(alloc: Global, e: &Expr, values: Items<Value<'_>>) -> Result<Cell, Memory>
+    requires { TakesEach (expr_seen e.now) values }
+    ensures { IfOk result (λ c. c ≡ of_each (expr_seen e.now) values.entry) }
 {
     match e {
-        Expr::Concat(_) => lists::concatenation(alloc, values),
-        Expr::And(_) => Ok(lists::all(values)),
-        Expr::Or(_) => Ok(lists::any(values)),
-        Expr::Coalesce(_) => lists::first_known(values),
-        Expr::Sparql(operator, _) => cells::operation(alloc, *operator, values),
+        Expr::Concat(_) => lists::concatenation(alloc, values.as_slice()),
+        Expr::And(_) => Ok(lists::all(values.as_slice())),
+        Expr::Or(_) => Ok(lists::any(values.as_slice())),
+        Expr::Coalesce(_) => lists::first_known(alloc, values.as_slice()),
+        Expr::Sparql(operator, _) => {
+            let values = lists::into_cells(alloc, values)?;
+            cells::operation(alloc, *operator, values.as_slice())
+        }
         _ => unreachable!(),
     }
 }

@@ -132,7 +132,7 @@ fn made(alloc: Global, form: &str) -> MadeExpr {
 }
 
 // 7, `a b`, NULL and true.
-fn row(alloc: Global) -> Result<Row, Memory>
+fn row<'a>(alloc: Global) -> Result<Row<'a>, Memory>
     ensures { IfOk result (HasKinds KINDS) }
 {
     let mut row = Row::new(alloc);
@@ -147,7 +147,7 @@ const KINDS: [SqlType; 4] = [SqlType::Int, SqlType::Text, SqlType::Int, SqlType:
 
 // The value of an expression that is typed over them, else NULL.
 #[tactic(auto, using(vkg_expr::proofs::TypedParts::typed_by))]
-fn value_on(alloc: Global, e: &Expr, row: &Row) -> Result<Cell, Memory>
+fn value_on(alloc: Global, e: &Expr, row: &Row<'_>) -> Result<Cell, Memory>
     requires { HasKinds KINDS row.now }
 {
     match typed(e, &KINDS) {

@@ -1,10 +1,7 @@
 -- The parts are typed on the row, and their values are what the step asks for.
 use Rattle.std.proofs.Common.{arith}
-use Rattle.vkg_expr.proofs.TypedParts.{column-is_within, item-is_part, part-MakeIri, asks-MakeIri, part-IriOf, asks-IriOf, part-MakeBlank, asks-MakeBlank, part-MakeLit, asks-MakeLit, part-Lex, asks-Lex, part-IriSafe, asks-IriSafe, part-IsNull, asks-IsNull, part-Not, asks-Not, part-Ebv, asks-Ebv, part-Same_left, part-Same_right, parts-Concat, asks-Concat, parts-And, asks-And, parts-Or, asks-Or, parts-Coalesce, asks-Coalesce, parts-Sparql, asks-Sparql}
+use Rattle.vkg_expr.proofs.TypedParts.{item-is_part, part-MakeIri, asks-MakeIri, part-IriOf, asks-IriOf, part-MakeBlank, asks-MakeBlank, part-MakeLit, asks-MakeLit, part-Lex, asks-Lex, part-IriSafe, asks-IriSafe, part-IsNull, asks-IsNull, part-Not, asks-Not, part-Ebv, asks-Ebv, part-Same_left, part-Same_right, parts-Concat, asks-Concat, parts-And, asks-And, parts-Or, asks-Or, parts-Coalesce, asks-Coalesce, parts-Sparql, asks-Sparql}
 use Rattle.vkg_eval.proofs.evaluation.+eval.Goals as goal
-
-pub eval_on-column-requires : goal.eval_on-column-requires
-eval_on-column-requires t c = column-is_within c.args.e.now c.in-Col.at c.args.row.now c.in-Col.is c.requires
 
 pub eval_on-eval_on-requires : goal.eval_on-eval_on-requires
 eval_on-eval_on-requires t c = let p = part-MakeIri c.args.e.now c.in-MakeIri.part c.deref.result.now c.args.row.now c.in-MakeIri.is c.deref.ensures c.requires in (omega (arith, p.0), p.1)

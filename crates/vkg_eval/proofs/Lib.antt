@@ -1,0 +1,2 @@
+pub mod TruthValues
+pub mod Forms

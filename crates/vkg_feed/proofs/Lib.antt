@@ -1,0 +1,7 @@
+pub mod ArmLemmas
+pub mod BuildLemmas
+pub mod FedLemmas
+pub mod KeptLemmas
+pub mod PairLemmas
+pub mod SideRows
+pub mod StepFed

@@ -1,0 +1,5 @@
+pub mod Builds
+pub mod Fed
+pub mod Kept
+pub mod Pairs
+pub mod Steps
