@@ -1,3 +1,4 @@
+pub mod CountArms
 pub mod NodeArms
 pub mod NodeFacts
 pub mod PushLemmas

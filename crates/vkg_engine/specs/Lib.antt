@@ -1,3 +1,4 @@
+pub mod Counts
 pub mod Sides
 pub mod Taken
 pub mod Weights

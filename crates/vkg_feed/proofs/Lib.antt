@@ -1,7 +1,12 @@
 pub mod ArmLemmas
+pub mod BothLemmas
 pub mod BuildLemmas
+pub mod CountLemmas
 pub mod FedLemmas
+pub mod FinderLemmas
+pub mod FoundLemmas
 pub mod KeptLemmas
+pub mod NumberLemmas
 pub mod PairLemmas
 pub mod SideRows
 pub mod StepFed

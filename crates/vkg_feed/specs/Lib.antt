@@ -1,5 +1,9 @@
 pub mod Builds
+pub mod Counts
+pub mod Either
 pub mod Fed
+pub mod Finders
 pub mod Kept
+pub mod Numbers
 pub mod Pairs
 pub mod Steps

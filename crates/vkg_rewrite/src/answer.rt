@@ -15,7 +15,7 @@ use crate::lines::result_lines;
 use crate::rewriting::rewrite;
 use std::alloc::Global;
 use vkg_base::{Box, Lines, Memory};
-use vkg_engine::{Rows, run};
+use vkg_engine::{Rows, run_uncounted};
 use vkg_maps::Mapping;
 use vkg_sparql::Query;
 use vkg_tables::Database;
@@ -47,5 +47,5 @@ fn plan_rows(alloc: Global, db: &Database, mapping: &Mapping, query: &Query) -> 
     ensures { IfOk result (λ rows. IsPermutation rows (rows_of db.now.schema (rewritten db.now.schema mapping.now (query_seen query.now)) db.now.tables)) }
 {
     let plan = Box::new(alloc, rewrite(alloc, db.schema(), mapping, query)?)?;
-    run(alloc, &plan, db)
+    run_uncounted(alloc, &plan, db)
 }

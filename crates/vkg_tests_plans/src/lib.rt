@@ -7,7 +7,7 @@
 //! - `vkg_expr`: each form of expressions with its kind and its value, and ill-typed ones.
 //! - `vkg_plan`: plans checked, and ill-typed ones.
 //! - `vkg_match`: when two templates make one IRI.
-//! - `vkg_engine`: each node of plans with its rows.
+//! - `vkg_engine`: each node of plans with its rows, a join of many rows to one each, and the steps of a scan.
 //! - `vkg_sqltext`: each form of expressions and each node of plans with its text.
 #![tactic(auto)]
 
@@ -18,8 +18,12 @@ mod of_engine;
 #[cfg(test)]
 mod of_expr;
 #[cfg(test)]
+mod of_joins;
+#[cfg(test)]
 mod of_match;
 #[cfg(test)]
 mod of_plan;
 #[cfg(test)]
 mod of_sqltext;
+#[cfg(test)]
+mod of_steps;

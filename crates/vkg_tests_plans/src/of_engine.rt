@@ -4,7 +4,7 @@ use std::process::Abort;
 use std::test::Fail;
 use vkg_base::{Box, Items, Memory};
 use vkg_cells::{Cell, SqlType, form};
-use vkg_engine::{Rows, run};
+use vkg_engine::{Rows, run_uncounted};
 use vkg_expr::Expr;
 use vkg_plan::{CheckedPlan, Plan, well_typed};
 use vkg_schema::read_schema;
@@ -142,7 +142,7 @@ fn rows_of(alloc: Global, database: &Database, plan: Plan) -> Result<Option<Rows
         return Ok(None);
     }
     let plan = CheckedPlan::new(plan, database.schema());
-    Ok(Some(run(alloc, &plan, database)?))
+    Ok(Some(run_uncounted(alloc, &plan, database)?))
 }
 
 // The lines of a plan's rows; of an ill-typed one a text that no rows have.
