@@ -10,8 +10,12 @@ names another program). With another program the two are run in turn over the sa
 employees, if they have one.
 
 `gap` asks for the name of each employee, for the department, if there is one, and then for each title of it, or of any department where
-there is none: of N employees one has no department. `value` asks which row has the number 7, over N rows whose mapping also refers from
-each row to each (N * N + N quads), and `value_load` asks nothing of the same files.
+there is none: of N employees one has no department; `no_gap` asks the same where all have one. `chain` asks for the title by a second
+OPTIONAL, with the one that has none, and `whole_chain` where all have one. `value` asks which row has the number 7, over N rows whose mapping
+also refers from each row to each (N * N + N quads), and `value_load` asks nothing of the same files.
+
+`typed`, `twice`, `union` and `star` are an OPTIONAL with the department's class, two OPTIONALs on one subject, a UNION of two joins and ten
+patterns on one subject.
 """
 import os
 import tempfile
@@ -27,11 +31,19 @@ PAIRS = dump.PREFIX + '''
 '''
 
 
-def write_company_with_a_gap(folder, employees):
+def write_company_of(folder, employees, first):
     dump.write_company(folder, employees)
     departments = employees // 10 + 1
     dump.write(folder, 'dept.csv', ['id,title'] + ['%d,D%d' % (k, k) for k in range(1, departments + 1)])
-    dump.write(folder, 'emp.csv', ['id,name,dept', '1,N1,\\N'] + ['%d,N%d,%d' % (i, i, i % departments + 1) for i in range(2, employees + 1)])
+    dump.write(folder, 'emp.csv', ['id,name,dept', '1,N1,' + first] + ['%d,N%d,%d' % (i, i, i % departments + 1) for i in range(2, employees + 1)])
+
+
+def write_company_with_a_gap(folder, employees):
+    write_company_of(folder, employees, '\\N')
+
+
+def write_company_without_a_gap(folder, employees):
+    write_company_of(folder, employees, '1')
 
 
 def write_pairs(folder, rows):
@@ -40,16 +52,25 @@ def write_pairs(folder, rows):
     dump.write(folder, 'mapping.ttl', [PAIRS])
 
 
+COMPANY = 'PREFIX e: <http://e/emp#> PREFIX d: <http://e/dept#> SELECT '
+
 QUERIES = [('load', dump.write_company, False, 'SELECT * {}'),
-           ('names', dump.write_company, False, 'SELECT ?n { ?e <http://e/emp#name> ?n }'),
-           ('departments', dump.write_company, False,
-            'SELECT ?n ?t { ?e <http://e/emp#name> ?n . ?e <http://e/emp#ref-dept> ?d . ?d <http://e/dept#title> ?t }'),
-           ('optional', dump.write_company, False,
-            'SELECT ?n ?t { ?e <http://e/emp#name> ?n OPTIONAL { ?e <http://e/emp#ref-dept> ?d . ?d <http://e/dept#title> ?t } }'),
-           ('gap', write_company_with_a_gap, False,
-            'SELECT ?n ?t { ?e <http://e/emp#name> ?n OPTIONAL { ?e <http://e/emp#ref-dept> ?d } ?d <http://e/dept#title> ?t }'),
+           ('names', dump.write_company, False, COMPANY + '?n { ?e e:name ?n }'),
+           ('departments', dump.write_company, False, COMPANY + '?n ?t { ?e e:name ?n . ?e e:ref-dept ?d . ?d d:title ?t }'),
+           ('optional', dump.write_company, False, COMPANY + '?n ?t { ?e e:name ?n OPTIONAL { ?e e:ref-dept ?d . ?d d:title ?t } }'),
+           ('gap', write_company_with_a_gap, False, COMPANY + '?n ?t { ?e e:name ?n OPTIONAL { ?e e:ref-dept ?d } ?d d:title ?t }'),
+           ('no_gap', write_company_without_a_gap, False, COMPANY + '?n ?t { ?e e:name ?n OPTIONAL { ?e e:ref-dept ?d } ?d d:title ?t }'),
+           ('chain', write_company_with_a_gap, False, COMPANY + '?n ?t { ?e e:name ?n OPTIONAL { ?e e:ref-dept ?d } OPTIONAL { ?d d:title ?t } }'),
+           ('whole_chain', write_company_without_a_gap, False,
+            COMPANY + '?n ?t { ?e e:name ?n OPTIONAL { ?e e:ref-dept ?d } OPTIONAL { ?d d:title ?t } }'),
            ('value', write_pairs, True, 'SELECT ?s { ?s <http://e/k> 7 }'),
-           ('value_load', write_pairs, True, 'SELECT * {}')]
+           ('value_load', write_pairs, True, 'SELECT * {}'),
+           ('typed', dump.write_company, False, COMPANY + '?n ?t { ?e e:name ?n OPTIONAL { ?e e:ref-dept ?d . ?d a <http://e/dept> . ?d d:title ?t } }'),
+           ('twice', dump.write_company, False, COMPANY + '?n ?d { ?e a <http://e/emp> OPTIONAL { ?e e:name ?n } OPTIONAL { ?e e:ref-dept ?d } }'),
+           ('union', dump.write_company, False,
+            COMPANY + '?n ?t { { ?e e:name ?n . ?e e:ref-dept ?t } UNION { ?e e:ref-dept ?d . ?d d:title ?n . ?e e:id ?t } }'),
+           ('star', dump.write_company, False,
+            COMPANY + '* { ?e a ?c ; e:id ?i ; e:name ?n ; e:dept ?d ; e:ref-dept ?r ; a ?c2 ; e:id ?i2 ; e:name ?n2 ; e:dept ?d2 ; e:ref-dept ?r2 }')]
 
 
 def words_of(folder, mapping):
