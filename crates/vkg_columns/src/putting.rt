@@ -8,7 +8,7 @@ ghost use Rattle.vkg_expr.specs.Strict.{put as put_in, put_each};
 use std::alloc::Global;
 use vkg_base::{Box, Items, Memory};
 use vkg_cells::{Cell, SqlType};
-use vkg_expr::Expr;
+use vkg_expr::{Expr, Shared};
 
 /// The expression with those of a list in the place of its columns, NULL past the end of the list.
 #[cycle(put)]
@@ -18,14 +18,14 @@ pub fn put(alloc: Global, e: &Expr, by: &[Expr]) -> Result<Expr, Memory>
     match e {
         Expr::Col(at) => placed(alloc, by, *at),
         Expr::Const(cell, kind) => Ok(Expr::Const(cell.copy()?, *kind)),
-        Expr::MakeIri(e) => Ok(Expr::MakeIri(put_boxed(alloc, e, by)?)),
+        Expr::MakeIri(e) => Ok(Expr::MakeIri(put_shared(alloc, e, by)?)),
         Expr::IriOf(base, e) => {
             let base = base.copy()?;
             Ok(Expr::IriOf(base, put_boxed(alloc, e, by)?))
         }
-        Expr::MakeBlank(e) => Ok(Expr::MakeBlank(put_boxed(alloc, e, by)?)),
+        Expr::MakeBlank(e) => Ok(Expr::MakeBlank(put_shared(alloc, e, by)?)),
         Expr::MakeLit(e, annotation) => {
-            let e = put_boxed(alloc, e, by)?;
+            let e = put_shared(alloc, e, by)?;
             Ok(Expr::MakeLit(e, annotation.copy()?))
         }
         Expr::Lex(e) => Ok(Expr::Lex(put_boxed(alloc, e, by)?)),
@@ -36,7 +36,7 @@ pub fn put(alloc: Global, e: &Expr, by: &[Expr]) -> Result<Expr, Memory>
             Ok(Expr::Same(a, put_boxed(alloc, b, by)?))
         }
         Expr::IsNull(e) => Ok(Expr::IsNull(put_boxed(alloc, e, by)?)),
-        Expr::Not(e) => Ok(Expr::Not(put_boxed(alloc, e, by)?)),
+        Expr::Not(e) => Ok(Expr::Not(put_shared(alloc, e, by)?)),
         Expr::And(list) => Ok(Expr::And(put_list(alloc, list.as_slice(), by)?)),
         Expr::Or(list) => Ok(Expr::Or(put_list(alloc, list.as_slice(), by)?)),
         Expr::Coalesce(list) => Ok(Expr::Coalesce(put_list(alloc, list.as_slice(), by)?)),
@@ -52,6 +52,13 @@ fn put_boxed(alloc: Global, e: &Expr, by: &[Expr]) -> Result<Box<Expr>, Memory>
     ensures { IfOk result (λ r. expr_seen r ≡ put_in (at_place (map expr_seen by.now)) (expr_seen e.now)) }
 {
     Box::new(alloc, put(alloc, e, by)?)
+}
+
+#[cycle(put)]
+fn put_shared(alloc: Global, e: &Expr, by: &[Expr]) -> Result<Shared<Expr>, Memory>
+    ensures { IfOk result (λ r. expr_seen r ≡ put_in (at_place (map expr_seen by.now)) (expr_seen e.now)) }
+{
+    Shared::new(alloc, put(alloc, e, by)?)
 }
 
 #[cycle(put)]

@@ -9,7 +9,7 @@ use crate::junctions::{Junction, rejoined, single, spliced};
 use crate::strict::is_strict;
 use std::alloc::Global;
 use vkg_base::{Box, Items, Memory};
-use vkg_expr::{Expr, copy_boxed};
+use vkg_expr::{Expr, Shared, copy_boxed};
 use vkg_same::same_expr;
 
 /// The condition with its first conjunct that asks whether a strict expression is equal to itself asking whether it is known.
@@ -54,6 +54,6 @@ fn known_if(alloc: Global, holds: bool, e: &Expr) -> Result<Option<Box<Expr>>, M
     if !holds {
         return Ok(None);
     }
-    let null = Box::new(alloc, Expr::IsNull(copy_boxed(alloc, e)?))?;
+    let null = Shared::new(alloc, Expr::IsNull(copy_boxed(alloc, e)?))?;
     Ok(Some(Box::new(alloc, Expr::Not(null))?))
 }

@@ -6,7 +6,7 @@ ghost use Rattle.vkg_expr.specs.Seen.{expr_seen};
 
 use std::alloc::Global;
 use vkg_base::{Box, Items, Memory};
-use vkg_expr::{Expr, copy_boxed};
+use vkg_expr::{Expr, Shared, copy_boxed};
 
 /// The expression of one part with another part.
 pub fn over_part(
@@ -18,23 +18,26 @@ pub fn over_part(
 {
     match part {
         None => Ok(None),
-        Some(part) => Ok(Some(Box::new(alloc, with_part(e, part)?)?)),
+        Some(part) => Ok(Some(Box::new(alloc, with_part(alloc, e, part)?)?)),
     }
 }
 
 #[tactic(auto, using(crate::proofs::ListLemmas::lists_seen))]
-fn with_part(e: &Expr, part: Box<Expr>) -> Result<Expr, Memory>
+fn with_part(alloc: Global, e: &Expr, part: Box<Expr>) -> Result<Expr, Memory>
     ensures { IfOk result (λ d. expr_seen d ≡ part_put (expr_seen e.now) (expr_seen part)) }
 {
     match e {
-        Expr::MakeIri(_) => Ok(Expr::MakeIri(part)),
+        Expr::MakeIri(_) => Ok(Expr::MakeIri(Shared::from_box(alloc, part)?)),
         Expr::IriOf(base, _) => Ok(Expr::IriOf(base.copy()?, part)),
-        Expr::MakeBlank(_) => Ok(Expr::MakeBlank(part)),
-        Expr::MakeLit(_, annotation) => Ok(Expr::MakeLit(part, annotation.copy()?)),
+        Expr::MakeBlank(_) => Ok(Expr::MakeBlank(Shared::from_box(alloc, part)?)),
+        Expr::MakeLit(_, annotation) => {
+            let part = Shared::from_box(alloc, part)?;
+            Ok(Expr::MakeLit(part, annotation.copy()?))
+        }
         Expr::Lex(_) => Ok(Expr::Lex(part)),
         Expr::IriSafe(_) => Ok(Expr::IriSafe(part)),
         Expr::IsNull(_) => Ok(Expr::IsNull(part)),
-        Expr::Not(_) => Ok(Expr::Not(part)),
+        Expr::Not(_) => Ok(Expr::Not(Shared::from_box(alloc, part)?)),
         Expr::Ebv(_) => Ok(Expr::Ebv(part)),
         Expr::Col(_) => Ok(part.into_inner()),
         Expr::Const(_, _) => Ok(part.into_inner()),

@@ -30,9 +30,9 @@ itself kind.Bin = refl
 itself kind.Time = refl
 itself kind.Term = refl
 
-pub common-more : (k : SqlType) (o : Option (List SqlType)) → common (with_first (Some k) o) ≡ then_some (are_all k (with_first (Some k) o)) k
+pub common-more : (k : SqlType) (o : Option (List SqlType)) → common (with_first (Some k) o) ≡ then_some (are_all k o) k
 common-more k None = refl
-common-more k (Some ls) = rw (itself k)
+common-more k (Some ls) = refl
 
 pub length-each : (xs : List ExprValue) → length (each (exprs (map expr_seen xs))) ≡ length xs
 length-each xs = ap length (each_exprs (map expr_seen xs)) ∙ length-map xs expr_seen

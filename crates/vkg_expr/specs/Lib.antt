@@ -8,3 +8,4 @@ pub mod Strict
 pub mod TermExprs
 pub mod Logic
 pub mod Places
+pub mod formers

@@ -1,5 +1,6 @@
 ghost use Rattle.std.specs.Prelude.{◌≡◌, IfOk};
 
+use crate::Shared;
 use std::alloc::Global;
 use vkg_base::{Box, Items, Memory, Text};
 use vkg_cells::{Cell, SqlType};
@@ -20,11 +21,12 @@ pub enum Expr {
     Col(usize),
     /// A cell of the kind, or NULL.
     Const(Cell, SqlType),
-    MakeIri(Box<Expr>),
+    /// Over a shared text, as the other terms that are made: plans have these many times.
+    MakeIri(Shared<Expr>),
     /// The text itself where it is an absolute IRI, else the base and the text (R2RML, 7.4).
     IriOf(Text, Box<Expr>),
-    MakeBlank(Box<Expr>),
-    MakeLit(Box<Expr>, Annotation),
+    MakeBlank(Shared<Expr>),
+    MakeLit(Shared<Expr>, Annotation),
     /// The lexical form of a cell.
     Lex(Box<Expr>),
     /// The IRI-safe form of a text (R2RML, 7.3).
@@ -33,7 +35,7 @@ pub enum Expr {
     /// SQL's equality.
     Same(Box<Expr>, Box<Expr>),
     IsNull(Box<Expr>),
-    Not(Box<Expr>),
+    Not(Shared<Expr>),
     And(Items<Expr>),
     Or(Items<Expr>),
     /// The first value that is not NULL.
@@ -57,7 +59,7 @@ impl Expr {
                 Ok(Expr::IriOf(base, copy_boxed(alloc, e)?))
             }
             Expr::MakeLit(e, annotation) => {
-                let e = copy_boxed(alloc, e)?;
+                let e = e.share()?;
                 Ok(Expr::MakeLit(e, annotation.copy()?))
             }
             Expr::Same(a, b) => {
@@ -67,12 +69,12 @@ impl Expr {
             Expr::Sparql(operator, list) => {
                 Ok(Expr::Sparql(*operator, copy_exprs(alloc, list.as_slice())?))
             }
-            Expr::MakeIri(e) => Ok(Expr::MakeIri(copy_boxed(alloc, e)?)),
-            Expr::MakeBlank(e) => Ok(Expr::MakeBlank(copy_boxed(alloc, e)?)),
+            Expr::MakeIri(e) => Ok(Expr::MakeIri(e.share()?)),
+            Expr::MakeBlank(e) => Ok(Expr::MakeBlank(e.share()?)),
             Expr::Lex(e) => Ok(Expr::Lex(copy_boxed(alloc, e)?)),
             Expr::IriSafe(e) => Ok(Expr::IriSafe(copy_boxed(alloc, e)?)),
             Expr::IsNull(e) => Ok(Expr::IsNull(copy_boxed(alloc, e)?)),
-            Expr::Not(e) => Ok(Expr::Not(copy_boxed(alloc, e)?)),
+            Expr::Not(e) => Ok(Expr::Not(e.share()?)),
             Expr::Ebv(e) => Ok(Expr::Ebv(copy_boxed(alloc, e)?)),
             Expr::Concat(list) => Ok(Expr::Concat(copy_exprs(alloc, list.as_slice())?)),
             Expr::And(list) => Ok(Expr::And(copy_exprs(alloc, list.as_slice())?)),
@@ -90,12 +92,19 @@ pub fn copy_boxed(alloc: Global, e: &Expr) -> Result<Box<Expr>, Memory>
     Box::new(alloc, e.copy(alloc)?)
 }
 
+/// An expression equal to this one, to be shared.
+pub fn copy_shared(alloc: Global, e: &Expr) -> Result<Shared<Expr>, Memory>
+    ensures { IfOk result (λ s. s ≡ e.now) }
+{
+    Shared::new(alloc, e.copy(alloc)?)
+}
+
 /// Expressions equal to these.
 #[cycle(copy_expr)]
 pub fn copy_exprs(alloc: Global, list: &[Expr]) -> Result<Items<Expr>, Memory>
     ensures { IfOk result (λ es. es ≡ list.now) }
 {
-    let mut copies = Items::new(alloc);
+    let mut copies = Items::from_vec(Vec::with_capacity(alloc, list.len())?);
     for e in list {
         copies.push(e.copy(alloc)?)?;
     }

@@ -1,6 +1,7 @@
 // The kinds of expressions.
 ghost use Rattle.std.specs.Bool.{then_some};
 ghost use Rattle.std.specs.Prelude.{◌≡◌, ◌&&◌, ◌==◌, IfOk, length, map, option_map, slice_get};
+ghost use Rattle.vkg_lists.specs.Options.{with_first};
 ghost use Rattle.vkg_expr.specs.Expr.{each, exprs};
 ghost use Rattle.vkg_expr.specs.Seen.{expr_seen};
 ghost use Rattle.vkg_expr.specs.Typing.{are_all, arity as arity_of, common, equality_kind, is_column as is_column_expr, is_one, kind_of, kinds_of, lexical_kind, no_column as no_column_in, result_kind as result_kind_of};
@@ -76,10 +77,19 @@ fn common_kind(list: &[Expr], kinds: &[SqlType]) -> Option<SqlType>
 {
     match list {
         [] => None,
-        [first, ..] => match typed(first, kinds) {
-            None => None,
-            Some(kind) => are_typed(list, kinds, kind).then_some(kind),
-        },
+        [first, rest @ ..] => common_with(typed(first, kinds), rest, kinds),
+    }
+}
+
+/// The kind, if all others have it too.
+#[tactic(auto, using(crate::proofs::KindLists::kind_lists))]
+#[cycle(typed)]
+fn common_with(kind: Option<SqlType>, others: &[Expr], kinds: &[SqlType]) -> Option<SqlType>
+    ensures { result ≡ common (with_first kind (kinds_of (exprs (map expr_seen others.now)) kinds.now)) }
+{
+    match kind {
+        None => None,
+        Some(kind) => are_typed(others, kinds, kind).then_some(kind),
     }
 }
 

@@ -7,7 +7,7 @@ use std::test::Fail;
 use vkg_base::{Box, Items, Memory, Text};
 use vkg_cells::{Cell, SqlType, form};
 use vkg_eval::{Row, eval};
-use vkg_expr::{Expr, Operator, nulls_on_null, typed};
+use vkg_expr::{Expr, Operator, Shared, nulls_on_null, typed};
 use vkg_terms::{Annotation, term_text};
 use vkg_values::Test;
 
@@ -17,17 +17,17 @@ fn number(alloc: Global, text: &str, kind: SqlType) -> MadeExpr {
 }
 
 fn iri(alloc: Global, e: MadeExpr) -> MadeExpr {
-    let e = e?;
+    let e = Shared::from_box(alloc, e?)?;
     Box::new(alloc, Expr::MakeIri(e))
 }
 
 fn blank(alloc: Global, e: MadeExpr) -> MadeExpr {
-    let e = e?;
+    let e = Shared::from_box(alloc, e?)?;
     Box::new(alloc, Expr::MakeBlank(e))
 }
 
 fn plain(alloc: Global, e: MadeExpr) -> MadeExpr {
-    let e = e?;
+    let e = Shared::from_box(alloc, e?)?;
     Box::new(alloc, Expr::MakeLit(e, Annotation::Plain))
 }
 
@@ -53,7 +53,7 @@ fn is_null(alloc: Global, e: MadeExpr) -> MadeExpr {
 }
 
 fn not(alloc: Global, e: MadeExpr) -> MadeExpr {
-    let e = e?;
+    let e = Shared::from_box(alloc, e?)?;
     Box::new(alloc, Expr::Not(e))
 }
 

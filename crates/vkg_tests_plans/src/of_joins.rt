@@ -4,7 +4,7 @@ use std::process::Abort;
 use std::test::Fail;
 use vkg_base::{Box, Memory};
 use vkg_engine::run_uncounted;
-use vkg_expr::Expr;
+use vkg_expr::{Expr, Shared};
 use vkg_plan::{CheckedPlan, Plan, well_typed};
 use vkg_schema::read_schema;
 use vkg_tables::Database;
@@ -36,7 +36,7 @@ fn database(rt: &impl Abort, alloc: Global, text: &str) -> Database {
 // The IRI whose text is that of the column's number.
 fn iri(alloc: Global, at: usize) -> MadeExpr {
     let e = column(alloc, at)?;
-    let e = Box::new(alloc, Expr::Lex(e))?;
+    let e = Shared::new(alloc, Expr::Lex(e))?;
     Box::new(alloc, Expr::MakeIri(e))
 }
 

@@ -5,7 +5,7 @@ use std::alloc::Global;
 use std::test::Fail;
 use vkg_base::{Box, Items, Memory, Text};
 use vkg_cells::{Cell, SqlType};
-use vkg_expr::{Expr, Operator};
+use vkg_expr::{Expr, Operator, Shared};
 use vkg_plan::{CheckedPlan, Plan, well_typed};
 use vkg_schema::{Schema, read_schema};
 use vkg_sqltext::sql_text;
@@ -25,7 +25,7 @@ fn term(alloc: Global, iri: &str) -> MadeExpr {
 }
 
 fn lit(alloc: Global, annotation: Result<Annotation, Memory>) -> MadeExpr {
-    let e = column(alloc, 1)?;
+    let e = Shared::from_box(alloc, column(alloc, 1)?)?;
     Box::new(alloc, Expr::MakeLit(e, annotation?))
 }
 
@@ -38,7 +38,7 @@ fn of_datatype(alloc: Global, iri: &str) -> Result<Annotation, Memory> {
 }
 
 fn not_null(alloc: Global, at: usize) -> MadeExpr {
-    let inner = null_test(alloc, at)?;
+    let inner = Shared::from_box(alloc, null_test(alloc, at)?)?;
     Box::new(alloc, Expr::Not(inner))
 }
 

@@ -4,7 +4,7 @@
 use std::alloc::Global;
 use vkg_base::{Box, Items, Memory};
 use vkg_cells::{Cell, SqlType};
-use vkg_expr::Expr;
+use vkg_expr::{Expr, Shared};
 use vkg_plan::{CheckedPlan, Plan, well_typed};
 use vkg_rules::Rewrite;
 use vkg_schema::Schema;
@@ -33,7 +33,7 @@ pub fn unknown(alloc: Global, at: usize) -> MadeExpr {
 }
 
 pub fn not(alloc: Global, e: MadeExpr) -> MadeExpr {
-    let e = e?;
+    let e = Shared::from_box(alloc, e?)?;
     Box::new(alloc, Expr::Not(e))
 }
 
@@ -70,6 +70,18 @@ pub fn select(alloc: Global, c: MadeExpr, p: Made) -> Made {
     let c = c?;
     let p = p?;
     Box::new(alloc, Plan::Select(c.into_inner(), p))
+}
+
+// Two values of each row.
+pub fn project(alloc: Global, a: MadeExpr, b: MadeExpr, p: Made) -> Made {
+    let es = both(alloc, a, b)?;
+    let p = p?;
+    Box::new(alloc, Plan::Project(es, p))
+}
+
+// Two columns, each in the other's place.
+pub fn turned(alloc: Global, p: Made) -> Made {
+    project(alloc, column(alloc, 1), column(alloc, 0), p)
 }
 
 pub fn distinct(alloc: Global, p: Made) -> Made {

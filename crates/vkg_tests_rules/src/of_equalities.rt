@@ -7,7 +7,7 @@ use std::test::Fail;
 use vkg_base::{Box, Items, Text};
 use vkg_cells::{Cell, SqlType};
 use vkg_equalities::TermEquality;
-use vkg_expr::Expr;
+use vkg_expr::{Expr, Shared};
 use vkg_plan::Plan;
 use vkg_schema::read_schema;
 use vkg_terms::Term;
@@ -39,12 +39,12 @@ fn address(alloc: Global, at: usize) -> MadeExpr {
 
 // The IRI of an employee whose number is in a column.
 fn employee(alloc: Global, at: usize) -> MadeExpr {
-    let address = address(alloc, at)?;
+    let address = Shared::from_box(alloc, address(alloc, at)?)?;
     Box::new(alloc, Expr::MakeIri(address))
 }
 
 fn blank(alloc: Global, at: usize) -> MadeExpr {
-    let form = form(alloc, at)?;
+    let form = Shared::from_box(alloc, form(alloc, at)?)?;
     Box::new(alloc, Expr::MakeBlank(form))
 }
 

@@ -13,12 +13,12 @@ ghost use Rattle.vkg_unfolded.specs.Unfolded.{bgp_plan, if_each, name_eq, number
 use crate::exprs::and_of;
 use crate::named::{numbered, pattern_names, repeats, same_name};
 use crate::pattern::{names_plan, pattern_plan};
+use crate::rule_terms::RuleTerms;
 use std::alloc::Global;
 use vkg_algebra::{Var, variables_of_patterns};
 use vkg_base::{Box, Items, Memory};
 use vkg_expr::Expr;
 use vkg_plan::Plan;
-use vkg_row_rules::RowRule;
 use vkg_schema::Table;
 use vkg_sparql::TriplePattern;
 use vkg_unfolded::Mode;
@@ -27,7 +27,7 @@ use vkg_unfolded::Mode;
 pub(crate) fn bgp_plan(
     alloc: Global,
     schema: &[Table],
-    rules: &[RowRule],
+    rules: &[RuleTerms<'_>],
     mode: &Mode,
     patterns: &[TriplePattern],
 ) -> Result<Plan, Memory>
@@ -46,7 +46,7 @@ pub(crate) fn bgp_plan(
 fn joined(
     alloc: Global,
     schema: &[Table],
-    rules: &[RowRule],
+    rules: &[RuleTerms<'_>],
     mode: &Mode,
     patterns: &[TriplePattern],
 ) -> Result<Plan, Memory>
@@ -81,7 +81,7 @@ fn all_names(
 fn pattern_plans(
     alloc: Global,
     schema: &[Table],
-    rules: &[RowRule],
+    rules: &[RuleTerms<'_>],
     mode: &Mode,
     patterns: &[TriplePattern],
 ) -> Result<Items<Plan>, Memory>

@@ -14,7 +14,7 @@ use std::alloc::Global;
 use vkg_algebra::Var;
 use vkg_base::{Box, Items, Memory};
 use vkg_cells::{SqlType, natural};
-use vkg_expr::{Expr, Operator};
+use vkg_expr::{Expr, Operator, Shared};
 use vkg_sparql::Condition;
 use vkg_unfolded::Mode;
 use vkg_values::{Compare, Take, Test};
@@ -290,7 +290,7 @@ fn truth_term(alloc: Global, e: Box<Expr>) -> Result<Box<Expr>, Memory>
     ensures { IfOk result (λ t. expr_seen t ≡ to_term true (expr_seen e)) }
 {
     let boolean = natural(alloc, SqlType::Bool)?;
-    let form = Box::new(alloc, Expr::Lex(e))?;
+    let form = Shared::new(alloc, Expr::Lex(e))?;
     Box::new(alloc, Expr::MakeLit(form, boolean))
 }
 
@@ -354,5 +354,6 @@ fn same(
 fn negation(alloc: Global, a: Result<Box<Expr>, Memory>) -> Result<Box<Expr>, Memory>
     ensures { IfOk result (λ e. IsOkAnd a (λ x. expr_seen e ≡ expr.Not (expr_seen x))) }
 {
-    Box::new(alloc, Expr::Not(a?))
+    let a = Shared::from_box(alloc, a?)?;
+    Box::new(alloc, Expr::Not(a))
 }

@@ -10,7 +10,7 @@ ghost use Rattle.vkg_unfolded.specs.Unfolded.{default_graph};
 use std::alloc::Global;
 use vkg_base::{Box, Items, Memory, Text};
 use vkg_cells::{Cell, SqlType};
-use vkg_expr::{Expr, Sort, TermExpr};
+use vkg_expr::{Expr, Shared, Sort, TermExpr};
 use vkg_match::pieces_expr;
 use vkg_terms::Term;
 use vkg_terms::vocabulary::DEFAULT_GRAPH;
@@ -22,7 +22,7 @@ pub(crate) fn term_expr(alloc: Global, term: &TermExpr) -> Result<Expr, Memory>
     match term {
         TermExpr::Fixed(term) => term_const(term),
         TermExpr::Made(sort, pieces) => {
-            let text = Box::new(alloc, pieces_expr(alloc, sort, pieces.as_slice())?)?;
+            let text = Shared::new(alloc, pieces_expr(alloc, sort, pieces.as_slice())?)?;
             made(sort, text)
         }
         TermExpr::Resolved(base, at, _) => resolved(alloc, base, *at),
@@ -42,7 +42,7 @@ pub(crate) fn default_graph(alloc: Global) -> Result<Term, Memory>
     Ok(Term::Iri(Text::new(alloc, DEFAULT_GRAPH)?))
 }
 
-fn made(sort: &Sort, text: Box<Expr>) -> Result<Expr, Memory>
+fn made(sort: &Sort, text: Shared<Expr>) -> Result<Expr, Memory>
     ensures { IfOk result (λ e. expr_seen e ≡ made sort.now (expr_seen text)) }
 {
     match sort {
@@ -58,7 +58,7 @@ fn resolved(alloc: Global, base: &Text, at: usize) -> Result<Expr, Memory>
 {
     let column = Box::new(alloc, Expr::Col(at))?;
     let form = Box::new(alloc, Expr::Lex(column))?;
-    let text = Box::new(alloc, Expr::IriOf(base.copy()?, form))?;
+    let text = Shared::new(alloc, Expr::IriOf(base.copy()?, form))?;
     Ok(Expr::MakeIri(text))
 }
 
@@ -103,6 +103,6 @@ pub(crate) fn known(alloc: Global, e: Expr) -> Result<Expr, Memory>
     ensures { IfOk result (λ c. expr_seen c ≡ Not (IsNull (expr_seen e))) }
 {
     let e = Box::new(alloc, e)?;
-    let unknown = Box::new(alloc, Expr::IsNull(e))?;
+    let unknown = Shared::new(alloc, Expr::IsNull(e))?;
     Ok(Expr::Not(unknown))
 }

@@ -13,13 +13,13 @@ ghost use Rattle.vkg_expr.specs.Logic.{truth_const};
 use crate::columns::{has, place};
 use crate::exprs::{or_of, truth_const};
 use crate::pattern::{exists_plan, names_plan, same_columns};
+use crate::rule_terms::RuleTerms;
 use crate::two::{two, unbound};
 use std::alloc::Global;
 use vkg_algebra::{Algebra, Var, each_once, visible};
 use vkg_base::{Box, Items, Memory, Text};
 use vkg_expr::Expr;
 use vkg_plan::Plan;
-use vkg_row_rules::RowRule;
 use vkg_schema::Table;
 use vkg_unfolded::Mode;
 
@@ -27,7 +27,7 @@ use vkg_unfolded::Mode;
 pub(crate) fn graph_of_name(
     alloc: Global,
     schema: &[Table],
-    rules: &[RowRule],
+    rules: &[RuleTerms<'_>],
     mode: &Mode,
     iri: &Text,
     a: &Algebra,
@@ -46,7 +46,7 @@ pub(crate) fn graph_of_name(
 pub(crate) fn graph_of_each(
     alloc: Global,
     schema: &[Table],
-    rules: &[RowRule],
+    rules: &[RuleTerms<'_>],
     mode: &Mode,
     variable: Var,
     a: &Algebra,
@@ -76,7 +76,7 @@ fn with_variable(alloc: Global, variable: Var, others: &[Var]) -> Result<Items<V
 fn in_mode(
     alloc: Global,
     schema: &[Table],
-    rules: &[RowRule],
+    rules: &[RuleTerms<'_>],
     mode: &Mode,
     variables: &[Var],
     p: Box<Plan>,
@@ -98,7 +98,7 @@ fn in_mode(
 fn named_graph(
     alloc: Global,
     schema: &[Table],
-    rules: &[RowRule],
+    rules: &[RuleTerms<'_>],
     iri: &Text,
     a: &Algebra,
     variables: &[Var],

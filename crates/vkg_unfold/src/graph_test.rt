@@ -10,7 +10,7 @@ ghost use Rattle.vkg_unfolded.specs.Unfolded.{default_graph, graph_test};
 use crate::exprs::{default_graph, term_const, term_expr};
 use std::alloc::Global;
 use vkg_base::{Box, Items, Memory, Text};
-use vkg_expr::{Expr, TermExpr};
+use vkg_expr::{Expr, Shared, TermExpr};
 use vkg_match::{Verdict, verdict};
 use vkg_terms::Term;
 use vkg_unfolded::Mode;
@@ -73,7 +73,7 @@ fn is_named(alloc: Global, graph: &TermExpr) -> Result<Items<Expr>, Memory>
     ensures { IfOk result (λ es. map expr_seen es ≡ Not (Same (term_expr graph.now) (term_const default_graph)) ∷ []) }
 {
     let name = default_graph(alloc)?;
-    let is_default = Box::new(alloc, equality(alloc, graph, &name)?)?;
+    let is_default = Shared::new(alloc, equality(alloc, graph, &name)?)?;
     let mut tests = Items::new(alloc);
     tests.push(Expr::Not(is_default))?;
     Ok(tests)

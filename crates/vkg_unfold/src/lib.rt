@@ -8,6 +8,8 @@
 //! `start_plan` answers that of a query, whose rows are its solutions. `left_plan` is the plan of an OPTIONAL over those of its
 //! sides, and `same_or_unbound` the condition under which two rows agree on a variable.
 //!
+//! The terms of each rule are made once (`RuleTerms`) and shared by the members of all patterns, so that a member costs little more than its nodes.
+//!
 //! The functions recurse as deep as the algebra and its conditions. A query that is read has at most 64 open braces or brackets at a
 //! place and 1,024 nodes, so a chain of joins or unions is at most that deep; chains of `&&` and `||` take no depth.
 //!
@@ -24,6 +26,7 @@ mod graph_test;
 mod named;
 mod pattern;
 mod query;
+mod rule_terms;
 mod two;
 
 pub use query::{start_plan, unfold};

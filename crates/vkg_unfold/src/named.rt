@@ -2,7 +2,6 @@
 ghost use Rattle.std.specs.Prelude.{if◌then◌else◌, [], find, flat_map, IfOk, map, OnOk, option_map, Some, ◌++◌, ◌∷◌, ◌≡◌};
 ghost use Rattle.vkg_expr.specs.Expr.{Same};
 ghost use Rattle.vkg_expr.specs.Seen.{expr_seen};
-ghost use Rattle.vkg_expr.specs.TermExprs.{term_expr};
 ghost use Rattle.vkg_lists.specs.Sets.{distinct};
 ghost use Rattle.vkg_unfold.specs.Parts.{named_seen};
 ghost use Rattle.vkg_unfold.specs.declared.named.Named.{Named};
@@ -10,11 +9,11 @@ ghost use Rattle.vkg_unfolded.specs.Unfolded.{Named as NamedColumn, again, const
 ghost use Rattle.std.specs.List.{list_any};
 ghost use Rattle.std.specs.Option.{option_copied};
 
-use crate::exprs::{term_const, term_expr};
+use crate::exprs::term_const;
+use crate::rule_terms::RuleTerms;
 use std::alloc::Global;
 use vkg_base::{Box, Items, Memory};
-use vkg_expr::{Expr, TermExpr};
-use vkg_row_rules::RowRule;
+use vkg_expr::{Expr, copy_boxed};
 use vkg_sparql::{Node, TriplePattern};
 use vkg_unfolded::Mode;
 
@@ -36,14 +35,14 @@ pub(crate) fn same_name(a: Option<usize>, b: Option<usize>) -> bool
 pub(crate) fn named_places(
     alloc: Global,
     pattern: &TriplePattern,
-    rule: &RowRule,
+    rule: &RuleTerms<'_>,
 ) -> Result<Items<Named>, Memory>
     ensures { IfOk result (λ ns. map named_seen ns ≡ flat_map named (places pattern.now rule.now)) }
 {
     let mut found = Items::new(alloc);
-    push_named(alloc, &mut found, &pattern.subject, &rule.subject)?;
-    push_named(alloc, &mut found, &pattern.predicate, &rule.predicate)?;
-    push_named(alloc, &mut found, &pattern.object, &rule.object)?;
+    push_named(alloc, &mut found, &pattern.subject, rule.subject())?;
+    push_named(alloc, &mut found, &pattern.predicate, rule.predicate())?;
+    push_named(alloc, &mut found, &pattern.object, rule.object())?;
     Ok(found)
 }
 
@@ -51,9 +50,9 @@ fn push_named(
     alloc: Global,
     found: &mut Items<Named>,
     node: &Node,
-    term: &TermExpr,
+    term: &Expr,
 ) -> Result<(), Memory>
-    ensures { OnOk result (map named_seen found.new ≡ map named_seen found.old ++ named (node.now, term_expr term.now)) }
+    ensures { OnOk result (map named_seen found.new ≡ map named_seen found.old ++ named (node.now, expr_seen term.now)) }
 {
     match node {
         Node::Variable(number) => push_number(alloc, found, *number, term),
@@ -66,11 +65,11 @@ fn push_number(
     alloc: Global,
     found: &mut Items<Named>,
     number: usize,
-    term: &TermExpr,
+    term: &Expr,
 ) -> Result<(), Memory>
-    ensures { OnOk result (map named_seen found.new ≡ map named_seen found.old ++ (Some number, term_expr term.now) ∷ []) }
+    ensures { OnOk result (map named_seen found.new ≡ map named_seen found.old ++ (Some number, expr_seen term.now) ∷ []) }
 {
-    let expr = term_expr(alloc, term)?;
+    let expr = term.copy(alloc)?;
     found.push(Named {
         name: Some(number),
         expr,
@@ -81,14 +80,14 @@ fn push_number(
 pub(crate) fn constant_places(
     alloc: Global,
     pattern: &TriplePattern,
-    rule: &RowRule,
+    rule: &RuleTerms<'_>,
 ) -> Result<Items<Expr>, Memory>
     ensures { IfOk result (λ es. map expr_seen es ≡ flat_map constants (places pattern.now rule.now)) }
 {
     let mut found = Items::new(alloc);
-    push_constant(alloc, &mut found, &pattern.subject, &rule.subject)?;
-    push_constant(alloc, &mut found, &pattern.predicate, &rule.predicate)?;
-    push_constant(alloc, &mut found, &pattern.object, &rule.object)?;
+    push_constant(alloc, &mut found, &pattern.subject, rule.subject())?;
+    push_constant(alloc, &mut found, &pattern.predicate, rule.predicate())?;
+    push_constant(alloc, &mut found, &pattern.object, rule.object())?;
     Ok(found)
 }
 
@@ -96,16 +95,16 @@ fn push_constant(
     alloc: Global,
     found: &mut Items<Expr>,
     node: &Node,
-    term: &TermExpr,
+    term: &Expr,
 ) -> Result<(), Memory>
-    ensures { OnOk result (map expr_seen found.new ≡ map expr_seen found.old ++ constants (node.now, term_expr term.now)) }
+    ensures { OnOk result (map expr_seen found.new ≡ map expr_seen found.old ++ constants (node.now, expr_seen term.now)) }
 {
     match node {
         Node::Variable(_) => Ok(()),
         Node::Label(_) => Ok(()),
         Node::Fixed(constant) => {
             let constant = Box::new(alloc, term_const(constant)?)?;
-            let made = Box::new(alloc, term_expr(alloc, term)?)?;
+            let made = copy_boxed(alloc, term)?;
             found.push(Expr::Same(constant, made))
         }
     }

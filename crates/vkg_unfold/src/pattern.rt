@@ -8,17 +8,17 @@ ghost use Rattle.vkg_row_rules.specs.RowDataset.{conditions};
 ghost use Rattle.std.specs.List.{AllByRecursion};
 ghost use Rattle.vkg_unfolded.specs.FittingRules.{FitJoins, FitsCondition, FitsJoin};
 ghost use Rattle.vkg_unfolded.specs.Unfolded.{constants, exists_member, exists_plan, graph_exprs, graph_terms, graph_test, if_each, named, names_member, names_plan, not_null, pattern_member, pattern_places, Named, pattern_plan, places, repeats, rule_member, rule_source, source_plan, union_of};
-ghost use Rattle.vkg_expr.specs.Expr.{Not, Same, IsNull, Col};
-ghost use Rattle.vkg_expr.specs.TermExprs.{term_expr};
+ghost use Rattle.vkg_expr.specs.Expr.{Same, Col};
 ghost use Rattle.vkg_maps.specs.Within.{kinds_at};
 
-use crate::exprs::{and_of, known, term_expr};
+use crate::exprs::{and_of, term_expr};
 use crate::graph_test::graph_test;
 use crate::named::{constant_places, first_places, named_places, pattern_names, repeats};
+use crate::rule_terms::RuleTerms;
 use std::alloc::Global;
 use vkg_base::{Box, Items, Memory, Text, at};
 use vkg_cells::SqlType;
-use vkg_expr::{Expr, TermExpr};
+use vkg_expr::{Expr, TermExpr, copy_exprs};
 use vkg_maps::Join;
 use vkg_plan::Plan;
 use vkg_row_rules::RowRule;
@@ -30,7 +30,7 @@ use vkg_unfolded::Mode;
 pub(crate) fn pattern_plan(
     alloc: Global,
     schema: &[Table],
-    rules: &[RowRule],
+    rules: &[RuleTerms<'_>],
     mode: &Mode,
     pattern: &TriplePattern,
 ) -> Result<Plan, Memory>
@@ -51,12 +51,12 @@ fn push_pattern(
     schema: &[Table],
     mode: &Mode,
     pattern: &TriplePattern,
-    rule: &RowRule,
+    rule: &RuleTerms<'_>,
 ) -> Result<(), Memory>
     requires { FitsJoin schema.now rule.now.table rule.now.join }
     ensures { OnOk result (map plan_seen members.new ≡ map plan_seen members.old ++ filter_map (pattern_member schema.now mode.now pattern.now) (rule.now ∷ [])) }
 {
-    let Some(test) = graph_test(alloc, mode, &rule.graph)? else {
+    let Some(test) = graph_test(alloc, mode, &rule.rule().graph)? else {
         return Ok(());
     };
     let columns = pattern_columns(alloc, mode, pattern, rule)?;
@@ -70,21 +70,21 @@ fn pattern_columns(
     alloc: Global,
     mode: &Mode,
     pattern: &TriplePattern,
-    rule: &RowRule,
+    rule: &RuleTerms<'_>,
 ) -> Result<Items<Expr>, Memory>
     ensures { IfOk result (λ es. map expr_seen es ≡ map (λ (n : Named). n.1) (pattern_places mode.now pattern.now rule.now)) }
 {
     let named = named_places(alloc, pattern, rule)?;
     let mut columns = first_places(alloc, named.as_slice())?;
-    push_graph_in_each(alloc, &mut columns, mode, &rule.graph)?;
-    Ok(columns)
+    push_graph_in_each(alloc, &mut columns, mode, &rule.rule().graph)?;
+    Ok(exact(columns))
 }
 
 /// The fixed terms of a pattern are those of a rule, and each name has one term.
 fn pattern_conditions(
     alloc: Global,
     pattern: &TriplePattern,
-    rule: &RowRule,
+    rule: &RuleTerms<'_>,
 ) -> Result<Items<Expr>, Memory>
     ensures { IfOk result (λ es. map expr_seen es ≡ flat_map constants (places pattern.now rule.now) ++ repeats [] (flat_map named (places pattern.now rule.now))) }
 {
@@ -95,7 +95,11 @@ fn pattern_conditions(
 }
 
 /// The graphs' names.
-pub(crate) fn names_plan(alloc: Global, schema: &[Table], rules: &[RowRule]) -> Result<Plan, Memory>
+pub(crate) fn names_plan(
+    alloc: Global,
+    schema: &[Table],
+    rules: &[RuleTerms<'_>],
+) -> Result<Plan, Memory>
     requires { FitJoins schema.now rules.now }
     ensures { IfOk result (λ p. plan_seen p ≡ names_plan schema.now rules.now) }
 {
@@ -110,16 +114,16 @@ fn push_names(
     alloc: Global,
     members: &mut Items<Plan>,
     schema: &[Table],
-    rule: &RowRule,
+    rule: &RuleTerms<'_>,
 ) -> Result<(), Memory>
     requires { FitsJoin schema.now rule.now.table rule.now.join }
     ensures { OnOk result (map plan_seen members.new ≡ map plan_seen members.old ++ filter_map (names_member schema.now) (rule.now ∷ [])) }
 {
-    let Some(test) = graph_test(alloc, &Mode::Each, &rule.graph)? else {
+    let Some(test) = graph_test(alloc, &Mode::Each, &rule.rule().graph)? else {
         return Ok(());
     };
     let mut columns = Items::new(alloc);
-    push_graph(alloc, &mut columns, &rule.graph)?;
+    push_graph(alloc, &mut columns, &rule.rule().graph)?;
     let conditions = Items::new(alloc);
     members.push(rule_member(alloc, schema, rule, columns, test, conditions)?)
 }
@@ -128,7 +132,7 @@ fn push_names(
 pub(crate) fn exists_plan(
     alloc: Global,
     schema: &[Table],
-    rules: &[RowRule],
+    rules: &[RuleTerms<'_>],
     iri: &Text,
 ) -> Result<Plan, Memory>
     requires { FitJoins schema.now rules.now }
@@ -141,7 +145,7 @@ pub(crate) fn exists_plan(
 fn exists_in(
     alloc: Global,
     schema: &[Table],
-    rules: &[RowRule],
+    rules: &[RuleTerms<'_>],
     in_graph: &Mode,
 ) -> Result<Plan, Memory>
     requires { FitJoins schema.now rules.now }
@@ -159,12 +163,12 @@ fn push_exists(
     members: &mut Items<Plan>,
     schema: &[Table],
     in_graph: &Mode,
-    rule: &RowRule,
+    rule: &RuleTerms<'_>,
 ) -> Result<(), Memory>
     requires { FitsJoin schema.now rule.now.table rule.now.join }
     ensures { OnOk result (map plan_seen members.new ≡ map plan_seen members.old ++ filter_map (exists_member schema.now in_graph.now) (rule.now ∷ [])) }
 {
-    let Some(test) = graph_test(alloc, in_graph, &rule.graph)? else {
+    let Some(test) = graph_test(alloc, in_graph, &rule.rule().graph)? else {
         return Ok(());
     };
     let columns = Items::new(alloc);
@@ -176,7 +180,7 @@ fn push_exists(
 fn rule_member(
     alloc: Global,
     schema: &[Table],
-    rule: &RowRule,
+    rule: &RuleTerms<'_>,
     columns: Items<Expr>,
     test: Items<Expr>,
     conditions: Items<Expr>,
@@ -187,7 +191,7 @@ fn rule_member(
     let mut all = not_null(alloc, rule)?;
     all.append(test)?;
     all.append(conditions)?;
-    let source = rule_source(alloc, schema, rule, all)?;
+    let source = rule_source(alloc, schema, rule.rule(), exact(all))?;
     Ok(Plan::Project(columns, source))
 }
 
@@ -305,25 +309,10 @@ pub(crate) fn same_columns(alloc: Global, a: usize, b: usize) -> Result<Expr, Me
 }
 
 /// The terms of a rule's quad are there.
-fn not_null(alloc: Global, rule: &RowRule) -> Result<Items<Expr>, Memory>
+fn not_null(alloc: Global, rule: &RuleTerms<'_>) -> Result<Items<Expr>, Memory>
     ensures { IfOk result (λ es. map expr_seen es ≡ not_null rule.now) }
 {
-    let mut conditions = Items::new(alloc);
-    push_known(alloc, &mut conditions, &rule.subject)?;
-    push_known(alloc, &mut conditions, &rule.predicate)?;
-    push_known(alloc, &mut conditions, &rule.object)?;
-    match &rule.graph {
-        None => {}
-        Some(graph) => push_known(alloc, &mut conditions, graph)?,
-    }
-    Ok(conditions)
-}
-
-fn push_known(alloc: Global, conditions: &mut Items<Expr>, term: &TermExpr) -> Result<(), Memory>
-    ensures { OnOk result (map expr_seen conditions.new ≡ map expr_seen conditions.old ++ Not (IsNull (term_expr term.now)) ∷ []) }
-{
-    let term = term_expr(alloc, term)?;
-    conditions.push(known(alloc, term)?)
+    copy_exprs(alloc, rule.not_null())
 }
 
 fn push_graph(
@@ -353,6 +342,15 @@ fn push_graph_in_each(
         Mode::InGraph(_) => Ok(()),
         Mode::Each => push_graph(alloc, columns, graph),
     }
+}
+
+/// The same list, with room for no more.
+fn exact(list: Items<Expr>) -> Items<Expr>
+    ensures { result ≡ list }
+{
+    let mut items = list.into_vec();
+    items.shrink_to_fit();
+    Items::from_vec(items)
 }
 
 /// Each row of the members once; no row where there is no member.

@@ -18,6 +18,7 @@ ghost use Rattle.vkg_answers.specs.Answering.{GivesSolutions};
 use crate::bgp::bgp_plan;
 use crate::conditions::filter_expr;
 use crate::graph::{graph_of_each, graph_of_name};
+use crate::rule_terms::{RuleTerms, rule_terms};
 use crate::two::{join_plan, left_plan, union_plan, visible_columns};
 use std::alloc::Global;
 use vkg_algebra::{Algebra, selected_variables, visible};
@@ -43,14 +44,29 @@ pub fn unfold(
     ensures plan { IfOk result (λ p. plan_seen p ≡ unfolded schema.now rules.now (algebra_seen algebra.now) mode.now) }
     ensures stands { IfOk result (λ p. (n : ℕ) → IsLawfulAlgebra n (algebra_seen algebra.now) → StandsFor (Meets schema.now rules.now) schema.now rules.now n mode.now (plan_seen p) (algebra_seen algebra.now)) }
 {
-    Ok(plan_of(alloc, schema, rules, algebra, mode)?.into_inner())
+    Ok(plan_over(alloc, schema, rules, algebra, mode)?.into_inner())
+}
+
+/// The plan of an algebra over rules, whose terms are made once.
+fn plan_over(
+    alloc: Global,
+    schema: &[Table],
+    rules: &[RowRule],
+    algebra: &Algebra,
+    mode: &Mode,
+) -> Result<Box<Plan>, Memory>
+    requires { FitJoins schema.now rules.now }
+    ensures { IfOk result (λ p. plan_seen p ≡ unfolded schema.now rules.now (algebra_seen algebra.now) mode.now) }
+{
+    let terms = rule_terms(alloc, rules)?;
+    plan_of(alloc, schema, terms.as_slice(), algebra, mode)
 }
 
 #[cycle(unfold)]
 fn plan_of(
     alloc: Global,
     schema: &[Table],
-    rules: &[RowRule],
+    rules: &[RuleTerms<'_>],
     algebra: &Algebra,
     mode: &Mode,
 ) -> Result<Box<Plan>, Memory>
@@ -90,7 +106,7 @@ fn plan_of(
 fn of_patterns(
     alloc: Global,
     schema: &[Table],
-    rules: &[RowRule],
+    rules: &[RuleTerms<'_>],
     mode: &Mode,
     patterns: &[TriplePattern],
 ) -> Result<Box<Plan>, Memory>
@@ -106,7 +122,7 @@ fn of_patterns(
 fn in_graph(
     alloc: Global,
     schema: &[Table],
-    rules: &[RowRule],
+    rules: &[RuleTerms<'_>],
     a: &Algebra,
     iri: &Text,
 ) -> Result<Box<Plan>, Memory>
@@ -165,7 +181,7 @@ fn selected_plan(
     let variables = visible(alloc, algebra)?;
     let wanted = selected_variables(alloc, query, algebra)?;
     let columns = visible_columns(alloc, variables.as_slice(), wanted.as_slice())?;
-    let rows = plan_of(alloc, schema, rules, algebra, &Mode::Default)?;
+    let rows = plan_over(alloc, schema, rules, algebra, &Mode::Default)?;
     let answer = Plan::Project(columns, rows);
     distinct_if(alloc, query.distinct, answer)
 }
