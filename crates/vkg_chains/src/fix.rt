@@ -80,7 +80,7 @@ fn step<R: Rewrite>(
 }
 
 /// Of two parts of the measure the one that comes first.
-fn foremost_of(a: Fell, b: Fell) -> Fell
+pub fn foremost_of(a: Fell, b: Fell) -> Fell
     ensures { result ≡ first a b }
 {
     match (a, b) {

@@ -9,4 +9,4 @@
 
 mod fix;
 
-pub use fix::Fix;
+pub use fix::{Fix, foremost_of};
