@@ -1,5 +1,5 @@
 -- Kinds of lists of plans, from their first.
-use Rattle.std.proofs.Common.{◌≡◌, true, ◌&&◌, List, [], ◌∷◌, ◌++◌, refl, append_assoc, ◌≤◌, ◌∙◌, ap, arith, get_or, length, map, sym}
+use Rattle.std.proofs.Common.{◌≡◌, true, ◌&&◌, List, [], ◌∷◌, ◌++◌, refl, append_assoc, ◌≤◌, arith, length, map}
 use Rattle.std.proofs.Math.Bool.{and-false}
 use Rattle.std.specs.Prelude.{Option, Some, None, is_some, option_map, if◌then◌else◌}
 use Rattle.std.specs.Cmp.Lexicographic.{pointwise}
@@ -22,9 +22,9 @@ are_alike-more ks None o = refl
 are_alike-more ks (Some ls) None = rw and-false
 are_alike-more ks (Some ls) (Some kss) = refl
 
-pub alike-more : (ks : Kinds) (o : Option (List Kinds)) → alike (with_first (Some ks) o) ≡ (if are_alike ks (with_first (Some ks) o) then Some ks else None)
+pub alike-more : (ks : Kinds) (o : Option (List Kinds)) → alike (with_first (Some ks) o) ≡ (if are_alike ks o then Some ks else None)
 alike-more ks None = refl
-alike-more ks (Some kss) = rw (themselves ks)
+alike-more ks (Some kss) = refl
 
 pub beside_all-more : (a : Option Kinds) (o : Option (List Kinds)) → beside_all (with_first a o) ≡ option_map side_by_side (with_first a o)
 beside_all-more None o = refl
@@ -49,12 +49,5 @@ onto-more ks ls (Some kss) = rw append_assoc
 pub join-some : (s : Tables) (ps : List PlanValue) → 1 ≤ length ps → beside_all (kinds_of_each s (plans (map plan_seen ps))) ≡ option_map side_by_side (kinds_of_each s (plans (map plan_seen ps)))
 join-some s [] h = absurd (omega arith)
 join-some s (p ∷ ps) h = beside_all-more (plan_kinds s (plan_seen p)) (kinds_of_each s (plans (map plan_seen ps)))
-
-pub union-some : (s : Tables) (ps : List PlanValue) (first : PlanValue) (ks : Kinds) → 1 ≤ length ps → first ≡ get_or ps 0 first → plan_kinds s (plan_seen first) ≡ Some ks →
-    (if are_alike ks (kinds_of_each s (plans (map plan_seen ps))) then Some ks else None) ≡ alike (kinds_of_each s (plans (map plan_seen ps)))
-union-some s [] first ks h is e = absurd (omega arith)
-union-some s (p ∷ ps) first ks h is e =
-    let here : plan_kinds s (plan_seen p) ≡ Some ks = ap (λ q. plan_kinds s (plan_seen q)) (sym is) ∙ e in
-    rw here (sym (alike-more ks (kinds_of_each s (plans (map plan_seen ps)))))
 
 pub ruleset plan_lists = (are_alike-more, alike-more, beside_all-more, onto_none, onto-nil, onto-more)

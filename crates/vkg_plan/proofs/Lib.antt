@@ -2,4 +2,5 @@ pub mod CellLemmas
 pub mod KindLists
 pub mod Pairs
 pub mod RowsFit
+pub mod GivenKinds
 pub mod SeenParts

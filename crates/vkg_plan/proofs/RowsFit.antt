@@ -64,7 +64,7 @@ union-fit ks (ls ∷ kss) (rs ∷ rss) h e =
     recursion_append (HasKinds ks) rs (flat_map (λ rows. rows) rss)
     (subst (λ m. HaveKinds m rs) (sym (eq_same (list_test kinds_apart) ks ls b.0)) h.0) (union-fit ks kss rss h.1 b.1)
 
-checked_is : (c : Expr) (o : Option Kinds) (ks : Kinds) → checked c o ≡ Some ks → o ≡ Some ks
+pub checked_is : (c : Expr) (o : Option Kinds) (ks : Kinds) → checked c o ≡ Some ks → o ≡ Some ks
 checked_is c None ks e = cc
 checked_is c (Some ls) ks e = ap Some (cond_some (is_one kind.Bool (kind_of c ls)) ls ks e).1
 

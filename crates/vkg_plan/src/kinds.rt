@@ -1,5 +1,6 @@
 // The kinds of the columns of plans.
 ghost use Rattle.std.specs.Prelude.{◌≡◌, IfOk, IfSome, is_some, map, option_map};
+ghost use Rattle.vkg_lists.specs.Options.{with_first};
 ghost use Rattle.vkg_plan.specs.Kinds.{alike, are_alike as all_alike_to, beside_all, is_well_typed, side_by_side, kinds_of_each, plan_kinds as kinds_of_plan};
 ghost use Rattle.vkg_plan.specs.Laws.{HasRowsOf};
 ghost use Rattle.vkg_plan.specs.Plan.{plans};
@@ -94,14 +95,29 @@ fn union_kinds(
 {
     match ps {
         [] => Ok(None),
-        [first, ..] => {
-            let Some(kinds) = kinds_of(alloc, first, schema)? else {
-                return Ok(None);
-            };
-            let alike = are_alike(alloc, kinds.as_slice(), ps, schema)?;
-            Ok(kept(kinds, alike))
+        [first, rest @ ..] => {
+            let kinds = kinds_of(alloc, first, schema)?;
+            alike_to(alloc, kinds, rest, schema)
         }
     }
+}
+
+/// The kinds, if each of the plans has them too.
+#[tactic(auto, using(crate::proofs::KindLists::plan_lists))]
+#[cycle(kinds)]
+fn alike_to(
+    alloc: Global,
+    kinds: Option<Items<SqlType>>,
+    others: &[Plan],
+    schema: &Schema,
+) -> Result<Option<Items<SqlType>>, Memory>
+    ensures { IfOk result (λ o. o ≡ alike (with_first kinds (kinds_of_each schema.now (plans (map plan_seen others.now))))) }
+{
+    let Some(kinds) = kinds else {
+        return Ok(None);
+    };
+    let alike = are_alike(alloc, kinds.as_slice(), others, schema)?;
+    Ok(kept(kinds, alike))
 }
 
 /// Whether each plan has these kinds.

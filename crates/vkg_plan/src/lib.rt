@@ -9,10 +9,12 @@
 
 mod checked;
 mod columns;
+mod given;
 mod kinds;
 mod plan;
 
 pub use checked::CheckedPlan;
 pub use columns::column_kinds;
+pub use given::given_kinds;
 pub use kinds::{plan_kinds, well_typed};
 pub use plan::{Plan, copy_plan_box, copy_plans};

@@ -5,7 +5,7 @@
 //! the libraries since a crate with tests is proved twice, with them and without.
 //!
 //! - `vkg_shapes`, and the rules of rules of `vkg_rules`: plans and what each rule makes of them, as texts.
-//! - `vkg_conditions`, `vkg_nulls`, `vkg_unions` and `vkg_equalities`: the same of their rules.
+//! - `vkg_conditions`, `vkg_nulls`, `vkg_unions`, `vkg_equalities`, `vkg_moves`, `vkg_lifts` and `vkg_spreads`: the same of their rules.
 #![tactic(auto)]
 
 #[cfg(test)]
@@ -15,8 +15,14 @@ mod of_conditions;
 #[cfg(test)]
 mod of_equalities;
 #[cfg(test)]
+mod of_lifts;
+#[cfg(test)]
+mod of_moves;
+#[cfg(test)]
 mod of_nulls;
 #[cfg(test)]
 mod of_shapes;
+#[cfg(test)]
+mod of_spreads;
 #[cfg(test)]
 mod of_unions;

@@ -3,8 +3,10 @@
 A rule takes a plan and its tables, and gives another plan with the same columns and the same bag of rows, or None where it
 changes nothing at the root. A row is kept where a condition is true, not where it is false or unknown (SQL-92, 8.12).
 """
-from reference.conditions import simplify_condition, simplify_null
-from reference.plan_nodes import (FALSE, TRUE, Column, Distinct, Empty, Join, Left, Project, Select, Unit, UnionAll, conjunction,
+import math
+
+from reference.conditions import is_strict, simplify_condition, simplify_null
+from reference.plan_nodes import (FALSE, TRUE, Call, Column, Distinct, Empty, Join, Left, Project, Select, Unit, UnionAll, columns_in, conjunction,
                                   conjuncts, first_changed, kinds_of, moved, null, subplans, with_subplans)
 from reference.term_equalities import term_equality
 
@@ -50,6 +52,111 @@ def false_condition(plan, tables):
     return with_nulls(plan.left, plan.right, tables) if isinstance(plan, Left) else empty(plan, tables)
 
 
+def both(inner, outer):
+    """A condition that holds where both do: the inner one's conjuncts first."""
+    return conjunction(conjuncts(inner) + conjuncts(outer))
+
+
+def merge_selects(plan, tables):
+    """MergeSelects: a condition over a node that has one, and one of a node's member, become one."""
+    if isinstance(plan, Select):
+        return condition_below(plan.condition, plan.inner, tables)
+    if isinstance(plan, Left) and isinstance(plan.right, Select):
+        condition = moved(plan.right.condition, width([plan.left], tables))
+        return Left(plan.left, plan.right.inner, both(condition, plan.condition))
+    place = first_of(Select, plan.members) if isinstance(plan, Join) else None
+    if place is None:
+        return None
+    inner = plan.members[place]
+    condition = moved(inner.condition, width(plan.members[:place], tables))
+    return Join(replaced(plan.members, place, [inner.inner]), both(condition, plan.condition))
+
+
+def condition_below(condition, inner, tables):
+    """A selection over a selection or a join as one condition; over a left join, if it names left columns alone, on the left."""
+    if isinstance(inner, Select):
+        return Select(both(inner.condition, condition), inner.inner)
+    if isinstance(inner, Join):
+        return Join(inner.members, both(inner.condition, condition))
+    if isinstance(inner, Left) and not names_behind(condition, width([inner.left], tables)):
+        return Left(Select(condition, inner.left), inner.right, inner.condition)
+    return None
+
+
+def names_behind(expression, count):
+    """Whether an expression names a column behind the first ones."""
+    return any(count <= place for place in columns_in(expression))
+
+
+def put_in(expression, others):
+    """An expression with others in the place of its columns."""
+    match expression:
+        case Column(place):
+            return others[place]
+        case Call(name, arguments):
+            return Call(name, tuple(put_in(one, others) for one in arguments))
+    return expression
+
+
+def merge_projects(plan, tables):
+    """MergeProjects: a projection of a projection is one; of all columns in place it is what it projects."""
+    if not isinstance(plan, Project):
+        return None
+    if isinstance(plan.inner, Project):
+        return Project(tuple(put_in(one, plan.inner.expressions) for one in plan.expressions), plan.inner.inner)
+    columns = tuple(Column(place) for place in range(width([plan.inner], tables)))
+    return plan.inner if plan.expressions == columns else None
+
+
+def in_between(before, project, behind, tables):
+    """What a projection gives with the columns of plans before it and behind it."""
+    first, own, last = width(before, tables), width([project.inner], tables), width(behind, tables)
+    others = [Column(place) for place in range(first)], [Column(first + own + place) for place in range(last)]
+    return (*others[0], *(moved(one, first) for one in project.expressions), *others[1])
+
+
+def keeps_nulls(plan):
+    """Whether a plan is a projection each of whose expressions is NULL on a row of NULLs: it is strict and names a column."""
+    return isinstance(plan, Project) and all(is_strict(one) and columns_in(one) for one in plan.expressions)
+
+
+def is_over_project(plan):
+    """Whether a projection below a node can come above it."""
+    if isinstance(plan, Left):
+        return isinstance(plan.left, Project) or keeps_nulls(plan.right)
+    return isinstance(plan, (Select, Join)) and first_of(Project, subplans(plan)) is not None
+
+
+def is_waiting(plan):
+    """Whether a plan is a projection that meets another one, or will when that one has come above the node below."""
+    return isinstance(plan, Project) and (isinstance(plan.inner, Project) or is_over_project(plan.inner))
+
+
+def lift_projects(plan, tables):
+    """LiftProjects: a projection below a selection, a join or a left join comes above it; of a chain of left joins the innermost one first."""
+    return None if isinstance(plan, Left) and is_waiting(plan.left) else lift(plan, tables)
+
+
+def lift(plan, tables):
+    """A node with a projection below it as the projection above it, its expressions put into the condition."""
+    match plan:
+        case Select(condition, Project(expressions, inner)):
+            return Project(expressions, Select(put_in(condition, expressions), inner))
+        case Join(members, condition):
+            place = first_of(Project, members)
+            if place is None:
+                return None
+            given = in_between(members[:place], members[place], members[place + 1 :], tables)
+            return Project(given, Join(replaced(members, place, [members[place].inner]), put_in(condition, given)))
+        case Left(Project(_, inner) as left, right, condition):
+            given = in_between([], left, [right], tables)
+            return Project(given, Left(inner, right, put_in(condition, given)))
+        case Left(left, Project(_, inner) as right, condition) if keeps_nulls(right):
+            given = in_between([left], right, [], tables)
+            return Project(given, Left(left, inner, put_in(condition, given)))
+    return None
+
+
 def propagate_empty(plan, tables):
     """PropagateEmpty: a plan without rows under a node."""
     place = first_of(Empty, subplans(plan))
@@ -90,6 +197,32 @@ def flat_union(plan):
     return plan.members[0] if len(plan.members) == 1 else None
 
 
+def branches(plan):
+    """How many members a union has; 1 of any other plan."""
+    return len(plan.members) if isinstance(plan, UnionAll) else 1
+
+
+def over_union(plan):
+    """The place of the union over which a node is distributed, among the plans right below it, or None."""
+    match plan:
+        case Select(_, inner) | Project(_, inner):
+            return first_of(UnionAll, [inner])
+        case Join(members, _) if math.prod(map(branches, members)) <= 64:
+            return first_of(UnionAll, members)
+        case Left(left, _, _) if branches(left) <= 64:
+            return first_of(UnionAll, [left])
+    return None
+
+
+def distribute_union(plan, tables):
+    """DistributeUnion: a node over a union is the union of the node over each member."""
+    place = over_union(plan)
+    if place is None:
+        return None
+    plans = tuple(subplans(plan))
+    return UnionAll(tuple(with_subplans(plan, replaced(plans, place, [one])) for one in plans[place].members))
+
+
 def without_distinct(plan):
     """A plan without its first Distinct, in preorder, or None."""
     if isinstance(plan, Distinct):
@@ -104,6 +237,29 @@ def distinct_distinct(plan, tables):
     return None if inner is None else Distinct(inner)
 
 
+def fails_on_nulls(condition, count):
+    """Whether a condition says that what is NULL if the columns behind the first ones are is not NULL, or is equal to something."""
+    match condition:
+        case Call("NOT", (Call("IS_NULL", (tested,)),)):
+            asked = [tested]
+        case Call("SAME", (one, other)):
+            asked = [one, other]
+        case _:
+            asked = []
+    return any(is_strict(one) and names_behind(one, count) for one in asked)
+
+
+def left_to_join(plan, tables):
+    """LeftToJoin: a left join below a condition that fails on NULLs for the right row is the join."""
+    if not isinstance(plan, Select) or not isinstance(plan.inner, Left):
+        return None
+    left = plan.inner
+    count = width([left.left], tables)
+    if not any(fails_on_nulls(one, count) for one in conjuncts(plan.condition)):
+        return None
+    return Select(plan.condition, Join((left.left, left.right), left.condition))
+
+
 def equal_members(plan, tables):
     """EqualMembers: under a Distinct the first member of a union goes that is equal to an earlier one."""
     if not isinstance(plan, Distinct) or not isinstance(plan.inner, UnionAll):
@@ -114,7 +270,8 @@ def equal_members(plan, tables):
 
 
 # The program's rules: of two that change a plan the first one does.
-RULES = [select_true, false_condition, propagate_empty, flatten, distinct_distinct, equal_members, term_equality, simplify_condition, simplify_null]
+RULES = [select_true, false_condition, merge_selects, merge_projects, lift_projects, propagate_empty, flatten, distribute_union,
+         distinct_distinct, left_to_join, equal_members, term_equality, simplify_condition, simplify_null]
 
 # What the program does not have yet, in the order in which it is to follow.
 LATER = []

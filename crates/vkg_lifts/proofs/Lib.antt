@@ -1,0 +1,3 @@
+pub mod FirstProject
+pub mod AnyProject
+pub mod OwnColumns

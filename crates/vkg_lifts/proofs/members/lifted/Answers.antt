@@ -1,0 +1,39 @@
+-- The first Project is lifted where it stands.
+use Rattle.std.proofs.Common.{◌≡◌, ◌∙◌, ◌+◌, ◌++◌, ◌∷◌, length, length-append, drop, take, sym, ap, subst, arith}
+use Rattle.std.specs.Prelude.{option_map}
+use Rattle.vkg_plan.specs.Kinds.{width}
+use Rattle.vkg_plan.specs.Seen.{plan_seen}
+use Rattle.vkg_rules.proofs.Members.{drop_here}
+use Rattle.vkg_rules.specs.Parts.{AreTyped, typed_more}
+use Rattle.vkg_rules.specs.StepSeen.{plans_seen}
+use Rattle.vkg_lifts.proofs.FirstProject.{project_here, no_project_here}
+use Rattle.vkg_lifts.proofs.OwnColumns.{kinds-width, rest-all}
+use Rattle.vkg_lifts.specs.LiftedSeen.{parts_seen}
+use Rattle.vkg_lifts.specs.LiftProjects.{parts_between, widths}
+use Rattle.vkg_lifts.proofs.members.lifted.Goals as goal
+
+pub returns-in-Some : goal.returns-in-Some
+returns-in-Some c =
+    let s = c.args.schema.now in
+    let ps = c.args.ps.now in
+    let i = c.loop-i.i in
+    let p = c.index-ps-i.result in
+    let parts = ap (option_map parts_seen) (sym c.in-Some.is) ∙ c.in_ok-es.ensures ∙ (λ j. parts_between s (length (c.as_slice.ensures j)) (widths s (plans_seen (rest-all ps (i + 1) j))) (plan_seen p)) in
+    project_here s ps i (length c.loop-i.before) p c.in-Some.q c.in-Some.es c.in_ok-replaced.field-0
+    (omega arith) c.index-ps-i.is parts (c.in_ok-replaced.ensures ∙ ap (λ x. take i ps ++ x ∷ drop (i + 1) ps) c.into_inner.ensures) c.loop-i.invariant.found
+
+pub loop-i-preserved : goal.loop-i-preserved
+loop-i-preserved c =
+    let s = c.args.schema.now in
+    let ps = c.args.ps.now in
+    let i = c.loop-i.i in
+    let p = c.index-ps-i.result in
+    let n = length c.loop-i.before in
+    let here = drop_here ps i p (omega arith) c.index-ps-i.is in
+    let none = ap (option_map parts_seen) (sym c.in_default.is) ∙ c.in_ok-es.ensures ∙ (λ j. parts_between s (length (c.as_slice.ensures j)) (widths s (plans_seen (rest-all ps (i + 1) j))) (plan_seen p)) in
+    let wider : length c.append.new.self ≡ n + width s (plan_seen p) =
+    ap length c.in_ok-append.ensures.ok ∙ length-append c.loop-i.before c.in_ok-kinds.field-0 ∙ ap (λ k. n + k) (ap length c.in_ok-kinds.ensures ∙ kinds-width s (plan_seen p)) in
+    record {
+      found = no_project_here s ps i n (length c.append.new.self) p (omega arith) c.index-ps-i.is none wider c.loop-i.invariant.found;
+      typed = (typed_more s (plan_seen p) (plans_seen (drop (i + 1) ps)) (subst (λ l. AreTyped s (plans_seen l)) here c.loop-i.invariant.typed)).1;
+    }

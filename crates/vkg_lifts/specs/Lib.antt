@@ -1,0 +1,9 @@
+pub mod LiftProjects
+pub mod LiftedSeen
+pub mod PutPlaces
+pub mod InBetween
+pub mod ThroughPairs
+pub mod NullRows
+pub mod LiftedKinds
+pub mod LiftedMembers
+pub mod LiftProjectsLaw

@@ -1,0 +1,9 @@
+-- Those put in are the first of the whole.
+use Rattle.std.proofs.Common.{◌≡◌, map, take}
+use Rattle.vkg_columns.specs.Columns.{at_place}
+use Rattle.vkg_expr.specs.Seen.{expr_seen}
+use Rattle.vkg_expr.specs.Strict.{put}
+use Rattle.vkg_moves.proofs.merge_projects.put_each.Given as goal
+
+abbrev pub invariant-loop-e : goal.invariant-loop-e
+invariant-loop-e l = map expr_seen l.all ≡ map (put (at_place (map expr_seen l.fs))) (map expr_seen (take l.e-index l.es))

@@ -1,0 +1,14 @@
+pub mod Columns
+pub mod ColumnsLaw
+pub mod LeftRows
+pub mod Conditions
+pub mod MergeSelects
+pub mod SelectLaw
+pub mod MemberLaw
+pub mod MergeSelectsLaw
+pub mod MergeProjects
+pub mod PutColumns
+pub mod MergeProjectsLaw
+pub mod LeftToJoin
+pub mod LeftToJoinLaw
+pub mod PartsSeen

@@ -1,0 +1,51 @@
+-- A condition over a node that has a condition, and one of a node's member: both become one.
+use Rattle.std.specs.Prelude.{ℕ, ◌+◌, Bool, true, false, not, Option, Some, None, option_map}
+use Rattle.std.specs.Bool.{then_some}
+use Rattle.std.specs.Option.{option_or}
+use Rattle.vkg_expr.specs.Expr.{Expr}
+use Rattle.vkg_expr.specs.Logic.{and_then}
+use Rattle.vkg_expr.specs.Strict.{moved}
+use Rattle.vkg_plan.specs.Kinds.{Tables, width}
+use Rattle.vkg_plan.specs.Plan.{Plan, Plans, Select, Join, Left, Nil, More}
+use Rattle.vkg_rules.specs.declared.rewrite.Fell.TheVariants as fell
+use Rattle.vkg_rules.specs.Steps.{Rule, Step}
+use Rattle.vkg_joins.specs.JoinInJoin.{Members, behind}
+use Rattle.vkg_moves.specs.Columns.{names_behind}
+
+-- the plan is a Select
+abbrev pub is_select : Plan → Bool
+is_select (Select c p) = true
+is_select p = false
+
+-- a plan, and a condition on its columns
+abbrev pub Part : Type 0
+Part = Plan × Expr
+
+-- what a Select selects from, and its condition moved behind n columns
+abbrev pub part_behind : ℕ → Plan → Option Part
+part_behind n (Select c p) = Some (p, moved n c)
+part_behind n p = None
+
+-- this plan before others
+abbrev pub before : Plans → Part → Members
+before ps x = (More x.0 ps, x.1)
+
+-- of members that stand behind n columns: what the first Select selects from in its place, and its condition
+abbrev pub unselected : Tables → ℕ → Plans → Option Members
+unselected schema n Nil = None
+unselected schema n (More p ps) = option_or (option_map (before ps) (part_behind n p)) (option_map (behind p) (unselected schema (n + width schema p) ps))
+
+-- SQL-92, 7.6, WHERE, over a node with a condition: both are to hold, the inner one is named first. Over a left join (7.5), whose condition says which
+-- right rows a left row is with: a condition on the left columns alone selects left rows.
+abbrev pub over_condition : Tables → Expr → Plan → Option Step
+over_condition schema c (Select d p) = Some (Select (and_then d c) p, fell.Weight)
+over_condition schema c (Join ps d) = Some (Join ps (and_then d c), fell.Weight)
+over_condition schema c (Left p q d) = then_some (not (names_behind (width schema p) c)) (Left (Select c p) q d, fell.Weight)
+over_condition schema c p = None
+
+-- so of each Select; and of a Join with a Select among its members (7.4 and 7.6), and of a left join with one on its right (7.5)
+abbrev pub merge_selects : Rule
+merge_selects schema (Select c p) = over_condition schema c p
+merge_selects schema (Join ps c) = option_map (λ x. (Join x.0 (and_then x.1 c), fell.Weight)) (unselected schema 0 ps)
+merge_selects schema (Left p q c) = option_map (λ x. (Left p x.0 (and_then x.1 c), fell.Weight)) (part_behind (width schema p) q)
+merge_selects schema p = None
