@@ -38,7 +38,7 @@ impl<T: Drop> Shared<T> {
         Shared::new(alloc, value.into_inner())
     }
 
-    /// The same value with one more owner. It takes no room.
+    /// The same value with one more owner. It takes no room; `Memory` is answered where the count of owners is full.
     pub fn share(&self) -> Result<Shared<T>, Memory>
         ensures { IfOk result (λ s. s ≡ self.now) }
     {
