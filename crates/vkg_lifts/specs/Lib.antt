@@ -7,3 +7,4 @@ pub mod NullRows
 pub mod LiftedKinds
 pub mod LiftedMembers
 pub mod LiftProjectsLaw
+pub mod BelowProjects

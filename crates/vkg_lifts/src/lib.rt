@@ -14,5 +14,6 @@ mod innermost;
 mod lift_projects;
 mod members;
 mod parts;
+mod taken_out;
 
 pub use lift_projects::LiftProjects;

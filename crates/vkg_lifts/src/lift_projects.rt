@@ -1,24 +1,22 @@
-ghost use Rattle.std.specs.Prelude.{◌≡◌, IfOk, map, option_map};
-ghost use Rattle.vkg_columns.specs.Columns.{at_place};
-ghost use Rattle.vkg_expr.specs.Seen.{expr_seen};
-ghost use Rattle.vkg_expr.specs.Strict.{put as put_in};
-ghost use Rattle.vkg_plan.specs.Plan.{Join, Left, Select};
+ghost use Rattle.std.specs.Prelude.{◌≡◌, IfOk, None, Some, option_map};
+ghost use Rattle.std.specs.Option.{option_or};
 ghost use Rattle.vkg_plan.specs.Seen.{plan_seen};
+ghost use Rattle.vkg_rules.specs.declared.rewrite.Fell.TheVariants as weight;
 ghost use Rattle.vkg_rules.specs.Steps.{IsTyped};
-ghost use Rattle.vkg_rules.specs.StepSeen.{plans_seen, step_seen};
-ghost use Rattle.vkg_lifts.specs.LiftedSeen.{lifted_seen, parts_seen};
-ghost use Rattle.vkg_lifts.specs.LiftProjects.{above, lift as lift_of, lift_projects, over_join as join_lifted, over_left_side as left_lifted, over_right_side as right_lifted, over_select as select_lifted};
+ghost use Rattle.vkg_lifts.specs.BelowProjects.{exprs_above as exprs_above_of, exprs_of_left as of_left, exprs_of_node as of_node, exprs_of_right as of_right, own_exprs as own};
+ghost use Rattle.vkg_lifts.specs.LiftedSeen.{exprs_seen};
+ghost use Rattle.vkg_lifts.specs.LiftProjects.{lift_projects};
 ghost use Rattle.vkg_lifts.specs.LiftProjectsLaw.{lift_projects-keeps, lift_projects-falls};
 
 use crate::innermost::waits;
-use crate::members::lifted;
-use crate::parts::{is_project, keeps_nulls, kinds, parts_between};
+use crate::members::exprs_of_members;
+use crate::parts::{exprs_between, is_project, keeps_nulls, kinds};
+use crate::taken_out::lifted;
 use std::alloc::Global;
 use vkg_base::{Box, Items, Memory};
-use vkg_columns::put;
 use vkg_expr::{Expr, copy_exprs};
-use vkg_plan::{Plan, copy_plan_box};
-use vkg_rules::{Fell, Rewrite};
+use vkg_plan::Plan;
+use vkg_rules::{Answer, Fell, Rewrite, unchanged};
 use vkg_schema::Schema;
 
 /// A projection below a selection, a join or a left join comes above it, and its expressions are put into the condition; of a
@@ -29,17 +27,33 @@ pub struct LiftProjects;
 impl Rewrite for LiftProjects {
     ghost becomes = { λ r. lift_projects };
 
-    #[tactic(auto, using(vkg_rules::proofs::Seen::seen_nodes))]
+    #[tactic(auto, using(crate::proofs::LiftParts::lift_is))]
     fn apply(
         &self,
         alloc: Global,
         schema: &Schema,
         plan: &Plan,
     ) -> Result<Option<(Plan, Fell)>, Memory> {
-        if waits(plan) {
-            Ok(None)
-        } else {
-            lift(alloc, schema, plan)
+        match exprs_above(alloc, schema, plan)? {
+            None => Ok(None),
+            Some(es) => {
+                let above = lifted(alloc, plan.copy(alloc)?, es)?;
+                Ok(Some((above.into_inner(), Fell::Weight)))
+            }
+        }
+    }
+
+    // What is below the projection stays in memory once, and so does what is beside it.
+    fn apply_again(
+        &self,
+        alloc: Global,
+        schema: &Schema,
+        plan: Box<Plan>,
+        _: &[usize],
+    ) -> Result<Answer, Memory> {
+        match exprs_above(alloc, schema, &plan)? {
+            None => Ok(unchanged(plan)),
+            Some(es) => Ok(lighter(lifted(alloc, plan.into_inner(), es)?)),
         }
     }
 
@@ -48,191 +62,102 @@ impl Rewrite for LiftProjects {
     ghost falls = { λ r. lift_projects-falls };
 }
 
-/// The projection above the node, if there is one below it that can come above it.
-#[tactic(auto, using(vkg_rules::proofs::Seen::seen_nodes))]
-fn lift(alloc: Global, schema: &Schema, plan: &Plan) -> Result<Option<(Plan, Fell)>, Memory>
+/// A plan of less weight than before.
+fn lighter(plan: Box<Plan>) -> Answer
+    ensures plan { result.plan ≡ plan }
+    ensures fell { result.fell ≡ Some weight.Weight }
+    ensures dropped { result.dropped ≡ None }
+{
+    Answer {
+        plan,
+        fell: Some(Fell::Weight),
+        dropped: None,
+    }
+}
+
+/// The expressions above the node of a projection below it, if one comes above it.
+fn exprs_above(alloc: Global, schema: &Schema, plan: &Plan) -> Result<Option<Items<Expr>>, Memory>
     requires { IsTyped schema.now (plan_seen plan.now) }
-    ensures { IfOk result (λ o. option_map step_seen o ≡ lift_of schema.now (plan_seen plan.now)) }
+    ensures { IfOk result (λ o. option_map exprs_seen o ≡ exprs_above_of schema.now (plan_seen plan.now)) }
+{
+    if waits(plan) {
+        Ok(None)
+    } else {
+        exprs_of_node(alloc, schema, plan)
+    }
+}
+
+#[tactic(auto, using(vkg_rules::proofs::Seen::seen_nodes))]
+fn exprs_of_node(alloc: Global, schema: &Schema, plan: &Plan) -> Result<Option<Items<Expr>>, Memory>
+    requires { IsTyped schema.now (plan_seen plan.now) }
+    ensures { IfOk result (λ o. option_map exprs_seen o ≡ of_node schema.now (plan_seen plan.now)) }
 {
     match plan {
-        Plan::Select(c, p) => over_select(alloc, c, p),
-        Plan::Join(ps, c) => over_join(alloc, schema, ps.as_slice(), c),
-        Plan::Left(p, q, c) => over_left(alloc, schema, p, q, c),
+        Plan::Select(_, p) => own_exprs(alloc, p),
+        Plan::Join(ps, _) => exprs_of_members(alloc, schema, ps.as_slice()),
+        Plan::Left(p, q, _) => exprs_of_sides(alloc, schema, p, q),
         _ => Ok(None),
     }
 }
 
-/// The projection above the selection, if there is one below it.
+/// The expressions of a projection.
 #[tactic(auto, using(vkg_rules::proofs::Seen::seen_nodes))]
-fn over_select(alloc: Global, c: &Expr, p: &Plan) -> Result<Option<(Plan, Fell)>, Memory>
-    ensures { IfOk result (λ o. option_map step_seen o ≡ select_lifted (expr_seen c.now) (plan_seen p.now)) }
+fn own_exprs(alloc: Global, p: &Plan) -> Result<Option<Items<Expr>>, Memory>
+    ensures { IfOk result (λ o. option_map exprs_seen o ≡ own (plan_seen p.now)) }
 {
     match p {
-        Plan::Project(es, p) => {
-            let below = selected(alloc, c, es.as_slice(), p)?;
-            Ok(Some((
-                Plan::Project(copy_exprs(alloc, es.as_slice())?, below),
-                Fell::Weight,
-            )))
-        }
+        Plan::Project(es, _) => Ok(Some(copy_exprs(alloc, es.as_slice())?)),
         _ => Ok(None),
     }
 }
 
-/// The selection by a condition with expressions put in.
-#[tactic(auto, using(vkg_rules::proofs::Seen::seen_nodes))]
-fn selected(alloc: Global, c: &Expr, es: &[Expr], p: &Plan) -> Result<Box<Plan>, Memory>
-    ensures { IfOk result (λ q. plan_seen q ≡ Select (put_in (at_place (map expr_seen es.now)) (expr_seen c.now)) (plan_seen p.now)) }
-{
-    let p = copy_plan_box(alloc, p)?;
-    Box::new(alloc, Plan::Select(put(alloc, c, es)?, p))
-}
-
-/// The first projection among the members above the join, if there is one.
-fn over_join(
-    alloc: Global,
-    schema: &Schema,
-    ps: &[Plan],
-    c: &Expr,
-) -> Result<Option<(Plan, Fell)>, Memory>
-    requires { IsTyped schema.now (Join (plans_seen ps.now) (expr_seen c.now)) }
-    ensures { IfOk result (λ o. option_map step_seen o ≡ join_lifted schema.now (plans_seen ps.now) (expr_seen c.now)) }
-{
-    joined(alloc, lifted(alloc, schema, ps)?, c)
-}
-
-/// Expressions above the join of plans, if there are any.
-#[tactic(auto, using(vkg_rules::proofs::Seen::seen_nodes))]
-fn joined(
-    alloc: Global,
-    parts: Option<(Items<Expr>, Items<Plan>)>,
-    c: &Expr,
-) -> Result<Option<(Plan, Fell)>, Memory>
-    ensures { IfOk result (λ o. option_map step_seen o ≡ option_map (λ x. above x.0 (Join x.1) (expr_seen c.now)) (option_map lifted_seen parts)) }
-{
-    match parts {
-        None => Ok(None),
-        Some((es, ps)) => {
-            let below = joined_by(alloc, ps, c, es.as_slice())?;
-            Ok(Some((Plan::Project(es, below), Fell::Weight)))
-        }
-    }
-}
-
-/// The join of plans by a condition with expressions put in.
-#[tactic(auto, using(vkg_rules::proofs::Seen::seen_nodes))]
-fn joined_by(alloc: Global, ps: Items<Plan>, c: &Expr, es: &[Expr]) -> Result<Box<Plan>, Memory>
-    ensures { IfOk result (λ q. plan_seen q ≡ Join (plans_seen ps) (put_in (at_place (map expr_seen es.now)) (expr_seen c.now))) }
-{
-    let c = put(alloc, c, es)?;
-    Box::new(alloc, Plan::Join(ps, c))
-}
-
-/// The projection on the left above the left join, else the one on the right whose expressions are NULL on a row of NULLs.
-fn over_left(
+/// The expressions above a left join of the projection on the left, else of the one on the right whose expressions are NULL on a
+/// row of NULLs.
+fn exprs_of_sides(
     alloc: Global,
     schema: &Schema,
     p: &Plan,
     q: &Plan,
-    c: &Expr,
-) -> Result<Option<(Plan, Fell)>, Memory>
-    requires { IsTyped schema.now (Left (plan_seen p.now) (plan_seen q.now) (expr_seen c.now)) }
-    ensures { IfOk result (λ o. option_map step_seen o ≡ lift_of schema.now (Left (plan_seen p.now) (plan_seen q.now) (expr_seen c.now))) }
+) -> Result<Option<Items<Expr>>, Memory>
+    requires p { IsTyped schema.now (plan_seen p.now) }
+    requires q { IsTyped schema.now (plan_seen q.now) }
+    ensures { IfOk result (λ o. option_map exprs_seen o ≡ option_or (of_left schema.now (plan_seen p.now) (plan_seen q.now)) (of_right schema.now (plan_seen p.now) (plan_seen q.now))) }
 {
-    match over_left_side(alloc, schema, p, q, c)? {
-        Some(x) => Ok(Some(x)),
-        None => over_right_side(alloc, schema, p, q, c),
+    match exprs_of_left(alloc, schema, p, q)? {
+        Some(es) => Ok(Some(es)),
+        None => exprs_of_right(alloc, schema, p, q),
     }
 }
 
-#[tactic(auto, using(crate::proofs::FirstProject::no_left))]
-fn over_left_side(
+#[tactic(auto, using(crate::proofs::FirstProject::no_parts, crate::proofs::FirstProject::no_exprs))]
+fn exprs_of_left(
     alloc: Global,
     schema: &Schema,
     p: &Plan,
     q: &Plan,
-    c: &Expr,
-) -> Result<Option<(Plan, Fell)>, Memory>
+) -> Result<Option<Items<Expr>>, Memory>
     requires { IsTyped schema.now (plan_seen p.now) }
-    ensures { IfOk result (λ o. option_map step_seen o ≡ left_lifted schema.now (plan_seen p.now) (plan_seen q.now) (expr_seen c.now)) }
+    ensures { IfOk result (λ o. option_map exprs_seen o ≡ of_left schema.now (plan_seen p.now) (plan_seen q.now)) }
 {
     if !is_project(p) {
         return Ok(None);
     }
     let after = kinds(alloc, schema, q)?;
-    let parts = parts_between(alloc, schema, p, &[], after.as_slice())?;
-    left_joined(alloc, parts, q, c)
+    exprs_between(alloc, schema, p, &[], after.as_slice())
 }
 
-/// Expressions above the left join of the plan below them with another, if there are any.
-#[tactic(auto, using(vkg_rules::proofs::Seen::seen_nodes))]
-fn left_joined(
-    alloc: Global,
-    parts: Option<(Items<Expr>, Box<Plan>)>,
-    q: &Plan,
-    c: &Expr,
-) -> Result<Option<(Plan, Fell)>, Memory>
-    ensures { IfOk result (λ o. option_map step_seen o ≡ option_map (λ x. above x.0 (Left x.1 (plan_seen q.now)) (expr_seen c.now)) (option_map parts_seen parts)) }
-{
-    match parts {
-        None => Ok(None),
-        Some((es, p)) => {
-            let q = copy_plan_box(alloc, q)?;
-            let below = left_joined_by(alloc, p, q, c, es.as_slice())?;
-            Ok(Some((Plan::Project(es, below), Fell::Weight)))
-        }
-    }
-}
-
-fn over_right_side(
+fn exprs_of_right(
     alloc: Global,
     schema: &Schema,
     p: &Plan,
     q: &Plan,
-    c: &Expr,
-) -> Result<Option<(Plan, Fell)>, Memory>
+) -> Result<Option<Items<Expr>>, Memory>
     requires { IsTyped schema.now (plan_seen q.now) }
-    ensures { IfOk result (λ o. option_map step_seen o ≡ right_lifted schema.now (plan_seen p.now) (plan_seen q.now) (expr_seen c.now)) }
+    ensures { IfOk result (λ o. option_map exprs_seen o ≡ of_right schema.now (plan_seen p.now) (plan_seen q.now)) }
 {
     if !keeps_nulls(q) {
         return Ok(None);
     }
     let before = kinds(alloc, schema, p)?;
-    let parts = parts_between(alloc, schema, q, before.as_slice(), &[])?;
-    right_joined(alloc, p, parts, c)
-}
-
-/// Expressions above the left join of a plan with the one below them, if there are any.
-#[tactic(auto, using(vkg_rules::proofs::Seen::seen_nodes))]
-fn right_joined(
-    alloc: Global,
-    p: &Plan,
-    parts: Option<(Items<Expr>, Box<Plan>)>,
-    c: &Expr,
-) -> Result<Option<(Plan, Fell)>, Memory>
-    ensures { IfOk result (λ o. option_map step_seen o ≡ option_map (λ x. above x.0 (Left (plan_seen p.now) x.1) (expr_seen c.now)) (option_map parts_seen parts)) }
-{
-    match parts {
-        None => Ok(None),
-        Some((es, q)) => {
-            let p = copy_plan_box(alloc, p)?;
-            let below = left_joined_by(alloc, p, q, c, es.as_slice())?;
-            Ok(Some((Plan::Project(es, below), Fell::Weight)))
-        }
-    }
-}
-
-/// The left join of two plans by a condition with expressions put in.
-#[tactic(auto, using(vkg_rules::proofs::Seen::seen_nodes))]
-fn left_joined_by(
-    alloc: Global,
-    p: Box<Plan>,
-    q: Box<Plan>,
-    c: &Expr,
-    es: &[Expr],
-) -> Result<Box<Plan>, Memory>
-    ensures { IfOk result (λ x. plan_seen x ≡ Left (plan_seen p) (plan_seen q) (put_in (at_place (map expr_seen es.now)) (expr_seen c.now))) }
-{
-    let c = put(alloc, c, es)?;
-    Box::new(alloc, Plan::Left(p, q, c))
+    exprs_between(alloc, schema, q, before.as_slice(), &[])
 }

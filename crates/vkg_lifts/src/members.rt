@@ -5,28 +5,27 @@ ghost use Rattle.vkg_plan.specs.Seen.{plan_seen};
 ghost use Rattle.vkg_rules.specs.Parts.{AreTyped};
 ghost use Rattle.vkg_rules.specs.Steps.{IsTyped};
 ghost use Rattle.vkg_rules.specs.StepSeen.{plans_seen};
-ghost use Rattle.vkg_lifts.specs.LiftedSeen.{lifted_seen, parts_seen};
-ghost use Rattle.vkg_lifts.specs.LiftProjects.{is_project as a_project, lifted as lifted_behind, parts_between as between_columns, widths};
+ghost use Rattle.vkg_lifts.specs.LiftedSeen.{exprs_seen};
+ghost use Rattle.vkg_lifts.specs.BelowProjects.{exprs_between as between_columns, exprs_of_members as of_members};
+ghost use Rattle.vkg_lifts.specs.LiftProjects.{is_project as a_project, widths};
 
-use crate::parts::{is_project, kinds, parts_between};
+use crate::parts::{exprs_between, is_project, kinds};
 use std::alloc::Global;
-use vkg_base::{Box, Items, Memory};
+use vkg_base::{Items, Memory};
 use vkg_cells::SqlType;
 use vkg_expr::Expr;
 use vkg_plan::Plan;
-use vkg_rules::nodes::replaced;
 use vkg_schema::Schema;
 
-/// The expressions above all plans that come of the first projection among them, and the plans with what is below it in its
-/// place, if there is one.
-#[tactic(auto, using(crate::proofs::FirstProject::no_project))]
-pub fn lifted(
+/// The expressions above all plans that come of the first projection among them, if there is one.
+#[tactic(auto, using(crate::proofs::FirstProject::none_lifted, crate::proofs::FirstProject::no_project))]
+pub fn exprs_of_members(
     alloc: Global,
     schema: &Schema,
     ps: &[Plan],
-) -> Result<Option<(Items<Expr>, Items<Plan>)>, Memory>
+) -> Result<Option<Items<Expr>>, Memory>
     requires { AreTyped schema.now (plans_seen ps.now) }
-    ensures { IfOk result (λ o. option_map lifted_seen o ≡ lifted_behind schema.now 0 (plans_seen ps.now)) }
+    ensures { IfOk result (λ o. option_map exprs_seen o ≡ of_members schema.now (plans_seen ps.now)) }
 {
     if !has_project(ps) {
         return Ok(None);
@@ -35,8 +34,8 @@ pub fn lifted(
     for i in 0..ps.len() {
         let p = &ps[i];
         let rest = &ps[i + 1..];
-        if let Some((es, q)) = member_parts(alloc, schema, p, before.as_slice(), rest)? {
-            return Ok(Some((es, replaced(alloc, ps, i, q.into_inner())?)));
+        if let Some(es) = member_exprs(alloc, schema, p, before.as_slice(), rest)? {
+            return Ok(Some(es));
         }
         before.append(kinds(alloc, schema, p)?)?;
     }
@@ -51,22 +50,22 @@ pub fn has_project(ps: &[Plan]) -> bool
 }
 
 /// What a member gives behind columns of these kinds and before those of the other members, if it is a projection.
-#[tactic(auto, using(crate::proofs::FirstProject::no_parts))]
-fn member_parts(
+#[tactic(auto, using(crate::proofs::FirstProject::no_parts, crate::proofs::FirstProject::no_exprs))]
+fn member_exprs(
     alloc: Global,
     schema: &Schema,
     p: &Plan,
     before: &[SqlType],
     rest: &[Plan],
-) -> Result<Option<(Items<Expr>, Box<Plan>)>, Memory>
+) -> Result<Option<Items<Expr>>, Memory>
     requires { IsTyped schema.now (plan_seen p.now) }
-    ensures { IfOk result (λ o. option_map parts_seen o ≡ between_columns schema.now (length before.now) (widths schema.now (plans_seen rest.now)) (plan_seen p.now)) }
+    ensures { IfOk result (λ o. option_map exprs_seen o ≡ between_columns schema.now (length before.now) (widths schema.now (plans_seen rest.now)) (plan_seen p.now)) }
 {
     if !is_project(p) {
         return Ok(None);
     }
     let after = kinds_beside(alloc, schema, rest)?;
-    parts_between(alloc, schema, p, before, after.as_slice())
+    exprs_between(alloc, schema, p, before, after.as_slice())
 }
 
 /// The kinds of all columns of the plans.

@@ -6,35 +6,35 @@ ghost use Rattle.vkg_expr.specs.Strict.{nulls_on_null as null_with_column};
 ghost use Rattle.vkg_plan.specs.Seen.{plan_seen};
 ghost use Rattle.vkg_rules.specs.Measure.{kinds_or_none};
 ghost use Rattle.vkg_rules.specs.Steps.{IsTyped};
-ghost use Rattle.vkg_lifts.specs.LiftedSeen.{parts_seen};
-ghost use Rattle.vkg_lifts.specs.LiftProjects.{is_project as a_project, keeps_nulls as nulls_kept, parts_between as between_columns};
+ghost use Rattle.vkg_lifts.specs.LiftedSeen.{exprs_seen};
+ghost use Rattle.vkg_lifts.specs.BelowProjects.{exprs_between as between_columns};
+ghost use Rattle.vkg_lifts.specs.LiftProjects.{is_project as a_project, keeps_nulls as nulls_kept};
 
 use crate::between::in_between;
 use std::alloc::Global;
-use vkg_base::{Box, Items, Memory};
+use vkg_base::{Items, Memory};
 use vkg_cells::SqlType;
 use vkg_expr::{Expr, nulls_on_null};
-use vkg_plan::{Plan, copy_plan_box, plan_kinds};
+use vkg_plan::{Plan, plan_kinds};
 use vkg_schema::Schema;
 
-/// What a projection gives that stands between columns of these kinds, over the columns of all and of the plan below it, and
-/// that plan.
+/// What a projection gives that stands between columns of these kinds, over the columns of all and of the plan below it.
 #[tactic(auto, using(vkg_rules::proofs::Seen::seen_nodes))]
-pub fn parts_between(
+pub fn exprs_between(
     alloc: Global,
     schema: &Schema,
     p: &Plan,
     before: &[SqlType],
     after: &[SqlType],
-) -> Result<Option<(Items<Expr>, Box<Plan>)>, Memory>
+) -> Result<Option<Items<Expr>>, Memory>
     requires { IsTyped schema.now (plan_seen p.now) }
-    ensures { IfOk result (λ o. option_map parts_seen o ≡ between_columns schema.now (length before.now) (length after.now) (plan_seen p.now)) }
+    ensures { IfOk result (λ o. option_map exprs_seen o ≡ between_columns schema.now (length before.now) (length after.now) (plan_seen p.now)) }
 {
     match p {
         Plan::Project(es, p) => {
             let own = kinds(alloc, schema, p)?;
             let all = in_between(alloc, es.as_slice(), before, own.as_slice(), after)?;
-            Ok(Some((all, copy_plan_box(alloc, p)?)))
+            Ok(Some(all))
         }
         _ => Ok(None),
     }

@@ -49,3 +49,26 @@ merge_selects schema (Select c p) = over_condition schema c p
 merge_selects schema (Join ps c) = option_map (λ x. (Join x.0 (and_then x.1 c), fell.Weight)) (unselected schema 0 ps)
 merge_selects schema (Left p q c) = option_map (λ x. (Left p x.0 (and_then x.1 c), fell.Weight)) (part_behind (width schema p) q)
 merge_selects schema p = None
+
+-- ---- a Select over a Select or a Join that is taken apart
+
+-- the plan is a Select or a Join
+abbrev pub has_condition : Plan → Bool
+has_condition (Select c p) = true
+has_condition (Join ps c) = true
+has_condition p = false
+
+-- it selects from one of them
+abbrev pub is_over_condition : Plan → Bool
+is_over_condition (Select c p) = has_condition p
+is_over_condition p = false
+
+-- One of them under its condition and then another. Other plans, which are not asked for, stay.
+abbrev pub under_both : Expr → Plan → Plan
+under_both c (Select d p) = Select (and_then d c) p
+under_both c (Join ps d) = Join ps (and_then d c)
+under_both c p = p
+
+abbrev pub merged : Plan → Plan
+merged (Select c p) = under_both c p
+merged p = p

@@ -15,11 +15,14 @@
 //! vkg_joins for products of which a part was kept by a test.
 #![tactic(auto)]
 
+mod answers;
 mod columns;
 mod kinds;
 mod left_to_join;
 mod merge_projects;
 mod merge_selects;
+mod taken_apart;
+mod under_both;
 
 pub use left_to_join::LeftToJoin;
 pub use merge_projects::MergeProjects;

@@ -9,16 +9,18 @@ ghost use Rattle.vkg_plan.specs.Seen.{plan_seen};
 ghost use Rattle.vkg_rules.specs.declared.rewrite.Fell.TheVariants as weight;
 ghost use Rattle.vkg_rules.specs.Steps.{IsTyped};
 ghost use Rattle.vkg_rules.specs.StepSeen.{step_seen};
-ghost use Rattle.vkg_moves.specs.MergeProjects.{are_columns_from, are_in_place as all_in_place, is_column_at as column_at, merge_projects, projected as projected_of};
+ghost use Rattle.vkg_moves.specs.MergeProjects.{are_columns_from, are_in_place as all_in_place, is_column_at as column_at, is_whole as whole, merge_projects, projected as projected_of};
 ghost use Rattle.vkg_moves.specs.MergeProjectsLaw.{merge_projects-keeps, merge_projects-falls};
 
+use crate::answers::lighter;
 use crate::kinds::width;
+use crate::taken_apart::{below, is_twice, merged};
 use std::alloc::Global;
-use vkg_base::{Items, Memory};
+use vkg_base::{Box, Items, Memory};
 use vkg_columns::put;
 use vkg_expr::Expr;
 use vkg_plan::{Plan, copy_plan_box};
-use vkg_rules::{Fell, Rewrite};
+use vkg_rules::{Answer, Fell, Rewrite, unchanged};
 use vkg_schema::Schema;
 
 /// A projection of a projection is one, and one of all columns in place is what it projects.
@@ -39,6 +41,23 @@ impl Rewrite for MergeProjects {
             Plan::Project(es, p) => projected(alloc, schema, es.as_slice(), p),
             _ => Ok(None),
         }
+    }
+
+    // What is projected stays in memory once.
+    fn apply_again(
+        &self,
+        alloc: Global,
+        schema: &Schema,
+        plan: Box<Plan>,
+        _: &[usize],
+    ) -> Result<Answer, Memory> {
+        if is_twice(&plan) {
+            return Ok(lighter(merged(alloc, plan)?));
+        }
+        if is_whole(alloc, schema, &plan)? {
+            return Ok(lighter(below(alloc, plan)?));
+        }
+        Ok(unchanged(plan))
     }
 
     ghost keeps = { λ r. merge_projects-keeps };
@@ -78,7 +97,7 @@ fn composed(
 }
 
 /// The expressions with those of the second list in the place of their columns.
-fn put_each(alloc: Global, es: &[Expr], fs: &[Expr]) -> Result<Items<Expr>, Memory>
+pub fn put_each(alloc: Global, es: &[Expr], fs: &[Expr]) -> Result<Items<Expr>, Memory>
     ensures { IfOk result (λ gs. map expr_seen gs ≡ map (put_in (at_place (map expr_seen fs.now))) (map expr_seen es.now)) }
 {
     let mut all = Items::new(alloc);
@@ -98,14 +117,34 @@ fn unprojected(
     requires { IsTyped schema.now (Project (map expr_seen es.now) (plan_seen p.now)) }
     ensures { IfOk result (λ o. option_map step_seen o ≡ then_some (all_in_place (width_of schema.now (plan_seen p.now)) (map expr_seen es.now)) (plan_seen p.now, weight.Weight)) }
 {
-    if !are_columns(es) {
-        return Ok(None);
-    }
-    if es.len() == width(alloc, schema, p)? {
+    if are_all(alloc, schema, es, p)? {
         Ok(Some((p.copy(alloc)?, Fell::Weight)))
     } else {
         Ok(None)
     }
+}
+
+/// Whether it is a projection of all columns in place.
+#[tactic(auto, using(vkg_rules::proofs::Seen::seen_nodes))]
+fn is_whole(alloc: Global, schema: &Schema, plan: &Plan) -> Result<bool, Memory>
+    requires { IsTyped schema.now (plan_seen plan.now) }
+    ensures { IfOk result (λ b. b ≡ whole schema.now (plan_seen plan.now)) }
+{
+    match plan {
+        Plan::Project(es, p) => are_all(alloc, schema, es.as_slice(), p),
+        _ => Ok(false),
+    }
+}
+
+/// Whether the expressions are all columns of the plan in place.
+fn are_all(alloc: Global, schema: &Schema, es: &[Expr], p: &Plan) -> Result<bool, Memory>
+    requires { IsTyped schema.now (Project (map expr_seen es.now) (plan_seen p.now)) }
+    ensures { IfOk result (λ b. b ≡ all_in_place (width_of schema.now (plan_seen p.now)) (map expr_seen es.now)) }
+{
+    if !are_columns(es) {
+        return Ok(false);
+    }
+    Ok(es.len() == width(alloc, schema, p)?)
 }
 
 /// Whether each expression is the column at its place.

@@ -15,8 +15,10 @@ ghost use Rattle.vkg_moves.specs.MergeSelects.{is_select as a_select, merge_sele
 ghost use Rattle.vkg_moves.specs.MergeSelectsLaw.{merge_selects-keeps, merge_selects-falls};
 ghost use Rattle.vkg_moves.specs.PartsSeen.{part_seen};
 
+use crate::answers::lighter;
 use crate::columns::names_behind;
 use crate::kinds::{kinds, width};
+use crate::under_both::{is_over_condition, merged};
 use std::alloc::Global;
 use vkg_base::{Box, Items, Memory};
 use vkg_cells::SqlType;
@@ -24,7 +26,7 @@ use vkg_columns::{and_then, moved};
 use vkg_expr::Expr;
 use vkg_plan::{Plan, copy_plan_box, copy_plans};
 use vkg_rules::nodes::replaced;
-use vkg_rules::{Fell, Rewrite};
+use vkg_rules::{Answer, Fell, Rewrite, answered};
 use vkg_schema::Schema;
 
 /// A condition over a node that has a condition, and one of a node's member, are one with the node's condition.
@@ -47,6 +49,21 @@ impl Rewrite for MergeSelects {
             Plan::Left(p, q, c) => in_left(alloc, schema, p, q, c),
             _ => Ok(None),
         }
+    }
+
+    // What is selected from stays in memory once, where it has a condition.
+    fn apply_again(
+        &self,
+        alloc: Global,
+        schema: &Schema,
+        plan: Box<Plan>,
+        _: &[usize],
+    ) -> Result<Answer, Memory> {
+        if is_over_condition(&plan) {
+            return Ok(lighter(merged(alloc, plan.into_inner())?));
+        }
+        let made = self.apply(alloc, schema, &plan)?;
+        answered(alloc, plan, made)
     }
 
     ghost keeps = { λ r. merge_selects-keeps };

@@ -1,6 +1,7 @@
--- The first Project is lifted where it stands.
-use Rattle.std.proofs.Common.{◌≡◌, ◌∙◌, ◌+◌, ◌++◌, ◌∷◌, length, length-append, drop, take, sym, ap, subst, arith}
+-- The first Project's expressions are those of its place.
+use Rattle.std.proofs.Common.{◌≡◌, ◌∙◌, ◌+◌, length, length-append, drop, map, sym, ap, subst, arith}
 use Rattle.std.specs.Prelude.{option_map}
+use Rattle.vkg_expr.specs.Seen.{expr_seen}
 use Rattle.vkg_plan.specs.Kinds.{width}
 use Rattle.vkg_plan.specs.Seen.{plan_seen}
 use Rattle.vkg_rules.proofs.Members.{drop_here}
@@ -8,9 +9,10 @@ use Rattle.vkg_rules.specs.Parts.{AreTyped, typed_more}
 use Rattle.vkg_rules.specs.StepSeen.{plans_seen}
 use Rattle.vkg_lifts.proofs.FirstProject.{project_here, no_project_here}
 use Rattle.vkg_lifts.proofs.OwnColumns.{kinds-width, rest-all}
-use Rattle.vkg_lifts.specs.LiftedSeen.{parts_seen}
-use Rattle.vkg_lifts.specs.LiftProjects.{parts_between, widths}
-use Rattle.vkg_lifts.proofs.members.lifted.Goals as goal
+use Rattle.vkg_lifts.specs.BelowProjects.{exprs_between}
+use Rattle.vkg_lifts.specs.LiftedSeen.{exprs_seen}
+use Rattle.vkg_lifts.specs.LiftProjects.{widths}
+use Rattle.vkg_lifts.proofs.members.exprs_of_members.Goals as goal
 
 pub returns-in-Some : goal.returns-in-Some
 returns-in-Some c =
@@ -18,9 +20,8 @@ returns-in-Some c =
     let ps = c.args.ps.now in
     let i = c.loop-i.i in
     let p = c.index-ps-i.result in
-    let parts = ap (option_map parts_seen) (sym c.in-Some.is) ∙ c.in_ok-es.ensures ∙ (λ j. parts_between s (length (c.as_slice.ensures j)) (widths s (plans_seen (rest-all ps (i + 1) j))) (plan_seen p)) in
-    project_here s ps i (length c.loop-i.before) p c.in-Some.q c.in-Some.es c.in_ok-replaced.field-0
-    (omega arith) c.index-ps-i.is parts (c.in_ok-replaced.ensures ∙ ap (λ x. take i ps ++ x ∷ drop (i + 1) ps) c.into_inner.ensures) c.loop-i.invariant.found
+    let parts = ap (option_map exprs_seen) (sym c.in-Some.is) ∙ c.in_ok-es.ensures ∙ (λ j. exprs_between s (length (c.as_slice.ensures j)) (widths s (plans_seen (rest-all ps (i + 1) j))) (plan_seen p)) in
+    project_here s ps i (length c.loop-i.before) p (map expr_seen c.in-Some.es) (omega arith) c.index-ps-i.is parts c.loop-i.invariant.found
 
 pub loop-i-preserved : goal.loop-i-preserved
 loop-i-preserved c =
@@ -30,7 +31,7 @@ loop-i-preserved c =
     let p = c.index-ps-i.result in
     let n = length c.loop-i.before in
     let here = drop_here ps i p (omega arith) c.index-ps-i.is in
-    let none = ap (option_map parts_seen) (sym c.in_default.is) ∙ c.in_ok-es.ensures ∙ (λ j. parts_between s (length (c.as_slice.ensures j)) (widths s (plans_seen (rest-all ps (i + 1) j))) (plan_seen p)) in
+    let none = ap (option_map exprs_seen) (sym c.in_default.is) ∙ c.in_ok-es.ensures ∙ (λ j. exprs_between s (length (c.as_slice.ensures j)) (widths s (plans_seen (rest-all ps (i + 1) j))) (plan_seen p)) in
     let wider : length c.append.new.self ≡ n + width s (plan_seen p) =
     ap length c.in_ok-append.ensures.ok ∙ length-append c.loop-i.before c.in_ok-kinds.field-0 ∙ ap (λ k. n + k) (ap length c.in_ok-kinds.ensures ∙ kinds-width s (plan_seen p)) in
     record {

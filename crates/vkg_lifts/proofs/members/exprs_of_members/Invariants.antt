@@ -3,7 +3,7 @@ use Rattle.std.proofs.Common.{length, drop}
 use Rattle.vkg_rules.specs.Parts.{AreTyped}
 use Rattle.vkg_rules.specs.StepSeen.{plans_seen}
 use Rattle.vkg_lifts.proofs.FirstProject.{Closed}
-use Rattle.vkg_lifts.proofs.members.lifted.Given as goal
+use Rattle.vkg_lifts.proofs.members.exprs_of_members.Given as goal
 
 abbrev pub invariant-loop-i : goal.invariant-loop-i
 invariant-loop-i l =
