@@ -10,6 +10,10 @@ use Rattle.vkg_equalities.specs.TermEquality.{term_equality}
 use Rattle.vkg_equalities.specs.TermEqualityLaw.{term_equality-falls, term_equality-keeps}
 use Rattle.vkg_joins.specs.JoinInJoin.{join_in_join}
 use Rattle.vkg_joins.specs.JoinInJoinLaw.{join_in_join-falls, join_in_join-keeps}
+use Rattle.vkg_key_joins.specs.ParentJoin.{parent_join}
+use Rattle.vkg_key_joins.specs.ParentJoinLaw.{parent_join-falls, parent_join-keeps}
+use Rattle.vkg_key_joins.specs.SelfJoin.{self_join}
+use Rattle.vkg_key_joins.specs.SelfJoinLaw.{self_join-falls, self_join-keeps}
 use Rattle.vkg_lifts.specs.LiftProjects.{lift_projects}
 use Rattle.vkg_lifts.specs.LiftProjectsLaw.{lift_projects-falls, lift_projects-keeps}
 use Rattle.vkg_moves.specs.LeftToJoin.{left_to_join}
@@ -36,6 +40,10 @@ use Rattle.vkg_unions.specs.DistinctDistinct.{distinct_distinct}
 use Rattle.vkg_unions.specs.DistinctDistinctLaw.{distinct_distinct-falls, distinct_distinct-keeps}
 use Rattle.vkg_unions.specs.EqualMembers.{equal_members}
 use Rattle.vkg_unions.specs.EqualMembersLaw.{equal_members-falls, equal_members-keeps}
+use Rattle.vkg_unique.specs.DistinctUnique.{distinct_unique}
+use Rattle.vkg_unique.specs.DistinctUniqueLaw.{distinct_unique-falls, distinct_unique-keeps}
+use Rattle.vkg_unique.specs.UnusedLeft.{unused_left}
+use Rattle.vkg_unique.specs.UnusedLeftLaw.{unused_left-falls, unused_left-keeps}
 
 -- selections and projections: two become one, and a projection comes above a node
 unfoldable pub moves : Rule
@@ -45,9 +53,21 @@ moves = either merge_selects (either merge_projects lift_projects)
 unfoldable pub flatten : Rule
 flatten = either join_in_join (either few_members flat_union)
 
--- unions come above a node, repeated rows go, and left joins become joins
-unfoldable pub spreads : Rule
-spreads = either distribute_union (either distinct_distinct (either left_to_join equal_members))
+-- a distinct goes over rows that are no two equal, and under another
+unfoldable pub distincts : Rule
+distincts = either distinct_unique distinct_distinct
+
+-- a table goes that a key ties to the same one, or that a foreign key refers to
+unfoldable pub key_joins : Rule
+key_joins = either self_join parent_join
+
+-- left joins become joins, members of a union that are equal to others go, and so do left joins of which nothing is used
+unfoldable pub left_joins : Rule
+left_joins = either left_to_join (either equal_members unused_left)
+
+-- what a plan can do without: distincts, tables in joins, left joins
+unfoldable pub removals : Rule
+removals = either distincts (either key_joins left_joins)
 
 -- equalities of terms, what is decided in a condition, and tests for NULL
 unfoldable pub conditions : Rule
@@ -61,8 +81,9 @@ all_rules =
     (either moves
     (either propagate_empty
     (either flatten
-    (either spreads
-    conditions)))))
+    (either distribute_union
+    (either removals
+    conditions))))))
 
 -- the plan after the rules' last step: each is taken at the first subplan in preorder that a rule changes, by the first such rule
 unfoldable pub normal_form : Tables → Plan → Plan
@@ -94,19 +115,45 @@ flatten-falls : FallsAll flatten
 unfolding flatten
 flatten-falls = either-falls join_in_join _ join_in_join-falls (either-falls few_members flat_union few_members-falls flat_union-falls)
 
-spreads-keep : KeepsAll spreads
-unfolding spreads
-spreads-keep =
-    either-keeps distribute_union _ distribute_union-keeps
-    (either-keeps distinct_distinct _ distinct_distinct-keeps
-    (either-keeps left_to_join equal_members left_to_join-keeps equal_members-keeps))
+distincts-keep : KeepsAll distincts
+unfolding distincts
+distincts-keep = either-keeps distinct_unique distinct_distinct distinct_unique-keeps distinct_distinct-keeps
 
-spreads-fall : FallsAll spreads
-unfolding spreads
-spreads-fall =
-    either-falls distribute_union _ distribute_union-falls
-    (either-falls distinct_distinct _ distinct_distinct-falls
-    (either-falls left_to_join equal_members left_to_join-falls equal_members-falls))
+distincts-fall : FallsAll distincts
+unfolding distincts
+distincts-fall = either-falls distinct_unique distinct_distinct distinct_unique-falls distinct_distinct-falls
+
+key_joins-keep : KeepsAll key_joins
+unfolding key_joins
+key_joins-keep = either-keeps self_join parent_join self_join-keeps parent_join-keeps
+
+key_joins-fall : FallsAll key_joins
+unfolding key_joins
+key_joins-fall = either-falls self_join parent_join self_join-falls parent_join-falls
+
+left_joins-keep : KeepsAll left_joins
+unfolding left_joins
+left_joins-keep =
+    either-keeps left_to_join _ left_to_join-keeps
+    (either-keeps equal_members unused_left equal_members-keeps unused_left-keeps)
+
+left_joins-fall : FallsAll left_joins
+unfolding left_joins
+left_joins-fall =
+    either-falls left_to_join _ left_to_join-falls
+    (either-falls equal_members unused_left equal_members-falls unused_left-falls)
+
+removals-keep : KeepsAll removals
+unfolding removals
+removals-keep =
+    either-keeps distincts _ distincts-keep
+    (either-keeps key_joins left_joins key_joins-keep left_joins-keep)
+
+removals-fall : FallsAll removals
+unfolding removals
+removals-fall =
+    either-falls distincts _ distincts-fall
+    (either-falls key_joins left_joins key_joins-fall left_joins-fall)
 
 conditions-keep : KeepsAll conditions
 unfolding conditions
@@ -128,7 +175,8 @@ rules-keep =
     (either-keeps moves _ moves-keep
     (either-keeps propagate_empty _ propagate_empty-keeps
     (either-keeps flatten _ flatten-keeps
-    (either-keeps spreads conditions spreads-keep conditions-keep)))))
+    (either-keeps distribute_union _ distribute_union-keeps
+    (either-keeps removals conditions removals-keep conditions-keep))))))
 
 pub rules-fall : FallsAll all_rules
 unfolding all_rules
@@ -138,4 +186,5 @@ rules-fall =
     (either-falls moves _ moves-fall
     (either-falls propagate_empty _ propagate_empty-falls
     (either-falls flatten _ flatten-falls
-    (either-falls spreads conditions spreads-fall conditions-fall)))))
+    (either-falls distribute_union _ distribute_union-falls
+    (either-falls removals conditions removals-fall conditions-fall))))))

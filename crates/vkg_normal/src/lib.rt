@@ -6,8 +6,8 @@
 //! plan, no rule applies anywhere in it, and it has the plan's columns and its bag of rows over every database that meets the
 //! schema; `normal_forms` is that law of the definition alone. A new rule is a line in `specs/NormalForm.antt` and one in `rules`.
 //!
-//! Stands on vkg_shapes, vkg_moves, vkg_lifts, vkg_joins, vkg_spreads, vkg_unions, vkg_equalities, vkg_conditions and vkg_nulls for the rules,
-//! on vkg_rules for their laws and on vkg_steps for steps in place.
+//! Stands on vkg_shapes, vkg_moves, vkg_lifts, vkg_joins, vkg_spreads, vkg_unions, vkg_unique, vkg_key_joins, vkg_equalities, vkg_conditions
+//! and vkg_nulls for the rules, on vkg_rules for their laws and on vkg_steps for steps in place.
 #![tactic(auto)]
 
 mod laws;

@@ -1,10 +1,11 @@
 // The rules, in the order in which they are asked.
 ghost use Rattle.std.specs.Prelude.{◌≡◌};
-ghost use Rattle.vkg_normal.specs.NormalForm.{all_rules, conditions as all_conditions, flatten as all_flattening, moves as all_moves, spreads as all_spreading};
+ghost use Rattle.vkg_normal.specs.NormalForm.{all_rules, conditions as all_conditions, distincts as all_distincts, flatten as all_flattening, key_joins as all_key_joins, left_joins as all_left_joins, moves as all_moves, removals as all_removals};
 
 use vkg_conditions::SimplifyCondition;
 use vkg_equalities::TermEquality;
 use vkg_joins::JoinInJoin;
+use vkg_key_joins::{ParentJoin, SelfJoin};
 use vkg_lifts::LiftProjects;
 use vkg_moves::{LeftToJoin, MergeProjects, MergeSelects};
 use vkg_nulls::SimplifyNull;
@@ -12,6 +13,7 @@ use vkg_rules::{Either, Rewrite};
 use vkg_shapes::{FalseCondition, FewMembers, FlatUnion, PropagateEmpty, SelectTrue};
 use vkg_spreads::DistributeUnion;
 use vkg_unions::{DistinctDistinct, EqualMembers};
+use vkg_unique::{DistinctUnique, UnusedLeft};
 
 /// The rules, one behind the other: the first that applies to a plan is taken.
 pub type Rules = Either<SelectTrue, Either<FalseCondition, Either<Moves, AfterMoves>>>;
@@ -20,16 +22,25 @@ pub type Rules = Either<SelectTrue, Either<FalseCondition, Either<Moves, AfterMo
 pub type Moves = Either<MergeSelects, Either<MergeProjects, LiftProjects>>;
 
 /// The rules that are asked behind those.
-pub type AfterMoves = Either<PropagateEmpty, Either<Flatten, Either<Spreads, Conditions>>>;
+pub type AfterMoves = Either<PropagateEmpty, Either<Flatten, AfterFlatten>>;
 
 /// The rules that flatten joins and unions.
 pub type Flatten = Either<JoinInJoin, Either<FewMembers, FlatUnion>>;
 
-/// The rules on unions, repeated rows and left joins.
-pub type Spreads = Either<
-    DistributeUnion,
-    Either<DistinctDistinct, Either<LeftToJoin, EqualMembers>>,
->;
+/// The rules that are asked behind those.
+pub type AfterFlatten = Either<DistributeUnion, Either<Removals, Conditions>>;
+
+/// The rules by which a distinct, a table in a join, or a left join goes.
+pub type Removals = Either<Distincts, Either<KeyJoins, LeftJoins>>;
+
+/// The rules on distincts over rows that are no two equal, and under others.
+pub type Distincts = Either<DistinctUnique, DistinctDistinct>;
+
+/// The rules on joins over keys.
+pub type KeyJoins = Either<SelfJoin, ParentJoin>;
+
+/// The rules on left joins, and on equal members of a union.
+pub type LeftJoins = Either<LeftToJoin, Either<EqualMembers, UnusedLeft>>;
 
 /// The rules on conditions: equalities of terms, what is decided, and tests for NULL.
 pub type Conditions = Either<TermEquality, Either<SimplifyCondition, SimplifyNull>>;
@@ -41,9 +52,10 @@ pub fn rules() -> Rules
 {
     let moves = moves();
     let flatten = flatten();
-    let spreads = spreads();
+    let removals = removals();
     let conditions = conditions();
-    let unions = or_else(spreads, conditions);
+    let fewer = or_else(removals, conditions);
+    let unions = or_else(DistributeUnion, fewer);
     let flat = or_else(flatten, unions);
     let empty = or_else(PropagateEmpty, flat);
     let moved = or_else(moves, empty);
@@ -67,13 +79,37 @@ fn flatten() -> Flatten
     or_else(JoinInJoin, few)
 }
 
-#[tactic(auto, unfolding(crate::specs::NormalForm::spreads))]
-fn spreads() -> Spreads
-    ensures { ⟦<Spreads as Rewrite>⟧.becomes result ≡ all_spreading }
+#[tactic(auto, unfolding(crate::specs::NormalForm::removals))]
+fn removals() -> Removals
+    ensures { ⟦<Removals as Rewrite>⟧.becomes result ≡ all_removals }
 {
-    let members = or_else(LeftToJoin, EqualMembers);
-    let distinct = or_else(DistinctDistinct, members);
-    or_else(DistributeUnion, distinct)
+    let distincts = distincts();
+    let key_joins = key_joins();
+    let left_joins = left_joins();
+    let joins = or_else(key_joins, left_joins);
+    or_else(distincts, joins)
+}
+
+#[tactic(auto, unfolding(crate::specs::NormalForm::distincts))]
+fn distincts() -> Distincts
+    ensures { ⟦<Distincts as Rewrite>⟧.becomes result ≡ all_distincts }
+{
+    or_else(DistinctUnique, DistinctDistinct)
+}
+
+#[tactic(auto, unfolding(crate::specs::NormalForm::key_joins))]
+fn key_joins() -> KeyJoins
+    ensures { ⟦<KeyJoins as Rewrite>⟧.becomes result ≡ all_key_joins }
+{
+    or_else(SelfJoin, ParentJoin)
+}
+
+#[tactic(auto, unfolding(crate::specs::NormalForm::left_joins))]
+fn left_joins() -> LeftJoins
+    ensures { ⟦<LeftJoins as Rewrite>⟧.becomes result ≡ all_left_joins }
+{
+    let unused = or_else(EqualMembers, UnusedLeft);
+    or_else(LeftToJoin, unused)
 }
 
 #[tactic(auto, unfolding(crate::specs::NormalForm::conditions))]

@@ -1,7 +1,7 @@
 -- A node over a UnionAll becomes the UnionAll of the node over each member.
-use Rattle.std.specs.Prelude.{ℕ, ◌*◌, Bool, nat_le, length, Option, Some, None, is_some, option_map, if◌then◌else◌}
+use Rattle.std.specs.Prelude.{ℕ, ◌+◌, ◌*◌, max, Bool, nat_le, length, Option, Some, None, is_some, option_map, if◌then◌else◌}
 use Rattle.std.specs.Option.{option_or}
-use Rattle.vkg_plan.specs.Plan.{Plan, Plans, Select, Project, Join, Left, UnionAll, Nil, More, each}
+use Rattle.vkg_plan.specs.Plan.{Plan, Plans, Select, Project, Join, Left, UnionAll, Distinct, Nil, More, each}
 use Rattle.vkg_rules.specs.declared.rewrite.Fell.TheVariants as fell
 use Rattle.vkg_rules.specs.Steps.{Rule, Step}
 
@@ -16,14 +16,28 @@ first_union Nil = None
 first_union (More p ps) = option_or (union_members p) (first_union ps)
 
 -- how many members a UnionAll has; 1 of any other plan
-abbrev pub branches : Plan → ℕ
-branches (UnionAll us) = length (each us)
-branches p = 1
+abbrev pub members : Plan → ℕ
+members (UnionAll us) = length (each us)
+members p = 1
 
--- how many products come of one where each UnionAll in it gives way to one of its members
-abbrev pub branches_of_each : Plans → ℕ
-branches_of_each Nil = 1
-branches_of_each (More p ps) = branches p * branches_of_each ps
+-- how many plans come of one where each UnionAll in it gives way to one of its members; no member counts as one
+abbrev mutual
+  pub branches : Plan → ℕ
+  branches (Select c p) = branches p
+  branches (Project es p) = branches p
+  branches (Distinct p) = branches p
+  branches (Join ps c) = branches_product ps
+  branches (Left p q c) = branches p * branches q
+  branches (UnionAll us) = max 1 (branches_sum us)
+  branches p = 1
+
+  pub branches_product : Plans → ℕ
+  branches_product Nil = 1
+  branches_product (More p ps) = branches p * branches_product ps
+
+  pub branches_sum : Plans → ℕ
+  branches_sum Nil = 0
+  branches_sum (More p ps) = branches p + branches_sum ps
 
 -- at most so many nodes are made of one
 abbrev pub are_few : ℕ → Bool
@@ -33,8 +47,8 @@ are_few n = nat_le n 64
 abbrev pub union_under : Plan → Option Plans
 union_under (Select c p) = union_members p
 union_under (Project es p) = union_members p
-union_under (Join ps c) = if are_few (branches_of_each ps) then first_union ps else None
-union_under (Left p q c) = if are_few (branches p) then union_members p else None
+union_under (Join ps c) = if are_few (branches_product ps) then first_union ps else None
+union_under (Left p q c) = if are_few (members p) then union_members p else None
 union_under p = None
 
 -- the plans with this one in the place of their first UnionAll

@@ -1,4 +1,5 @@
 pub mod Additive
+pub mod Counted
 pub mod DistributeUnion
 pub mod DistributeUnionLaw
 pub mod Members

@@ -16,7 +16,7 @@ use Rattle.vkg_rules.specs.Steps.{IsTyped}
 use Rattle.vkg_rules.specs.Weights.{weight_positive}
 use Rattle.vkg_shapes.specs.PartsLaw.{if_given}
 use Rattle.vkg_spreads.specs.Additive.{IsAdditive, filter-additive, left-additive, map-additive, rows-additive}
-use Rattle.vkg_spreads.specs.DistributeUnion.{are_few, branches, branches_of_each, first_union, in_place, over, union_members, union_under}
+use Rattle.vkg_spreads.specs.DistributeUnion.{are_few, branches_product, first_union, in_place, members, over, union_members, union_under}
 use Rattle.vkg_spreads.specs.Members.{members-is, place-itself, place-of_union}
 
 -- what holds of a node over a plan, whatever the plan
@@ -94,9 +94,9 @@ module _ (s : Tables) where
   node-over (Select c p) us e = (select-over c p, ap (Select c) (members-is p us e))
   node-over (Project es p) us e = (project-over es p, ap (Project es) (members-is p us e))
   node-over (Join ps c) us e =
-      let a = if_given (are_few (branches_of_each ps)) (first_union ps) us e in
+      let a = if_given (are_few (branches_product ps)) (first_union ps) us e in
       (join-over ps us c a.1, ap (λ qs. Join qs c) (place-itself ps us a.1))
   node-over (Left p q c) us e =
-      let a = if_given (are_few (branches p)) (union_members p) us e in
+      let a = if_given (are_few (members p)) (union_members p) us e in
       (left-over p q c, ap (λ x. Left x q c) (members-is p us a.1))
   node-over _ us e = cc

@@ -4,7 +4,7 @@ ghost use Rattle.vkg_rules.specs.StepSeen.{plans_seen};
 ghost use Rattle.vkg_spreads.specs.DistributeUnion.{distribute_union, over_each as all_over, union_under as union_below};
 ghost use Rattle.vkg_spreads.specs.DistributeUnionLaw.{distribute_union-keeps, distribute_union-falls};
 
-use crate::branches::{MOST, are_few, branches};
+use crate::branches::{MOST, are_few, members};
 use crate::nodes::over;
 use crate::unions::{first_union, union_members};
 use std::alloc::Global;
@@ -57,7 +57,7 @@ fn union_under(plan: &Plan) -> Option<&[Plan]>
             }
         }
         Plan::Left(p, _, _) => {
-            if branches(p) <= MOST {
+            if members(p) <= MOST {
                 union_members(p)
             } else {
                 None

@@ -5,7 +5,8 @@
 //! the libraries since a crate with tests is proved twice, with them and without.
 //!
 //! - `vkg_shapes`, and the rules of rules of `vkg_rules`: plans and what each rule makes of them, as texts.
-//! - `vkg_conditions`, `vkg_nulls`, `vkg_unions`, `vkg_equalities`, `vkg_moves`, `vkg_lifts` and `vkg_spreads`: the same of their rules.
+//! - `vkg_conditions`, `vkg_nulls`, `vkg_unions`, `vkg_equalities`, `vkg_moves`, `vkg_lifts`, `vkg_spreads`, `vkg_key_joins` and `vkg_unique`:
+//!   the same of their rules.
 #![tactic(auto)]
 
 #[cfg(test)]
@@ -14,6 +15,8 @@ mod made;
 mod of_conditions;
 #[cfg(test)]
 mod of_equalities;
+#[cfg(test)]
+mod of_key_joins;
 #[cfg(test)]
 mod of_lifts;
 #[cfg(test)]
@@ -26,3 +29,5 @@ mod of_shapes;
 mod of_spreads;
 #[cfg(test)]
 mod of_unions;
+#[cfg(test)]
+mod of_unique;

@@ -2,7 +2,7 @@
 //
 // All are boxed: where a call fails, what is made by then is dropped, which is short of a box.
 use std::alloc::Global;
-use vkg_base::{Box, Items, Memory};
+use vkg_base::{Box, Items, Memory, Text};
 use vkg_cells::{Cell, SqlType};
 use vkg_expr::{Expr, Shared};
 use vkg_plan::{CheckedPlan, Plan, well_typed};
@@ -43,6 +43,28 @@ pub fn same(alloc: Global, a: MadeExpr, b: MadeExpr) -> MadeExpr {
     Box::new(alloc, Expr::Same(a, b))
 }
 
+fn text(alloc: Global, text: &str) -> MadeExpr {
+    let cell = Cell::Text(Text::new(alloc, text)?);
+    constant(alloc, cell, SqlType::Text)
+}
+
+pub fn form(alloc: Global, at: usize) -> MadeExpr {
+    let column = column(alloc, at)?;
+    Box::new(alloc, Expr::Lex(column))
+}
+
+fn safe(alloc: Global, at: usize) -> MadeExpr {
+    let form = form(alloc, at)?;
+    Box::new(alloc, Expr::IriSafe(form))
+}
+
+// The IRI of a text and the number in a column.
+pub fn numbered(alloc: Global, front: &str, at: usize) -> MadeExpr {
+    let pieces = both(alloc, text(alloc, front), safe(alloc, at))?;
+    let address = Box::new(alloc, Expr::Concat(pieces))?;
+    Box::new(alloc, Expr::MakeIri(Shared::from_box(alloc, address)?))
+}
+
 fn both(alloc: Global, a: MadeExpr, b: MadeExpr) -> Result<Items<Expr>, Memory> {
     let a = a?;
     let b = b?;
@@ -62,14 +84,28 @@ pub fn or(alloc: Global, a: MadeExpr, b: MadeExpr) -> MadeExpr {
     Box::new(alloc, Expr::Or(es))
 }
 
+pub fn table(alloc: Global, place: usize) -> Made {
+    Box::new(alloc, Plan::Scan(place))
+}
+
+// The first table.
 pub fn scan(alloc: Global) -> Made {
-    Box::new(alloc, Plan::Scan(0))
+    table(alloc, 0)
 }
 
 pub fn select(alloc: Global, c: MadeExpr, p: Made) -> Made {
     let c = c?;
     let p = p?;
     Box::new(alloc, Plan::Select(c.into_inner(), p))
+}
+
+// One value of each row.
+pub fn values(alloc: Global, e: MadeExpr, p: Made) -> Made {
+    let e = e?;
+    let p = p?;
+    let mut es = Items::new(alloc);
+    es.push(e.into_inner())?;
+    Box::new(alloc, Plan::Project(es, p))
 }
 
 // Two values of each row.

@@ -1,6 +1,6 @@
 use crate::made::{
-    Made, MadeExpr, and, by, column, constant, join, left, not, same, scan, select, truth, union,
-    unknown,
+    Made, MadeExpr, and, by, constant, form, join, left, not, numbered, same, scan, select, truth,
+    union, unknown,
 };
 use std::alloc::Global;
 use std::test::Fail;
@@ -12,35 +12,9 @@ use vkg_plan::Plan;
 use vkg_schema::read_schema;
 use vkg_terms::Term;
 
-fn text(alloc: Global, text: &str) -> MadeExpr {
-    let cell = Cell::Text(Text::new(alloc, text)?);
-    constant(alloc, cell, SqlType::Text)
-}
-
-fn form(alloc: Global, at: usize) -> MadeExpr {
-    let column = column(alloc, at)?;
-    Box::new(alloc, Expr::Lex(column))
-}
-
-fn safe(alloc: Global, at: usize) -> MadeExpr {
-    let form = form(alloc, at)?;
-    Box::new(alloc, Expr::IriSafe(form))
-}
-
-// The text of an employee's IRI.
-fn address(alloc: Global, at: usize) -> MadeExpr {
-    let front = text(alloc, "http://e/")?;
-    let number = safe(alloc, at)?;
-    let mut pieces = Items::new(alloc);
-    pieces.push(front.into_inner())?;
-    pieces.push(number.into_inner())?;
-    Box::new(alloc, Expr::Concat(pieces))
-}
-
 // The IRI of an employee whose number is in a column.
 fn employee(alloc: Global, at: usize) -> MadeExpr {
-    let address = Shared::from_box(alloc, address(alloc, at)?)?;
-    Box::new(alloc, Expr::MakeIri(address))
+    numbered(alloc, "http://e/", at)
 }
 
 fn blank(alloc: Global, at: usize) -> MadeExpr {

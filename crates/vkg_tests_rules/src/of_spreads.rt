@@ -65,3 +65,25 @@ fn unions_come_above_a_node(rt: HostRuntime) -> Result<(), Fail> {
     }
     Ok(())
 }
+
+#[test]
+fn a_join_of_more_than_64_products_stays(rt: HostRuntime) -> Result<(), Fail> {
+    let schema = read_schema(rt.alloc(), b"CREATE TABLE t (a INT PRIMARY KEY, b INT);")
+        .ok()
+        .ok_or("a schema")?;
+    for (levels, stays) in [(5, false), (6, true)] {
+        let mut plan = two(rt.alloc());
+        for _ in 0..levels {
+            plan = join(
+                rt.alloc(),
+                two(rt.alloc()),
+                turned(rt.alloc(), plan),
+                equal(rt.alloc()),
+            );
+        }
+        let plan = plan?;
+        let text = by(&DistributeUnion, rt.alloc(), &schema, &plan)?;
+        assert_eq!(rt; text.as_str() == "none", stays, "{levels}");
+    }
+    Ok(())
+}

@@ -83,6 +83,22 @@ class PlanMaker:
         kinds = tuple(self.chance.choice(["integer", "string", "term"]) for _ in range(self.chance.randint(0, 2)))
         return self.chance.choice(8 * [Scan(self.chance.randrange(len(self.tables)))] + 2 * [Unit()] + [Empty(kinds)])
 
+    def over_keys(self):
+        """Some columns of a join, or left join, of two tables by a key or a foreign key."""
+        ties = [(place, key, place, key) for place, table in enumerate(self.tables) for key in table.keys]
+        ties += [(place, key.columns, key.table, key.target) for place, table in enumerate(self.tables) for key in table.foreign_keys]
+        if not ties:
+            return self.leaf()
+        one, columns, other, targets = self.chance.choice(ties)
+        if self.chance.happens(0.5):
+            one, columns, other, targets = other, targets, one, columns
+        count = len(self.tables[one].columns)
+        pairs = [(Column(place), Column(count + target)) for place, target in zip(columns, targets)]
+        condition = conjunction([call("SAME", *self.chance.sample(pair, 2)) for pair in pairs])
+        joined = self.chance.choice([Join((Scan(one), Scan(other)), condition), Left(Scan(one), Scan(other), condition)])
+        named = [Column(place) for place in range(count)] + [target for _, target in pairs]
+        return Project(tuple(self.chance.sample(named, self.chance.randint(1, min(3, len(named))))), joined)
+
     def projection(self, kinds, depth):
         """A plan whose columns are of these kinds."""
         if self.chance.happens(0.15):
@@ -96,7 +112,7 @@ class PlanMaker:
     def plan(self, depth):
         """A plan of at most so many nodes one in the other."""
         if depth == 0:
-            return self.leaf()
+            return self.over_keys() if self.chance.happens(0.25) else self.leaf()
         inner = self.plan(depth - 1)
         kinds = kinds_of(inner, self.tables)
         node = self.chance.choice([Select, Project, Join, Join, Join, Left, UnionAll, UnionAll, Distinct])

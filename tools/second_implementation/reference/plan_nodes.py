@@ -103,6 +103,16 @@ def moved(expression, count):
     return expression
 
 
+def put_in(expression, others):
+    """An expression with others in the place of its columns."""
+    match expression:
+        case Column(place):
+            return others[place]
+        case Call(name, arguments):
+            return Call(name, tuple(put_in(one, others) for one in arguments))
+    return expression
+
+
 # ---- plans ----
 
 
@@ -274,6 +284,11 @@ def kinds_of(plan, tables):
         case UnionAll(members):
             return kinds_of(members[0], tables)
     return sum((kinds_of(one, tables) for one in subplans(plan)), ())
+
+
+def width(plans, tables):
+    """The number of columns of some plans together."""
+    return sum(len(kinds_of(plan, tables)) for plan in plans)
 
 
 # ---- text ----

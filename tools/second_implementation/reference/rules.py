@@ -6,14 +6,11 @@ changes nothing at the root. A row is kept where a condition is true, not where 
 import math
 
 from reference.conditions import is_strict, simplify_condition, simplify_null
-from reference.plan_nodes import (FALSE, TRUE, Call, Column, Distinct, Empty, Join, Left, Project, Select, Unit, UnionAll, columns_in, conjunction,
-                                  conjuncts, first_changed, kinds_of, moved, null, subplans, with_subplans)
+from reference.key_joins import parent_join, self_join
+from reference.plan_nodes import (FALSE, TRUE, Call, Column, Distinct, Empty, Join, Left, Project, Scan, Select, Unit, UnionAll, columns_in,
+                                  conjunction, conjuncts, first_changed, kinds_of, moved, null, put_in, subplans, width, with_subplans)
 from reference.term_equalities import term_equality
-
-
-def width(plans, tables):
-    """The number of columns of some plans together."""
-    return sum(len(kinds_of(plan, tables)) for plan in plans)
+from reference.uniqueness import is_unique
 
 
 def empty(plan, tables):
@@ -86,16 +83,6 @@ def condition_below(condition, inner, tables):
 def names_behind(expression, count):
     """Whether an expression names a column behind the first ones."""
     return any(count <= place for place in columns_in(expression))
-
-
-def put_in(expression, others):
-    """An expression with others in the place of its columns."""
-    match expression:
-        case Column(place):
-            return others[place]
-        case Call(name, arguments):
-            return Call(name, tuple(put_in(one, others) for one in arguments))
-    return expression
 
 
 def merge_projects(plan, tables):
@@ -198,8 +185,9 @@ def flat_union(plan):
 
 
 def branches(plan):
-    """How many members a union has; 1 of any other plan."""
-    return len(plan.members) if isinstance(plan, UnionAll) else 1
+    """How many plans come of one where each union in it gives way to one of its members; no member counts as one."""
+    parts = [branches(part) for part in subplans(plan)]
+    return max(1, sum(parts)) if isinstance(plan, UnionAll) else math.prod(parts)
 
 
 def over_union(plan):
@@ -209,8 +197,8 @@ def over_union(plan):
             return first_of(UnionAll, [inner])
         case Join(members, _) if math.prod(map(branches, members)) <= 64:
             return first_of(UnionAll, members)
-        case Left(left, _, _) if branches(left) <= 64:
-            return first_of(UnionAll, [left])
+        case Left(UnionAll(members), _, _) if len(members) <= 64:
+            return 0
     return None
 
 
@@ -221,6 +209,11 @@ def distribute_union(plan, tables):
         return None
     plans = tuple(subplans(plan))
     return UnionAll(tuple(with_subplans(plan, replaced(plans, place, [one])) for one in plans[place].members))
+
+
+def distinct_unique(plan, tables):
+    """DistinctUnique: a distinct over a plan no two of whose rows are equal is that plan."""
+    return plan.inner if isinstance(plan, Distinct) and is_unique(plan.inner, tables) else None
 
 
 def without_distinct(plan):
@@ -269,9 +262,31 @@ def equal_members(plan, tables):
     return None if place is None else Distinct(UnionAll(replaced(members, place, [])))
 
 
+def ties_value(condition, place, count):
+    """Whether a conjunct says that a column is equal to an expression over the first columns."""
+    match condition:
+        case Call("SAME", (one, other)):
+            return any(tied == Column(place) and not names_behind(value, count) for tied, value in [(one, other), (other, one)])
+    return False
+
+
+def unused_left(plan, tables):
+    """UnusedLeft: of a left join to a table, of which nothing is used, only the left side stays, where it has one partner at most."""
+    left = plan.inner if isinstance(plan, Project) else None
+    if not isinstance(left, Left) or not isinstance(left.right, Scan):
+        return None
+    count = width([left.left], tables)
+    keys = [[count + place for place in key] for key in tables[left.right.table].keys]
+    is_tied = any(all(any(ties_value(one, place, count) for one in conjuncts(left.condition)) for place in key) for key in keys)
+    if not is_tied or any(names_behind(one, count) for one in plan.expressions):
+        return None
+    return Project(plan.expressions, left.left)
+
+
 # The program's rules: of two that change a plan the first one does.
 RULES = [select_true, false_condition, merge_selects, merge_projects, lift_projects, propagate_empty, flatten, distribute_union,
-         distinct_distinct, left_to_join, equal_members, term_equality, simplify_condition, simplify_null]
+         distinct_unique, distinct_distinct, self_join, parent_join, left_to_join, equal_members, unused_left, term_equality,
+         simplify_condition, simplify_null]
 
 # What the program does not have yet, in the order in which it is to follow.
 LATER = []

@@ -1,0 +1,5 @@
+pub mod Listed
+pub mod GivenLists
+pub mod TiedNames
+pub mod Found
+pub mod Examples

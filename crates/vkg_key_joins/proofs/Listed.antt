@@ -1,0 +1,19 @@
+-- Plans in lists, as the program has them and as they are seen.
+use Rattle.std.proofs.Common.{◌≡◌, ℕ, List, [], ◌∷◌, ◌++◌, length, map, take, refl, ap}
+use Rattle.std.proofs.lemmas.List.{length-map, map-append}
+use Rattle.vkg_plan.specs.declared.plan.Plan.{Plan as PlanValue}
+use Rattle.vkg_plan.specs.Plan.{Plan, each, plans}
+use Rattle.vkg_plan.specs.Seen.{plan_seen}
+
+pub each_plans : (ps : List Plan) → each (plans ps) ≡ ps
+each_plans [] = refl
+each_plans (p ∷ ps) = ap (λ l. p ∷ l) (each_plans ps)
+
+pub both_seen : (ps qs : List PlanValue) → map plan_seen (ps ++ qs) ≡ map plan_seen ps ++ map plan_seen qs
+both_seen ps qs = map-append plan_seen ps qs
+
+pub both_plans : (ps qs : List PlanValue) → plans (map plan_seen (ps ++ qs)) ≡ plans (map plan_seen ps ++ map plan_seen qs)
+both_plans ps qs = ap plans (map-append plan_seen ps qs)
+
+pub before_length : (ps : List PlanValue) (at : ℕ) → length (map plan_seen (take at ps)) ≡ length (take at ps)
+before_length ps at = length-map (take at ps) plan_seen

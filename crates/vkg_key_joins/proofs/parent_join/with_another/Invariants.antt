@@ -1,0 +1,12 @@
+-- What is made of those that are left is made of all.
+use Rattle.std.proofs.Common.{◌≡◌, drop, map}
+use Rattle.vkg_expr.specs.Seen.{expr_seen}
+use Rattle.vkg_keys.specs.Members.{first_made}
+use Rattle.vkg_keys.specs.ScansSeen.{place_in}
+use Rattle.vkg_key_joins.specs.ParentJoin.{parent_joined}
+use Rattle.vkg_key_joins.proofs.parent_join.with_another.Given as goal
+
+abbrev pub invariant-loop-y : goal.invariant-loop-y
+invariant-loop-y l =
+    first_made (parent_joined l.schema (map expr_seen l.es) (expr_seen l.c) (place_in l.ps l.x)) (map (place_in l.ps) l.all)
+    ≡ first_made (parent_joined l.schema (map expr_seen l.es) (expr_seen l.c) (place_in l.ps l.x)) (map (place_in l.ps) (drop l.y-index l.all))

@@ -1,0 +1,12 @@
+pub mod Tables
+pub mod MembersLaw
+pub mod SelfJoin
+pub mod SelfJoinLaw
+pub mod ParentJoin
+pub mod ParentNames
+pub mod ParentRows
+pub mod ParentKinds
+pub mod ParentCells
+pub mod ParentBehind
+pub mod ParentBefore
+pub mod ParentJoinLaw

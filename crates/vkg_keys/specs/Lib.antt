@@ -1,0 +1,4 @@
+pub mod Keys
+pub mod Ties
+pub mod Members
+pub mod ScansSeen

@@ -1,0 +1,4 @@
+pub mod Earlier
+pub mod OneColumn
+pub mod Pairs
+pub mod Scans
