@@ -8,6 +8,7 @@ ghost use Rattle.vkg_chains.specs.Fix.{fix_of, run, foremost, first};
 ghost use Rattle.vkg_chains.specs.FixLaw.{fix-keeps, fix-falls};
 
 use std::alloc::Global;
+use std::mem;
 use vkg_base::Memory;
 use vkg_plan::Plan;
 use vkg_rules::{Fell, Rewrite};
@@ -52,11 +53,32 @@ fn finish<R: Rewrite>(
     ensures { IfOk result (λ x. step_seen x ≡ (let y = run (R.becomes rule.now) schema.now (plan_seen plan) in (y.1, foremost fell y.0))) }
 {
     let mut current = plan;
+    match to_the_end(rule, alloc, schema, &mut current, fell) {
+        Ok(least) => Ok((current, least)),
+        Err(error) => {
+            mem::drop(current);
+            Err(error)
+        }
+    }
+}
+
+/// The steps in place, until there is none, and the foremost of what fell.
+fn to_the_end<R: Rewrite>(
+    rule: &R,
+    alloc: Global,
+    schema: &Schema,
+    current: &mut Plan,
+    fell: Fell,
+) -> Result<Fell, Memory>
+    requires form { IsWellFormed schema.now }
+    requires typed { IsTyped schema.now (plan_seen current.old) }
+    ensures { IfOk result (λ f. step_seen (current.new, f) ≡ (let y = run (R.becomes rule.now) schema.now (plan_seen current.old) in (y.1, foremost fell y.0))) }
+{
     let mut least = fell;
-    while let Some(fell) = step(rule, alloc, schema, &mut current)? {
+    while let Some(fell) = step(rule, alloc, schema, current)? {
         least = foremost_of(least, fell);
     }
-    Ok((current, least))
+    Ok(least)
 }
 
 /// One step in place, if there is one.
@@ -73,7 +95,8 @@ fn step<R: Rewrite>(
     match rule.apply(alloc, schema, plan)? {
         None => Ok(None),
         Some((next, fell)) => {
-            *plan = next;
+            // (dropped by a call: `*plan = next` would have the drop of each kind of plan written out here)
+            mem::drop(mem::replace(plan, next));
             Ok(Some(fell))
         }
     }

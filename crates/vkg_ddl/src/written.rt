@@ -112,47 +112,52 @@ fn last_name(alloc: Global, token: &Name, columns: &[WrittenColumn]) -> Result<I
     }
 }
 
-fn edit_column(role: Role, token: &Name, column: WrittenColumn) -> Result<WrittenColumn, Memory>
-    ensures { IfOk result (λ c. c ≡ edit_column role token.now column) }
+fn edit_column(role: Role, token: &Name, column: &mut WrittenColumn) -> Result<(), Memory>
+    ensures { OnOk result (column.new ≡ edit_column role token.now column.old) }
 {
-    let mut column = column;
     match role {
-        Role::Kind => column.kind = token.copy()?,
-        Role::NotNull => column.not_null = true,
-        Role::Number => column.numbers.push(token.copy()?)?,
-        _ => {}
+        Role::Kind => {
+            column.kind = token.copy()?;
+            Ok(())
+        }
+        Role::NotNull => {
+            column.not_null = true;
+            Ok(())
+        }
+        Role::Number => column.numbers.push(token.copy()?),
+        _ => Ok(()),
     }
-    Ok(column)
 }
 
-fn edit_key(alloc: Global, role: Role, token: &Name, key: WrittenKey) -> Result<WrittenKey, Memory>
-    ensures { IfOk result (λ k. k ≡ edit_key role token.now key) }
+fn edit_key(alloc: Global, role: Role, token: &Name, key: &mut WrittenKey) -> Result<(), Memory>
+    ensures { OnOk result (key.new ≡ edit_key role token.now key.old) }
 {
-    let mut key = key;
     match role {
-        Role::KeyFirst => key.columns = one_name(alloc, token)?,
-        Role::KeyColumn => key.columns.push(token.copy()?)?,
-        _ => {}
+        Role::KeyFirst => {
+            key.columns = one_name(alloc, token)?;
+            Ok(())
+        }
+        Role::KeyColumn => key.columns.push(token.copy()?),
+        _ => Ok(()),
     }
-    Ok(key)
 }
 
-fn edit_reference(
-    role: Role,
-    token: &Name,
-    reference: WrittenReference,
-) -> Result<WrittenReference, Memory>
-    ensures { IfOk result (λ r. r ≡ edit_reference role token.now reference) }
+fn edit_reference(role: Role, token: &Name, reference: &mut WrittenReference) -> Result<(), Memory>
+    ensures { OnOk result (reference.new ≡ edit_reference role token.now reference.old) }
 {
-    let mut reference = reference;
     match role {
-        Role::References => reference.first = token.copy()?,
-        Role::Target => reference.table = token.copy()?,
-        Role::ChildColumn => reference.columns.push(token.copy()?)?,
-        Role::TargetColumn => reference.targets.push(token.copy()?)?,
-        _ => {}
+        Role::References => {
+            reference.first = token.copy()?;
+            Ok(())
+        }
+        Role::Target => {
+            reference.table = token.copy()?;
+            Ok(())
+        }
+        Role::ChildColumn => reference.columns.push(token.copy()?),
+        Role::TargetColumn => reference.targets.push(token.copy()?),
+        _ => Ok(()),
     }
-    Ok(reference)
 }
 
 fn edit_last_column(
@@ -162,10 +167,11 @@ fn edit_last_column(
 ) -> Result<(), Memory>
     ensures { OnOk result (columns.new ≡ on_last (edit_column role token.now) columns.old) }
 {
-    let Some(last) = columns.pop() else {
+    let Some(mut last) = columns.pop() else {
         return Ok(());
     };
-    columns.push(edit_column(role, token, last)?)
+    edit_column(role, token, &mut last)?;
+    columns.push(last)
 }
 
 fn edit_last_key(
@@ -176,10 +182,11 @@ fn edit_last_key(
 ) -> Result<(), Memory>
     ensures { OnOk result (keys.new ≡ on_last (edit_key role token.now) keys.old) }
 {
-    let Some(last) = keys.pop() else {
+    let Some(mut last) = keys.pop() else {
         return Ok(());
     };
-    keys.push(edit_key(alloc, role, token, last)?)
+    edit_key(alloc, role, token, &mut last)?;
+    keys.push(last)
 }
 
 fn edit_last_reference(
@@ -189,112 +196,85 @@ fn edit_last_reference(
 ) -> Result<(), Memory>
     ensures { OnOk result (references.new ≡ on_last (edit_reference role token.now) references.old) }
 {
-    let Some(last) = references.pop() else {
+    let Some(mut last) = references.pop() else {
         return Ok(());
     };
-    references.push(edit_reference(role, token, last)?)
+    edit_reference(role, token, &mut last)?;
+    references.push(last)
 }
 
-fn add_column(alloc: Global, token: &Name, table: WrittenTable) -> Result<WrittenTable, Memory>
-    ensures { IfOk result (λ t. t ≡ with_columns table (table.columns ++ new_column token.now ∷ [])) }
+// The editors of a table change it where it stands: a table that is passed on by value would be dropped at each way out.
+
+fn add_column(alloc: Global, token: &Name, table: &mut WrittenTable) -> Result<(), Memory>
+    ensures { OnOk result (table.new ≡ with_columns table.old (table.old.columns ++ new_column token.now ∷ [])) }
 {
-    let mut table = table;
-    table.columns.push(new_column(alloc, token)?)?;
-    Ok(table)
+    table.columns.push(new_column(alloc, token)?)
 }
 
-fn change_column(role: Role, token: &Name, table: WrittenTable) -> Result<WrittenTable, Memory>
-    ensures { IfOk result (λ t. t ≡ with_columns table (on_last (edit_column role token.now) table.columns)) }
+fn change_column(role: Role, token: &Name, table: &mut WrittenTable) -> Result<(), Memory>
+    ensures { OnOk result (table.new ≡ with_columns table.old (on_last (edit_column role token.now) table.old.columns)) }
 {
-    let mut table = table;
-    edit_last_column(role, token, &mut table.columns)?;
-    Ok(table)
+    edit_last_column(role, token, &mut table.columns)
 }
 
 fn add_column_key(
     alloc: Global,
     primary: bool,
     token: &Name,
-    table: WrittenTable,
-) -> Result<WrittenTable, Memory>
-    ensures { IfOk result (λ t. t ≡ with_key table (new_key primary token.now (last_name token.now table.columns))) }
+    table: &mut WrittenTable,
+) -> Result<(), Memory>
+    ensures { OnOk result (table.new ≡ with_key table.old (new_key primary token.now (last_name token.now table.old.columns))) }
 {
-    let mut table = table;
     let names = last_name(alloc, token, table.columns.as_slice())?;
-    table.keys.push(new_key(primary, token, names)?)?;
-    Ok(table)
+    table.keys.push(new_key(primary, token, names)?)
 }
 
 fn add_table_key(
     alloc: Global,
     primary: bool,
     token: &Name,
-    table: WrittenTable,
-) -> Result<WrittenTable, Memory>
-    ensures { IfOk result (λ t. t ≡ with_key table (new_key primary token.now (token.now ∷ []))) }
+    table: &mut WrittenTable,
+) -> Result<(), Memory>
+    ensures { OnOk result (table.new ≡ with_key table.old (new_key primary token.now (token.now ∷ []))) }
 {
-    let mut table = table;
     let names = one_name(alloc, token)?;
-    table.keys.push(new_key(primary, token, names)?)?;
-    Ok(table)
+    table.keys.push(new_key(primary, token, names)?)
 }
 
 fn change_key(
     alloc: Global,
     role: Role,
     token: &Name,
-    table: WrittenTable,
-) -> Result<WrittenTable, Memory>
-    ensures { IfOk result (λ t. t ≡ with_keys table (on_last (edit_key role token.now) table.keys)) }
+    table: &mut WrittenTable,
+) -> Result<(), Memory>
+    ensures { OnOk result (table.new ≡ with_keys table.old (on_last (edit_key role token.now) table.old.keys)) }
 {
-    let mut table = table;
-    edit_last_key(alloc, role, token, &mut table.keys)?;
-    Ok(table)
+    edit_last_key(alloc, role, token, &mut table.keys)
 }
 
-fn add_column_reference(
-    alloc: Global,
-    token: &Name,
-    table: WrittenTable,
-) -> Result<WrittenTable, Memory>
-    ensures { IfOk result (λ t. t ≡ with_reference table (new_reference token.now (last_name token.now table.columns))) }
+fn add_column_reference(alloc: Global, token: &Name, table: &mut WrittenTable) -> Result<(), Memory>
+    ensures { OnOk result (table.new ≡ with_reference table.old (new_reference token.now (last_name token.now table.old.columns))) }
 {
-    let mut table = table;
     let names = last_name(alloc, token, table.columns.as_slice())?;
-    table.references.push(new_reference(alloc, token, names)?)?;
-    Ok(table)
+    table.references.push(new_reference(alloc, token, names)?)
 }
 
-fn add_table_reference(
-    alloc: Global,
-    token: &Name,
-    table: WrittenTable,
-) -> Result<WrittenTable, Memory>
-    ensures { IfOk result (λ t. t ≡ with_reference table (new_reference token.now [])) }
+fn add_table_reference(alloc: Global, token: &Name, table: &mut WrittenTable) -> Result<(), Memory>
+    ensures { OnOk result (table.new ≡ with_reference table.old (new_reference token.now [])) }
 {
-    let mut table = table;
-    table
-        .references
-        .push(new_reference(alloc, token, Items::new(alloc))?)?;
-    Ok(table)
+    let names = Items::new(alloc);
+    table.references.push(new_reference(alloc, token, names)?)
 }
 
-fn change_reference(role: Role, token: &Name, table: WrittenTable) -> Result<WrittenTable, Memory>
-    ensures { IfOk result (λ t. t ≡ with_references table (on_last (edit_reference role token.now) table.references)) }
+fn change_reference(role: Role, token: &Name, table: &mut WrittenTable) -> Result<(), Memory>
+    ensures { OnOk result (table.new ≡ with_references table.old (on_last (edit_reference role token.now) table.old.references)) }
 {
-    let mut table = table;
-    edit_last_reference(role, token, &mut table.references)?;
-    Ok(table)
+    edit_last_reference(role, token, &mut table.references)
 }
 
 // What a token adds to the last table.
-fn edit(
-    alloc: Global,
-    role: Role,
-    token: &Name,
-    table: WrittenTable,
-) -> Result<WrittenTable, Memory>
-    ensures { IfOk result (λ t. t ≡ edit role token.now table) }
+fn edit(alloc: Global, role: Role, token: &Name, table: &mut WrittenTable) -> Result<(), Memory>
+    ensures { OnOk result (table.new ≡ edit role token.now table.old) }
 {
     match role {
         Role::Column => add_column(alloc, token, table),
@@ -313,7 +293,7 @@ fn edit(
         Role::References => change_reference(role, token, table),
         Role::Target => change_reference(role, token, table),
         Role::TargetColumn => change_reference(role, token, table),
-        _ => Ok(table),
+        _ => Ok(()),
     }
 }
 
@@ -328,8 +308,9 @@ pub fn act(
     if let Role::Table = role {
         return tables.push(new_table(alloc, token)?);
     }
-    let Some(last) = tables.pop() else {
+    let Some(mut last) = tables.pop() else {
         return Ok(());
     };
-    tables.push(edit(alloc, role, token, last)?)
+    edit(alloc, role, token, &mut last)?;
+    tables.push(last)
 }

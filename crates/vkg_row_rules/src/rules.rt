@@ -7,7 +7,7 @@ ghost use Rattle.vkg_maps.specs.Within.{IsOver, kinds_at as kinds_of_table};
 use crate::row_rule::RowRule;
 use crate::row_terms::{row_term, term_behind};
 use std::alloc::Global;
-use vkg_base::{Items, Memory, Text, at};
+use vkg_base::{Box, Items, Memory, Text, at};
 use vkg_cells::SqlType;
 use vkg_expr::TermExpr;
 use vkg_maps::{Join, QuadRule, TermMap};
@@ -43,16 +43,22 @@ fn row_rule(
 {
     let kinds = kinds_at(alloc, tables, rule.table)?;
     let join = copied(alloc, &rule.join)?;
+    // boxed until all are there: where a later one fails, the drop of a box is a call, and that of a term is written out
     let object = object_term(alloc, base, tables, kinds.as_slice(), &join, &rule.object)?;
-    let subject = row_term(alloc, base, kinds.as_slice(), &rule.subject)?;
+    let object = Box::new(alloc, object)?;
+    let subject = Box::new(
+        alloc,
+        row_term(alloc, base, kinds.as_slice(), &rule.subject)?,
+    )?;
     let predicate = row_term(alloc, base, kinds.as_slice(), &rule.predicate)?;
+    let predicate = Box::new(alloc, predicate)?;
     let graph = graph_term(alloc, base, kinds.as_slice(), &rule.graph)?;
     Ok(RowRule {
         table: rule.table,
         join,
-        subject,
-        predicate,
-        object,
+        subject: subject.into_inner(),
+        predicate: predicate.into_inner(),
+        object: object.into_inner(),
         graph,
     })
 }
