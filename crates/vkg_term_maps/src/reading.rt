@@ -1,6 +1,6 @@
 ghost use Rattle.std.specs.Prelude.{◌≡◌, IfOk};
 ghost use Rattle.vkg_term_maps.specs.FirstCheck.{IsFirst, failing_checks};
-ghost use Rattle.vkg_term_maps.specs.TermMaps.{Gives, column_map as map_of_column, constant_map as map_of_constant, natural_at as natural_of_column, of_kind as map_of_kind, term_map_of};
+ghost use Rattle.vkg_term_maps.specs.TermMaps.{Gives, column_map as map_of_column, constant as constant_kind, constant_map as map_of_constant, kind_at, natural_at as natural_of_column, no_properties, of_kind as map_of_kind, properties as properties_at, term_map_of};
 
 use crate::columns::column_of;
 use crate::error::{TermMapError, TermMapFault};
@@ -10,6 +10,7 @@ use crate::place::{Place, Role};
 use crate::template_map::template_map;
 use crate::term_type::{Properties, sort_of, type_of};
 use std::alloc::Global;
+use std::mem;
 use vkg_base::Memory;
 use vkg_cells::{is_wide_number, natural};
 use vkg_maps::TermMap;
@@ -43,16 +44,61 @@ fn term_map_at(
     ensures { Gives (term_map_of graph.now columns.now base.now role place.now) result }
 {
     match place {
-        Place::Constant(term) => {
-            let kind = constant(role, term.copy()?);
-            of_kind(alloc, role, &Properties::none(), columns, base, kind)
-        }
-        Place::Node(node) => {
-            let kind = read_kind(alloc, graph, role, node)?;
-            let properties = Properties::read(alloc, graph, node)?;
-            of_kind(alloc, role, &properties, columns, base, kind)
-        }
+        Place::Constant(term) => constant_at(alloc, role, term, columns, base),
+        Place::Node(node) => node_at(alloc, graph, role, node, columns, base),
     }
+}
+
+// Properties are let go by a call: a drop where a function is left is written out there, with that of each kind of term.
+
+/// The term map of a shortcut property.
+fn constant_at(
+    alloc: Global,
+    role: Role,
+    term: &Term,
+    columns: &[Column],
+    base: &str,
+) -> Result<TermMap, TermMapError>
+    ensures { Gives (map_of_kind role no_properties columns.now base.now (constant_kind role term.now)) result }
+{
+    let kind = constant(role, term.copy()?);
+    let properties = Properties::none();
+    let map = of_kind(alloc, role, &properties, columns, base, kind);
+    mem::drop(properties);
+    map
+}
+
+/// The term map at a node.
+fn node_at(
+    alloc: Global,
+    graph: &Graph<'_>,
+    role: Role,
+    node: &Term,
+    columns: &[Column],
+    base: &str,
+) -> Result<TermMap, TermMapError>
+    ensures { Gives (map_of_kind role (properties_at graph.now node.now) columns.now base.now (kind_at graph.now role node.now)) result }
+{
+    let properties = Properties::read(alloc, graph, node)?;
+    let map = with_properties(alloc, graph, role, node, columns, base, &properties);
+    mem::drop(properties);
+    map
+}
+
+/// The term map at a node that has these properties.
+fn with_properties(
+    alloc: Global,
+    graph: &Graph<'_>,
+    role: Role,
+    node: &Term,
+    columns: &[Column],
+    base: &str,
+    properties: &Properties,
+) -> Result<TermMap, TermMapError>
+    ensures { Gives (map_of_kind role properties.now columns.now base.now (kind_at graph.now role node.now)) result }
+{
+    let kind = read_kind(alloc, graph, role, node)?;
+    of_kind(alloc, role, properties, columns, base, kind)
 }
 
 fn of_kind(

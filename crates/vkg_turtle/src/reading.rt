@@ -8,7 +8,7 @@ use crate::parsing::read_document;
 use crate::repeats::without_repeats;
 use crate::triple::Triple;
 use std::alloc::Global;
-use std::str;
+use std::{mem, str};
 use thiserror::Error;
 use vkg_base::{Items, Memory};
 use vkg_tokens::{Lang, without_mark};
@@ -64,9 +64,22 @@ fn read_text(alloc: Global, bytes: &[u8], base: &str) -> Result<Items<Triple>, T
     };
     let document = read_document(alloc, text, base)?;
     if let Some(found) = fault_of(&document) {
+        mem::drop(document);
         return Err(TurtleError::Fault(found));
     }
-    Ok(without_repeats(alloc, document.triples)?)
+    let triples = triples_of(alloc, document);
+    Ok(without_repeats(alloc, triples)?)
+}
+
+/// The triples of a document, the rest of which is let go. By a call: a drop at the end of a scope is written out there, with that
+/// of each kind of term in it.
+fn triples_of(alloc: Global, document: Document) -> Items<Triple>
+    ensures { result ≡ document.triples }
+{
+    let mut document = document;
+    let triples = mem::replace(&mut document.triples, Items::new(alloc));
+    mem::drop(document);
+    triples
 }
 
 /// The triples of a document (RDF 1.1 Turtle), whose IRI references are resolved against `base` where it gives no other.

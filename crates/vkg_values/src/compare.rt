@@ -1,7 +1,7 @@
 ghost use Rattle.std.specs.Prelude.{◌≡◌, IfOk, IfSome};
 ghost use Rattle.std.specs.Option.{option_copied};
 ghost use Rattle.vkg_cells.specs.Order.{HasNumber, order as order_of};
-ghost use Rattle.vkg_values.specs.Known.{widest};
+ghost use Rattle.vkg_values.specs.Known.{known as value_of, widest};
 ghost use Rattle.vkg_values.specs.Operators.{compare_value, compared, compared_values, equal, equal_where, is_literal as is_literal_term, is_one_sort as are_of_one_sort, term_equal};
 
 use crate::known::known_value;
@@ -9,6 +9,7 @@ use crate::logic::negation;
 use crate::operator::Compare;
 use std::alloc::Global;
 use std::cmp::Ordering;
+use std::mem;
 use vkg_base::Memory;
 use vkg_cells::{Cell, order};
 use vkg_terms::Term;
@@ -37,11 +38,33 @@ pub fn compare_terms(
 fn order_terms(alloc: Global, a: &Term, b: &Term) -> Result<Option<Ordering>, Memory>
     ensures { IfOk result (λ o. o ≡ compared widest a.now b.now) }
 {
-    let a = known_value(alloc, a)?;
-    let b = known_value(alloc, b)?;
-    match (&a, &b) {
-        (Some(c), Some(d)) => Ok(order_values(c, d)),
-        _ => Ok(None),
+    let value = known_value(alloc, a)?;
+    let order = order_after(alloc, &value, b);
+    mem::drop(value);
+    order
+}
+
+// Cells are let go by a call: a drop where a function is left is written out there, with that of each kind of cell.
+
+/// The order of a value and the known value of a term.
+fn order_after(alloc: Global, value: &Option<Cell>, b: &Term) -> Result<Option<Ordering>, Memory>
+    requires { IfSome value.now HasNumber }
+    ensures { IfOk result (λ o. o ≡ compared_values value.now (value_of widest b.now)) }
+{
+    let other = known_value(alloc, b)?;
+    let order = order_known(value, &other);
+    mem::drop(other);
+    Ok(order)
+}
+
+fn order_known(a: &Option<Cell>, b: &Option<Cell>) -> Option<Ordering>
+    requires first { IfSome a.now HasNumber }
+    requires second { IfSome b.now HasNumber }
+    ensures { result ≡ compared_values a.now b.now }
+{
+    match (a, b) {
+        (Some(c), Some(d)) => order_values(c, d),
+        _ => None,
     }
 }
 
