@@ -12,6 +12,7 @@ ghost use Rattle.vkg_shapes.specs.Without.{holds_at, without_at, without_first};
 use crate::parts::{emptied, padded};
 use crate::without::{is_lone, removed, without};
 use std::alloc::Global;
+use std::mem;
 use vkg_base::{Box, Items, Memory};
 use vkg_plan::{Plan, plan_kinds};
 use vkg_rules::{Answer, Fell, Rewrite, answered, last_turn, unchanged};
@@ -177,7 +178,10 @@ fn members(alloc: Global, plan: Plan) -> Items<Plan>
 {
     match plan {
         Plan::UnionAll(ps) => ps,
-        _ => Items::new(alloc),
+        _ => {
+            mem::drop(plan);
+            Items::new(alloc)
+        }
     }
 }
 
