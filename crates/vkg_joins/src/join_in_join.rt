@@ -14,7 +14,7 @@ ghost use Rattle.vkg_joins.specs.JoinInJoinLaw.{join_in_join-keeps, join_in_join
 ghost use Rattle.vkg_joins.specs.MembersSeen.{members_seen};
 
 use std::alloc::Global;
-use vkg_base::{Items, Memory};
+use vkg_base::{Box, Items, Memory};
 use vkg_cells::SqlType;
 use vkg_columns::{and_then, moved};
 use vkg_expr::Expr;
@@ -72,6 +72,8 @@ fn rejoined(
     match plans {
         None => Ok(None),
         Some((ps, inner)) => {
+            // (boxed, so that its drop is a call)
+            let inner = Box::new(alloc, inner)?;
             let both = and_then(alloc, &inner, c)?;
             Ok(Some((Plan::Join(ps, both), Fell::Weight)))
         }
