@@ -132,7 +132,7 @@ fn push_values<'s>(row: &mut Row<'s>, values: &'s [Value<'_>]) -> Result<(), Mem
 fn copies(alloc: Global, values: &[Value<'_>]) -> Result<Items<Cell>, Memory>
     ensures { IfOk result (λ cells. cells ≡ values.now) }
 {
-    let mut out = Items::new(alloc);
+    let mut out = Items::from_vec(Vec::with_capacity(alloc, values.len())?);
     for value in values {
         out.push(value.shown().to_cell(alloc)?)?;
     }
