@@ -12,6 +12,7 @@ use crate::conditions::{and_of, conjuncts};
 use crate::recognition::recognised;
 use crate::table_columns::flag_at;
 use std::alloc::Global;
+use std::mem;
 use vkg_base::{Box, Memory};
 use vkg_cells::{Cell, SqlType};
 use vkg_expr::{Expr, Piece, TermExpr, copy_exprs};
@@ -94,12 +95,17 @@ fn both_compared(
     ensures { IfOk result (λ o. option_map expr_seen o ≡ both_of e f) }
 {
     let Some(e) = e else {
+        mem::drop(f);
         return Ok(None);
     };
     let Some(f) = f else {
+        mem::drop(e);
         return Ok(None);
     };
-    Ok(Some(verdict_expr(verdict(alloc, &e, &f)?)))
+    let found = verdict(alloc, &e, &f);
+    mem::drop(e);
+    mem::drop(f);
+    Ok(Some(verdict_expr(found?)))
 }
 
 /// An equality of two terms over columns of these kinds, of which the flagged ones are columns of tables, as its verdict.

@@ -3,7 +3,7 @@ ghost use Rattle.std.specs.Prelude.{◌≡◌, ◌++◌, [], ◌∷◌, map, fla
 ghost use Rattle.vkg_maps.specs.QuadRules.{object_rule, parent_of, join_on, targets, predicate_object_rules, class_map as class_map_of, map_rules, quad_rules};
 
 use std::alloc::Global;
-use vkg_base::{Items, Memory, Text};
+use vkg_base::{Box, Items, Memory, Text};
 use vkg_maps::{Join, Mapping, ObjectMap, PredicateObjectMap, QuadRule, TermMap, TriplesMap};
 use vkg_terms::Term;
 use vkg_terms::vocabulary::RDF_TYPE;
@@ -177,16 +177,18 @@ fn made(
 ) -> Result<QuadRule, Memory>
     ensures { IfOk result (λ r. r ≡ record { table = m.now.table; join = join; subject = m.now.subject; predicate = p.now; object = o.now; graph = graph }) }
 {
-    let subject = m.subject.copy(alloc)?;
-    let predicate = p.copy(alloc)?;
+    // boxed until all are there: where a later one fails, the drop of a box is a call, and that of a term map is written out
+    let graph = Box::new(alloc, graph)?;
+    let subject = Box::new(alloc, m.subject.copy(alloc)?)?;
+    let predicate = Box::new(alloc, p.copy(alloc)?)?;
     let object = o.copy(alloc)?;
     Ok(QuadRule {
         table: m.table,
         join,
-        subject,
-        predicate,
+        subject: subject.into_inner(),
+        predicate: predicate.into_inner(),
         object,
-        graph,
+        graph: graph.into_inner(),
     })
 }
 

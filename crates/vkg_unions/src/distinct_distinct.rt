@@ -6,6 +6,7 @@ ghost use Rattle.vkg_unions.specs.DistinctDistinct.{distinct_distinct, none_at, 
 ghost use Rattle.vkg_unions.specs.DistinctDistinctLaw.{distinct_distinct-keeps, distinct_distinct-falls};
 
 use std::alloc::Global;
+use std::mem;
 use vkg_base::{Box, Items, Memory};
 use vkg_plan::Plan;
 use vkg_rules::nodes::{
@@ -113,7 +114,10 @@ fn member_has_none(alloc: Global, ps: &[Plan], at: usize, place: &[usize]) -> Re
 fn has_none(alloc: Global, plan: &Plan) -> Result<bool, Memory>
     ensures { IfOk result (λ b. b ≡ is_none (everywhere without_distinct (plan_seen plan.now))) }
 {
-    Ok(first_dropped(alloc, plan)?.is_none())
+    let found = first_dropped(alloc, plan)?;
+    let none = found.is_none();
+    mem::drop(found);
+    Ok(none)
 }
 
 /// The plan without its first Distinct, if it has one.
