@@ -14,6 +14,7 @@ not installed nothing is compared, which is said. The gate does not run this.
 import argparse
 import io
 import os
+import re
 import subprocess
 import sys
 import tempfile
@@ -41,6 +42,14 @@ HERE = "SET client_min_messages = warning; DROP SCHEMA IF EXISTS here CASCADE; C
 # The plans of large queries are deep, and those of wide ones are not worth compiling.
 SETTINGS = {"max_stack_depth": "6MB", "jit": "off", "statement_timeout": "60s"}
 MOST_ROWS = 5000
+ENDS = ";\n"
+ESCAPES = {"b": "\b", "f": "\f", "n": "\n", "r": "\r", "t": "\t", "v": "\v"}
+
+
+def copied_line(line):
+    """A line of COPY's text format as `vkg query` has it; psql itself prints no character that Unicode has set apart, as U+10FFFF."""
+    fields = ["" if one == r"\N" else re.sub(r"\\(.)", lambda found: ESCAPES.get(found[1], found[1]), one) for one in line.split("\t")]
+    return "\t".join(fields)
 
 
 class Tables:
@@ -61,7 +70,8 @@ class Tables:
         with tempfile.TemporaryDirectory() as room:
             parts = [HERE, script.getvalue(), "\\set ON_ERROR_STOP off\n"]
             for number, query in enumerate(queries):
-                parts.append(f"\\o '{room}/{number}'\n{query}\\o '{room}/{number}.end'\n\\qecho :SQLSTATE :LAST_ERROR_MESSAGE\n")
+                parts.append(f"\\o '{room}/{number}'\nCOPY ({query.rstrip(ENDS)}) TO STDOUT;\n"
+                             f"\\o '{room}/{number}.end'\n\\qecho :SQLSTATE :LAST_ERROR_MESSAGE\n")
             ended = self.psql("".join(parts))
             if ended.returncode != 0:
                 return [Ending(ended.returncode, "", ended.stderr.decode())] * len(queries)
@@ -74,7 +84,7 @@ class Tables:
             state = end.read()
             if not state.startswith("00000"):
                 return Ending(1, "", state)
-            return Ending(0, lines_text(in_byte_order(output.read().split("\n")[:-1])))
+            return Ending(0, lines_text(in_byte_order(map(copied_line, output.read().split("\n")[:-1]))))
 
     def compare(self, name, schema, data, asked):
         """Compares PostgreSQL's rows over the files of a case with what is expected.

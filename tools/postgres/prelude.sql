@@ -1,5 +1,5 @@
 -- The functions of a plan's notation, for the queries that plan.py writes (docs/DEFINITIONS.md, `value_of`). They stand in a schema
--- of their own, vkg, and may be loaded again. PostgreSQL 13 or later, a database in UTF-8.
+-- of their own, vkg, and may be loaded again. They ask for a database in UTF-8; PostgreSQL 15 is what they were tried with.
 --
 -- A term is its text in N-Quads; an error of SPARQL is NULL. Functions of one SELECT without STRICT are written out where they are
 -- called, so that the planner sees through them; only safe, blank and what takes literals apart are called for each row.
@@ -22,7 +22,7 @@ $$ SELECT x::text COLLATE "C" $$;
 
 -- without zeros at the end of the fraction
 CREATE OR REPLACE FUNCTION vkg.lex(x numeric) RETURNS text LANGUAGE sql IMMUTABLE PARALLEL SAFE AS
-$$ SELECT trim_scale(x)::text COLLATE "C" $$;
+$$ SELECT CASE WHEN x::text LIKE '%.%' THEN rtrim(rtrim(x::text, '0'), '.') ELSE x::text END COLLATE "C" $$;
 
 CREATE OR REPLACE FUNCTION vkg.lex(x boolean) RETURNS text LANGUAGE sql IMMUTABLE PARALLEL SAFE AS
 $$ SELECT x::text COLLATE "C" $$;
@@ -42,15 +42,15 @@ $$ SELECT upper(encode(x, 'hex')) COLLATE "C" $$;
 
 -- ---- IRIs and blank nodes ----
 
--- R2RML, 7.3, IRI-safe version, of a text that needs it: each character outside iunreserved (RFC 3987, 2.2) as its octets
+-- R2RML, 7.3, IRI-safe version, of a text that is not empty: each character outside iunreserved (RFC 3987, 2.2) as its octets
 CREATE OR REPLACE FUNCTION vkg.encoded(x text) RETURNS text LANGUAGE sql IMMUTABLE PARALLEL SAFE AS
 $$
-  SELECT coalesce(string_agg(
+  SELECT string_agg(
       CASE WHEN c ~ ('[A-Za-z0-9._~\u00A0-\uD7FF\uF900-\uFDCF\uFDF0-\uFFEF\U00010000-\U0001FFFD\U00020000-\U0002FFFD'
                      '\U00030000-\U0003FFFD\U00040000-\U0004FFFD\U00050000-\U0005FFFD\U00060000-\U0006FFFD\U00070000-\U0007FFFD'
                      '\U00080000-\U0008FFFD\U00090000-\U0009FFFD\U000A0000-\U000AFFFD\U000B0000-\U000BFFFD\U000C0000-\U000CFFFD'
                      '\U000D0000-\U000DFFFD\U000E1000-\U000EFFFD-]') THEN c
-           ELSE regexp_replace(upper(encode(convert_to(c, 'UTF8'), 'hex')), '(..)', '%\1', 'g') END, '' ORDER BY place), '')
+           ELSE regexp_replace(upper(encode(convert_to(c, 'UTF8'), 'hex')), '(..)', '%\1', 'g') END, '' ORDER BY place)
   FROM unnest(string_to_array(x, NULL)) WITH ORDINALITY AS characters (c, place)
 $$;
 
