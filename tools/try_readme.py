@@ -26,7 +26,7 @@ from comparisons.readme import as_shown, shown_in
 from server import Server, folder_of_programs
 
 DOCUMENTS = ["README.md", *sorted(str(path.relative_to(TOP)) for path in (TOP / "docs").glob("*.md"))]
-TRIED = ("./vkg ", "cat ", "python3 ", "tools/check_mapping.py ", "tools/postgres/")
+TRIED = ("./vkg ", "cat ", "echo ", "python3 ", "tools/check_mapping.py ", "tools/postgres/")
 IN_POSTGRES = "| psql "
 NOT_BUILT = 70
 COMPANY = "examples/company"

@@ -87,7 +87,7 @@ class Tables:
             return Ending(0, lines_text(in_byte_order(map(copied_line, output.read().split("\n")[:-1]))))
 
     def compare(self, name, schema, data, asked):
-        """Compares PostgreSQL's rows over the files of a case with what is expected.
+        """Compares PostgreSQL's rows over the files of a case with what is expected, and gives how many plans were compared.
 
         `asked` has for each plan the words of its call, the folder of its files, the plan and the lines that are expected.
         """
@@ -103,9 +103,10 @@ class Tables:
         except Refused as refused:
             for one in kept:
                 self.refused(name, one, refused)
-            return
+            return 0
         for (words, folder, _, lines), ending in zip(kept, endings):
             self.comparison.check(f"{name}, rows of the plan", words, folder, Ending(0, lines), ending)
+        return len(kept)
 
     def refused(self, name, one, refused):
         """A plan or a case that is not taken: what PostgreSQL cannot hold is counted, all else is a difference."""
@@ -152,9 +153,9 @@ def compare_random(tables, seed, folder):
     for _ in queries_of(tables.comparison, case, seed, folder):
         asked.append(asked_of(tables.comparison, case.words("query"), folder))
     asked = [one for one in asked if one is not None]
-    if asked:
-        tables.compare("random queries", case.files["schema.sql"].encode(), os.path.join(folder, "data"), asked)
-    return len(asked)
+    if not asked:
+        return 0
+    return tables.compare("random queries", case.files["schema.sql"].encode(), os.path.join(folder, "data"), asked)
 
 
 def compare_plans(tables, seed, folder):
@@ -169,8 +170,7 @@ def compare_plans(tables, seed, folder):
             terms = [Column(place) if kind == "term" else call("LIT", call("LEX", Column(place))) for place, kind in enumerate(kinds)]
             text = plan_text(Project(tuple(terms), plan), case.tables)
             asked.append(([f"plan {number}", text], folder, text, lines_text(plan_lines(text, case.tables))))
-    tables.compare("random plans", case.files["schema.sql"].encode(), os.path.join(folder, "data"), asked)
-    return len(asked)
+    return tables.compare("random plans", case.files["schema.sql"].encode(), os.path.join(folder, "data"), asked)
 
 
 def compare_cases(tables, compare, wanted):

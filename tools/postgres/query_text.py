@@ -108,5 +108,6 @@ class QueryWriter:
         """A left join. A condition of the right side is asked of pairs; one of the left side may be asked behind the join."""
         one, other = self.side(left), self.side(right)
         found = self.where(Block([], other.conditions, one.row + other.row), condition)
-        source = f"{side_by_side(one.sources)} LEFT JOIN {side_by_side(other.sources)} ON {' AND '.join(found.conditions) or 'TRUE'}"
-        return Block([f"({source})"], one.conditions, found.row)
+        on = " AND ".join(found.conditions) or "TRUE"
+        source = f"({side_by_side(one.sources)}\n     LEFT JOIN {side_by_side(other.sources)}\n     ON {on})"
+        return Block([source], one.conditions, found.row)
