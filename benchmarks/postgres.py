@@ -5,8 +5,8 @@ line for loading and one a query: rows, processor seconds of each.
 usage: benchmarks/postgres.py [--explain] [N ..]     (default: 100000; build the program first; VKG names another program)
 
 PostgreSQL is a server of its own (tools/postgres/server.py), with one process a query. Its seconds are those of that process, from the text of
-the query to the last row sent; those of `vkg query` hold the reading and checking of the tables, whose own line is `load`, the copying and
-checking of them in PostgreSQL. The lines of both are compared once they are sorted. With `--explain` the plans that PostgreSQL chose are
+the query to the last row sent; those of `vkg query` hold the reading and checking of the tables, which the query `load` does alone. `tables` tells
+what copying and checking them once cost in PostgreSQL. The lines of both are compared once they are sorted. With `--explain` the plans that PostgreSQL chose are
 printed, too. The queries are some of query.py's, and `point`, which asks for one employee's name by the employee's IRI.
 """
 import argparse
@@ -24,12 +24,12 @@ from load import write_script
 from plan import query_of
 from server import Server, folder_of_programs
 
-ASKED = ('names', 'departments', 'optional', 'typed', 'twice', 'union')
+ASKED = ('load', 'names', 'departments', 'optional', 'union')
 DISTINCT = queries.COMPANY + 'DISTINCT ?n { ?e e:name ?n }'
 POINT = queries.COMPANY + '?n { <http://e/emp/id=%d> e:name ?n }'
 PRELUDE = os.path.join(os.path.dirname(os.path.abspath(__file__)), '..', 'tools', 'postgres', 'prelude.sql')
 # One processor a query, as `vkg` has it.
-SETTINGS = {'max_parallel_workers_per_gather': '0', 'jit': 'off', 'shared_buffers': '512MB', 'work_mem': '128MB'}
+SETTINGS = {'max_parallel_workers_per_gather': '0', 'jit': 'off', 'client_min_messages': 'warning', 'shared_buffers': '512MB', 'work_mem': '128MB'}
 # The clock ticks that the process of a session has used so far: the 14th and 15th field of its line in /proc.
 TICKS = "SELECT f[12]::bigint + f[13]::bigint FROM regexp_split_to_array(regexp_replace(pg_read_file('/proc/self/stat', 0, 1000), '.*\\) ', ''), ' ') AS f;"
 
@@ -58,7 +58,7 @@ def load(server, folder, employees):
     with open(folder + '/load.sql', encoding='utf-8', newline='') as file:
         ticks = psql(server, TICKS + '\n' + file.read() + TICKS + '\n', subprocess.PIPE).split()
     size = psql(server, "SELECT pg_total_relation_size('emp') + pg_total_relation_size('dept')", subprocess.PIPE)
-    print('load %d: %.2f s, %d MiB of tables and indexes' % (employees, (int(ticks[1]) - int(ticks[0])) / os.sysconf('SC_CLK_TCK'), int(size) >> 20), flush=True)
+    print('tables %d: %.2f s, %d MiB of tables and indexes' % (employees, (int(ticks[1]) - int(ticks[0])) / os.sysconf('SC_CLK_TCK'), int(size) >> 20), flush=True)
 
 
 def lines_of(path):
