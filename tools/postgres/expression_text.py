@@ -208,7 +208,8 @@ def value_by_values(name, arguments, row):
     if name == "EBV":
         return truth_by_value(sort, *values)
     one, other = alike(*values)
-    collation = ' COLLATE "C"' if sort in ("string", *MOMENTS) and name not in ("EQ", "NE") else ""
+    is_text = one.kind == "string" or one.is_form and other.is_form  # a column of moments may be none
+    collation = ' COLLATE "C"' if is_text and name not in ("EQ", "NE") else ""
     return truth(f"({one.text} {SIGNS[name]} {other.text}{collation})")
 
 
