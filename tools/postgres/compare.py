@@ -4,9 +4,9 @@
 usage: tools/postgres/compare.py --vkg PROGRAM [options]
 
 It starts a PostgreSQL of its own in a new folder (server.py), loads the files of a case (load.py), and runs each plan as plan.py writes
-it: every query of crates/vkg_cases that is answered, those of examples/company, and random ones of tools/second_implementation over
-random databases. `--plans N` runs N random plans, too, with rows and forms that no query's plan has; their rows are those that the second
-implementation gives.
+it: every query of crates/vkg_cases that is answered, those of examples/company, a filter for each operator over all pairs of many terms, and
+random queries of tools/second_implementation over random databases. `--plans N` runs N random plans, too, with nodes and expressions that no
+query's plan has; their rows are those that the second implementation gives.
 
 The counts are printed at the end. A difference is told, its files are kept in a folder of FOUND, and the status is 1. Where PostgreSQL is
 not installed nothing is compared, which is said. The gate does not run this.
@@ -25,15 +25,17 @@ from plan import DEEPEST, query_of
 from second_implementation import TOP
 from server import Server, folder_of_programs
 
+from comparisons import operators
 from comparisons.program import Comparison
 from comparisons.queries import queries_of
 from random_inputs.cases import random_case
 from random_inputs.chance import Chance
 from random_inputs.plans import PlanMaker, most_rows
+from random_inputs.terms import IRIS, LITERALS
 from reference.calls import Ending, lines_text
-from reference.plan_nodes import Column, Project, call, kinds_of, plan_text
+from reference.plan_nodes import Column, Project, call, expression_kind, kinds_of, plan_text, term_constant, text_constant
 from reference.plans import plan_lines
-from reference.rdf import in_byte_order
+from reference.rdf import XSD, in_byte_order
 from reference.refusal import Refused
 
 CASES = TOP / "crates/vkg_cases/data"
@@ -158,8 +160,37 @@ def compare_random(tables, seed, folder):
     return tables.compare("random queries", case.files["schema.sql"].encode(), os.path.join(folder, "data"), asked)
 
 
+def compare_operators(tables, folder):
+    """Compares the filters of each operator over all terms and pairs of terms."""
+    case, asked = operators.the_case(), []
+    for text in operators.OF_TWO + operators.OF_ONE:
+        tables.comparison.case = text
+        case.files["query.rq"] = operators.query_of(text)
+        case.write(folder)
+        asked.append(asked_of(tables.comparison, case.words("query"), folder))
+    tables.compare("operators", case.files["schema.sql"].encode(), os.path.join(folder, "data"), [one for one in asked if one])
+
+
+def random_term(chance, kinds):
+    """An expression for a term: a column, as a literal where it is none, mostly of its own datatype, or a constant."""
+    if not kinds or chance.happens(0.4):
+        return term_constant(chance.choice(LITERALS + IRIS))
+    place = chance.randrange(len(kinds))
+    if kinds[place] == "term":
+        return Column(place)
+    is_plain = kinds[place] == "string" or chance.happens(0.3)
+    return call("LIT", call("LEX", Column(place)), *[] if is_plain else [text_constant("^^" + XSD + kinds[place])])
+
+
+def random_operator(chance, kinds):
+    """An operator of SPARQL on random terms."""
+    if chance.happens(0.6):
+        return call(chance.choice(["EQ", "NE", "LT", "GT", "LE", "GE"]), random_term(chance, kinds), random_term(chance, kinds))
+    return call(chance.choice(["EBV", "STR", "LANG", "DATATYPE", "IS_IRI", "IS_BLANK", "IS_LITERAL", "IS_NUMERIC"]), random_term(chance, kinds))
+
+
 def compare_plans(tables, seed, folder):
-    """Compares random plans over one random database; every column is made a literal, so that rows are lines."""
+    """Compares random plans over one random database, with operators on their columns; what is no term is made a literal, so that rows are lines."""
     case, asked = random_case(seed), []
     case.write(folder)
     maker = PlanMaker(Chance(f"plans of postgres {seed}"), case.tables)
@@ -167,7 +198,8 @@ def compare_plans(tables, seed, folder):
         plan = maker.plan(maker.chance.choice([1, 2, 3]))
         kinds = kinds_of(plan, case.tables)
         if most_rows(plan, case.tables) <= MOST_ROWS:
-            terms = [Column(place) if kind == "term" else call("LIT", call("LEX", Column(place))) for place, kind in enumerate(kinds)]
+            outputs = [Column(place) for place in range(len(kinds))] + [random_operator(maker.chance, kinds) for _ in range(4)]
+            terms = [one if expression_kind(one, kinds) == "term" else call("LIT", call("LEX", one)) for one in outputs]
             text = plan_text(Project(tuple(terms), plan), case.tables)
             asked.append(([f"plan {number}", text], folder, text, lines_text(plan_lines(text, case.tables))))
     return tables.compare("random plans", case.files["schema.sql"].encode(), os.path.join(folder, "data"), asked)
@@ -178,8 +210,7 @@ def compare_cases(tables, compare, wanted):
     seed = tables.comparison.options.seed
     while wanted > 0:
         tables.comparison.case = str(seed)
-        with tempfile.TemporaryDirectory() as folder:
-            wanted -= compare(tables, seed, folder)
+        wanted -= in_new_folder(compare, tables, seed)
         seed += 1
 
 
@@ -187,7 +218,7 @@ def read_options():
     """The options of the call."""
     parser = argparse.ArgumentParser(description=__doc__, usage=argparse.SUPPRESS, formatter_class=argparse.RawDescriptionHelpFormatter)
     parser.add_argument("--vkg", metavar="PROGRAM", required=True, help="the built program")
-    parser.add_argument("--only", choices=["cases", "company", "random", "plans"], help="this part alone")
+    parser.add_argument("--only", choices=["cases", "company", "operators", "random", "plans"], help="this part alone")
     parser.add_argument("--random", metavar="N", type=int, default=1000, help="how many random queries (1000)")
     parser.add_argument("--plans", metavar="N", type=int, default=0, help="how many random plans (0)")
     parser.add_argument("--seed", type=int, default=0, help="the first seed; each database has one (0)")
@@ -199,11 +230,18 @@ def read_options():
     return parser.parse_args()
 
 
+def in_new_folder(compare, tables, *words):
+    """Compares in a folder that is gone afterwards."""
+    with tempfile.TemporaryDirectory() as folder:
+        return compare(tables, *words, folder)
+
+
 def run(tables, options):
     """Runs all parts, or the one that is asked for."""
     parts = {
         "cases": lambda: compare_files(tables, "cases", [line.split()[1:] for line in (CASES / "cases").read_text().splitlines()], CASES),
         "company": lambda: compare_files(tables, "company", company_calls(), COMPANY),
+        "operators": lambda: in_new_folder(compare_operators, tables),
         "random": lambda: compare_cases(tables, compare_random, options.random),
         "plans": lambda: compare_cases(tables, compare_plans, options.plans),
     }
