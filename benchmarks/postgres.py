@@ -10,6 +10,7 @@ what copying and checking them once cost in PostgreSQL. The lines of both are co
 printed, too. The queries are some of query.py's, and `point`, which asks for one employee's name by the employee's IRI.
 """
 import argparse
+import io
 import os
 import subprocess
 import sys
@@ -34,37 +35,35 @@ SETTINGS = {'max_parallel_workers_per_gather': '0', 'jit': 'off', 'client_min_me
 TICKS = "SELECT f[12]::bigint + f[13]::bigint FROM regexp_split_to_array(regexp_replace(pg_read_file('/proc/self/stat', 0, 1000), '.*\\) ', ''), ' ') AS f;"
 
 
-def psql(server, script, out=subprocess.DEVNULL):
-    """Runs a file or a text as a script."""
-    words = ['psql', '-X', '-q', '-At', '-F', '\t', '-v', 'ON_ERROR_STOP=1', '-f', script if os.path.exists(script) else '-']
-    done = subprocess.run(words, input=None if os.path.exists(script) else script.encode(), env=server.environment, stdout=out, check=False)
+def psql(server, script):
+    """Runs a script, and gives what it prints."""
+    words = ['psql', '-X', '-q', '-At', '-F', '\t', '-v', 'ON_ERROR_STOP=1', '-f', '-']
+    done = subprocess.run(words, input=script.encode(), env=server.environment, stdout=subprocess.PIPE, check=False)
     if done.returncode != 0:
         sys.exit('psql ended with status %d' % done.returncode)
-    return done.stdout
+    return done.stdout.decode()
 
 
-def timed(server, text, out):
-    """The processor seconds of a server's process for a query, whose lines go to a file."""
-    ticks = psql(server, "%s\n\\o '%s'\n%s\\o\n%s\n" % (TICKS, out, text, TICKS), subprocess.PIPE).split()
+def timed(server, script):
+    """The processor seconds of a server's process for a script that prints nothing."""
+    ticks = psql(server, '%s\n%s\n%s\n' % (TICKS, script, TICKS)).split()
     return (int(ticks[1]) - int(ticks[0])) / os.sysconf('SC_CLK_TCK')
+
+
+def bytes_of(path):
+    with open(path, 'rb') as file:
+        return file.read()
 
 
 def load(server, folder, employees):
     """Generates, copies and checks the tables, and tells what that cost."""
     dump.write_company(folder, employees)
-    with open(folder + '/load.sql', 'w', encoding='utf-8', newline='') as file, open(folder + '/schema.sql', 'rb') as schema:
-        write_script(schema.read(), folder, file)
+    script = io.StringIO()
+    write_script(bytes_of(folder + '/schema.sql'), folder, script)
     psql(server, 'DROP TABLE IF EXISTS emp, dept')
-    with open(folder + '/load.sql', encoding='utf-8', newline='') as file:
-        ticks = psql(server, TICKS + '\n' + file.read() + TICKS + '\n', subprocess.PIPE).split()
-    size = psql(server, "SELECT pg_total_relation_size('emp') + pg_total_relation_size('dept')", subprocess.PIPE)
-    print('tables %d: %.2f s, %d MiB of tables and indexes' % (employees, (int(ticks[1]) - int(ticks[0])) / os.sysconf('SC_CLK_TCK'), int(size) >> 20), flush=True)
-
-
-def lines_of(path):
-    """The lines of a file in the order of their bytes."""
-    with open(path, 'rb') as file:
-        return sorted(file.read().split(b'\n')[:-1])
+    seconds = timed(server, script.getvalue())
+    size = psql(server, "SELECT pg_total_relation_size('emp') + pg_total_relation_size('dept')")
+    print('tables %d: %.2f s, %d MiB of tables and indexes' % (employees, seconds, int(size) >> 20), flush=True)
 
 
 def tell(server, folder, name, text, explain):
@@ -74,16 +73,15 @@ def tell(server, folder, name, text, explain):
     ours, peak, lines = measuring.measured(measuring.PROGRAM, words, folder + '/vkg.tsv')
     place = words.index('--data')
     plan = subprocess.run([measuring.PROGRAM, 'sql', *words[1:place], *words[place + 2:]], capture_output=True, check=True).stdout
-    with open(folder + '/schema.sql', 'rb') as schema:
-        written = query_of(schema.read(), plan)
-    theirs = timed(server, written, folder + '/postgres.tsv')
-    with open(folder + '/vkg.tsv', 'rb') as file:
-        header = file.readline()
-        is_same = sorted(file.read().split(b'\n')[:-1]) == lines_of(folder + '/postgres.tsv')
-    print('%s: %d lines, %s; vkg query %.2f s, %.0f MiB; PostgreSQL %.2f s' % (name, lines - 1, 'the same' if is_same else 'DIFFERENT', ours, peak, theirs), flush=True)
+    query = query_of(bytes_of(folder + '/schema.sql'), plan)
+    theirs = timed(server, "\\o '%s/postgres.tsv'\n%s\\o" % (folder, query))
+    expected, found = (bytes_of('%s/%s.tsv' % (folder, one)).split(b'\n')[:-1] for one in ('vkg', 'postgres'))
+    is_same = expected[1:] == sorted(found)
+    print('%s: %d lines, %s; vkg query %.2f s, %.0f MiB; PostgreSQL %.2f s'
+          % (name, lines - 1, 'the same' if is_same else 'DIFFERENT', ours, peak, theirs), flush=True)
     if explain:
-        print(written + psql(server, 'EXPLAIN (COSTS OFF) ' + written, subprocess.PIPE).decode(), flush=True)
-    return is_same and header != b''
+        print(query + psql(server, 'EXPLAIN (COSTS OFF) ' + query), flush=True)
+    return is_same
 
 
 def main():
@@ -96,10 +94,9 @@ def main():
     texts = {name: text for name, _, _, text in queries.QUERIES if name in ASKED} | {'distinct': DISTINCT, 'point': POINT}
     is_same = True
     with Server(SETTINGS) as server:
-        psql(server, PRELUDE)
+        psql(server, bytes_of(PRELUDE).decode())
         for employees in options.sizes:
             with tempfile.TemporaryDirectory() as folder:
-                os.chmod(folder, 0o755)
                 load(server, folder, employees)
                 for name, text in texts.items():
                     is_same &= tell(server, folder, name, text % (employees // 2 + 1) if name == 'point' else text, options.explain)
