@@ -9,6 +9,7 @@ A server does not run as root: called by root it runs as the user postgres, or n
 import os
 import pwd
 import shutil
+import signal
 import subprocess
 import sys
 import tempfile
@@ -52,6 +53,15 @@ class Server:
 
     def __enter__(self):
         self.folder = tempfile.mkdtemp(prefix="vkg-postgres-")
+        try:
+            self.run()
+        except BaseException:
+            self.__exit__()
+            raise
+        return self
+
+    def run(self):
+        """Makes a database and starts the server over it."""
         if name := user_of_server():
             shutil.chown(self.folder, name, pwd.getpwnam(name).pw_gid)
         data = os.path.join(self.folder, "data")
@@ -60,19 +70,14 @@ class Server:
         words = [word for name, value in self.settings.items() for word in ("-c", f"{name}={value}")]
         self.process = self.start("postgres", "-D", data, "-k", self.folder, *words)
         self.environment = {**os.environ, "PGHOST": self.folder, "PGUSER": USER, "PGDATABASE": "postgres"}
-        try:
-            self.wait()
-        except BaseException:
-            self.__exit__()
-            raise
-        return self
+        self.wait()
 
     def wait(self):
         """Waits until the server answers."""
         for _ in range(600):
             if self.process.poll() is not None:
                 raise RuntimeError(self.log())
-            if subprocess.run(["psql", "-Atc", "SELECT 1"], env=self.environment, capture_output=True, check=False).returncode == 0:
+            if subprocess.run(["psql", "-X", "-Atc", "SELECT 1"], env=self.environment, capture_output=True, check=False).returncode == 0:
                 return
             time.sleep(0.1)
         raise RuntimeError(self.log())
@@ -83,9 +88,8 @@ class Server:
             return log.read()
 
     def __exit__(self, *_):
-        if self.process.poll() is None:
-            self.process.terminate()  # no new clients; SIGINT ends those that are there
-            self.process.send_signal(2)
+        if self.process is not None and self.process.poll() is None:
+            self.process.send_signal(signal.SIGINT)  # its clients are ended, too
             self.process.wait()
         shutil.rmtree(self.folder)
 
