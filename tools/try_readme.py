@@ -6,7 +6,8 @@ usage: tools/try_readme.py PROGRAM     (PROGRAM is the built `vkg`; needs git)
 The last commit is cloned into a new folder. There the launcher is run with a stand-in for `rt` that fails, as a stranger's first call might:
 it has to say so and end with 70. Then PROGRAM stands where `rt` puts what it builds, and each command of the documents is run by the launcher,
 which must not ask for `rt` again. In a fenced block a line behind `$ ` is a command, and the lines up to the next one are what it writes; a line
-`...` stands for any lines. Commands of Python, cat and tools/check_mapping.py are run, too. The stored answers and plans of examples/company/queries are
+`...` stands for any lines. Commands of Python, cat and tools/check_mapping.py are run, too, and those with psql beside a PostgreSQL of their own, which
+tools/postgres/server.py starts; where it is not installed they are skipped, which is said. The stored answers and plans of examples/company/queries are
 compared, docs/STANDARDS.md with what tools/standards.py prints, and, by tools/second_implementation, each example of docs/DIAGNOSTICS.md and of the tables of
 docs/GUIDE.md.
 
@@ -20,11 +21,13 @@ import tempfile
 from pathlib import Path
 
 TOP = Path(__file__).resolve().parent.parent
-sys.path.insert(0, str(TOP / "tools/second_implementation"))
+sys.path[:0] = [str(TOP / "tools/second_implementation"), str(TOP / "tools/postgres")]
 from comparisons.readme import as_shown, shown_in
+from server import Server, folder_of_programs
 
 DOCUMENTS = ["README.md", *sorted(str(path.relative_to(TOP)) for path in (TOP / "docs").glob("*.md"))]
-TRIED = ("./vkg ", "cat ", "python3 ", "tools/check_mapping.py ")
+TRIED = ("./vkg ", "cat ", "echo ", "python3 ", "tools/check_mapping.py ", "tools/postgres/")
+IN_POSTGRES = "| psql "
 NOT_BUILT = 70
 COMPANY = "examples/company"
 MAPPED = ["--schema", f"{COMPANY}/schema.sql", "--base", "http://example.org/", "--mapping", f"{COMPANY}/mapping.ttl"]
@@ -42,9 +45,9 @@ class Trial:
         stand_in.write_text("#!/bin/sh\necho 'rt: this is a stand-in, which builds nothing' >&2\nexit 1\n")
         stand_in.chmod(0o755)
 
-    def run(self, words):
+    def run(self, words, environment=os.environ):
         """The status, output and errors of a call in the clone."""
-        environment = {**os.environ, "PATH": f"{self.bin}:{os.environ['PATH']}"}
+        environment = {**environment, "PATH": f"{self.bin}:{os.environ['PATH']}"}
         ended = subprocess.run(words, cwd=self.clone, env=environment, stdin=subprocess.DEVNULL, capture_output=True, timeout=600)
         return ended.returncode, ended.stdout.decode(errors="replace"), ended.stderr.decode(errors="replace")
 
@@ -64,13 +67,28 @@ def try_first_call(trial):
     trial.see("./vkg --help without a program", status == NOT_BUILT and output == "" and is_told, f"status {status}: {errors}")
 
 
-def try_documents(trial):
-    """Each command of the documents that is one of those to try."""
+def commands(trial, in_postgres):
+    """The commands of the documents that are to be tried, those with psql or the others, each with its document and what it is shown to write."""
     for name in DOCUMENTS:
         for command, shown in shown_in((trial.clone / name).read_text(encoding="utf-8")):
-            if command.startswith(TRIED):
-                status, output, errors = trial.run(["bash", "-o", "pipefail", "-c", command])
-                trial.see(f"{name}: {command}", status == 0 and errors == "" and as_shown(output, shown), f"status {status}: {errors}\n{output}")
+            if command.startswith(TRIED) and (IN_POSTGRES in command) == in_postgres:
+                yield name, command, shown
+
+
+def try_documents(trial, in_postgres=False, environment=os.environ):
+    """Each command of the documents that is one of those to try."""
+    for name, command, shown in commands(trial, in_postgres):
+        status, output, errors = trial.run(["bash", "-o", "pipefail", "-c", command], environment)
+        trial.see(f"{name}: {command}", status == 0 and errors == "" and as_shown(output, shown), f"status {status}: {errors}\n{output}")
+
+
+def try_postgres(trial):
+    """The commands with psql, in the order of the documents, beside one server."""
+    if folder_of_programs() is None:
+        print(f"try_readme: skipped: {sum(1 for _ in commands(trial, True))} commands with psql, since PostgreSQL is not installed")
+        return
+    with Server() as server:
+        try_documents(trial, True, server.environment)
 
 
 def try_queries(trial):
@@ -110,6 +128,7 @@ def main():
         try_first_call(trial)
         shutil.copy(sys.argv[1], trial.clone / "crates/vkg/out/vkg")
         try_documents(trial)
+        try_postgres(trial)
         try_queries(trial)
         try_standards(trial)
         try_diagnostics(trial, room)

@@ -31,6 +31,13 @@ def the_case():
     return case
 
 
+def query_of(text):
+    """The query for the terms of which a filter is true: pairs, or single terms."""
+    names = ["?a", "?b"] if text in OF_TWO else ["?a"]
+    patterns = " . ".join(f"?s <http://e/p> {name}" for name in names)
+    return f"SELECT {' '.join(names)} {{ {patterns} FILTER({text}) }}"
+
+
 def answer(query):
     """The lines of the answer to a query of one filter: the pairs of terms, or the terms, of which it is true."""
     terms, names, condition = [*TERMS, blank(BLANK)], query.header(), query.group[-1].condition
@@ -64,9 +71,7 @@ def compare(comparison, _, folder):
     case = the_case()
     for text in OF_TWO + OF_ONE:
         comparison.case = text
-        names = ["?a", "?b"] if text in OF_TWO else ["?a"]
-        patterns = " . ".join(f"?s <http://e/p> {name}" for name in names)
-        case.files["query.rq"] = f"SELECT {' '.join(names)} {{ {patterns} FILTER({text}) }}"
+        case.files["query.rq"] = query_of(text)
         case.write(folder)
         words, lines = case.words("query"), answer(read_query(case.files["query.rq"].encode(), case.base))
         comparison.check("operators", words, folder, comparison.call(words, folder), Ending(0, lines_text(lines)))
