@@ -29,8 +29,8 @@ pub struct Ended {
     pub faults: u64,
 }
 
-/// These files, where nothing fails, and there is room for all that the tests write.
-pub fn around<'a>(files: &'a [(&'a str, &'a str)]) -> Around<'a> {
+/// These files, where nothing fails and there is room for all that the tests write.
+pub fn faultless<'a>(files: &'a [(&'a str, &'a str)]) -> Around<'a> {
     Around {
         files,
         loads: &[],

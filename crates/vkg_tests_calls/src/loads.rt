@@ -1,5 +1,5 @@
 // Loads that fail, and faults of which the first in the order of the loads is told.
-use crate::call::{around, call, ends};
+use crate::call::{Around, call, ends, faultless};
 use crate::company::{ANSWERED, DUMP, DUMPED, FILES, QUERY};
 use std::alloc::Global;
 use std::process::Abort;
@@ -16,8 +16,10 @@ fn each_fails(
 ) -> Result<(), Fail> {
     for load in 1..=count.saturating_add(1) {
         let loads = [load];
-        let mut given = around(&FILES);
-        given.loads = &loads;
+        let given = Around {
+            loads: &loads,
+            ..faultless(&FILES)
+        };
         let ended = call(alloc, words, given)?;
         if load > count {
             ends(rt, &ended, Status::Done, out, "");
@@ -87,9 +89,11 @@ fn is_told(
     line: usize,
 ) -> Result<(), Fail> {
     let loads = [told.2.saturating_add(1)];
-    let mut given = around(files);
-    given.loads = &loads;
-    given.line = line;
+    let given = Around {
+        loads: &loads,
+        line,
+        ..faultless(files)
+    };
     let ended = call(alloc, QUERY, given)?;
     let err = told.1.get(..line.min(told.1.len())).ok_or("past the end")?;
     ends(rt, &ended, told.0, "", err);

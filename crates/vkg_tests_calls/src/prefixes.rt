@@ -1,5 +1,5 @@
 // A text cut off behind each of its bytes, the other files whole: each call returns, and writes nothing where it is refused.
-use crate::call::{around, call};
+use crate::call::{call, faultless};
 use crate::company::{DEPT, EMP, OPTIONAL, SCHEMA};
 use std::alloc::Global;
 use std::process::Abort;
@@ -29,7 +29,7 @@ fn cut(
         ),
         ("d/p.csv", "a,b\nx-y,z\nx,y-z\n"),
     ];
-    let ended = call(alloc, words, around(&files))?;
+    let ended = call(alloc, words, faultless(&files))?;
     if ended.status == Status::Done {
         return Ok(Some(ended.out.len()));
     }

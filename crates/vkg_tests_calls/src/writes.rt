@@ -1,5 +1,5 @@
 // Writes that fail: what is written is exactly what was taken before.
-use crate::call::{around, call, ends};
+use crate::call::{Around, call, ends, faultless};
 use crate::company::{DUMP, DUMPED, FILES};
 use std::alloc::Global;
 use std::process::Abort;
@@ -23,8 +23,10 @@ fn write_fails(
 ) -> Result<(), Fail> {
     for takes in [0, 10, line] {
         let writes = [(number, takes)];
-        let mut given = around(&FILES);
-        given.writes = &writes;
+        let given = Around {
+            writes: &writes,
+            ..faultless(&FILES)
+        };
         let ended = call(alloc, DUMP, given)?;
         let out = first(before.saturating_add(takes))?;
         ends(rt, &ended, Status::WriteFault, out, FAULT);
@@ -52,9 +54,11 @@ fn fills(
     status: Status,
     err: &str,
 ) -> Result<(), Fail> {
-    let mut given = around(&FILES);
-    given.room = rooms.0;
-    given.line = rooms.1;
+    let given = Around {
+        room: rooms.0,
+        line: rooms.1,
+        ..faultless(&FILES)
+    };
     let ended = call(alloc, DUMP, given)?;
     ends(rt, &ended, status, first(rooms.0)?, err);
     Ok(())
@@ -62,8 +66,10 @@ fn fills(
 
 #[test]
 fn help_finds_no_room(rt: HostRuntime) -> Result<(), Fail> {
-    let mut given = around(&FILES);
-    given.room = 3;
+    let given = Around {
+        room: 3,
+        ..faultless(&FILES)
+    };
     let ended = call(rt.alloc(), "vkg --help", given)?;
     ends(&rt, &ended, Status::WriteFault, "vkg", FAULT);
     Ok(())
