@@ -9,6 +9,9 @@ usage: tools/second_implementation/compare.py WHAT --vkg PROGRAM [options]
   rules      the rewrite rules on random plans, and on those of random queries; no program is called
   change     valid cases with one token or byte changed: how the program refuses them, or what it then answers
   faults     R2RML mappings whose graphs have faults
+  edits      valid cases after several edits of one or two files, by tokens and by bytes
+  cuts       valid cases in which one or two files are cut off
+  texts      schemas, mappings and queries of few names, made by the grammars of tools/
   words      calls whose words are changed
   gen        `gen` on the companies of SEED+1 to SEED+COUNT employees
   operators  every operator of filters on every pair of a list of terms; once, without chance
@@ -22,7 +25,7 @@ import argparse
 import sys
 import tempfile
 
-from comparisons import changes, company, diagnostics, dumps, guide, operators, plans, queries, readme, rules
+from comparisons import changes, company, diagnostics, dumps, guide, hostile, operators, plans, queries, readme, rules
 from comparisons.program import Comparison
 
 MODES = {
@@ -32,6 +35,9 @@ MODES = {
     "rules": [rules.compare, rules.compare_queries],
     "change": [changes.compare_tokens],
     "faults": [changes.compare_faults],
+    "edits": [hostile.compare_edits],
+    "cuts": [hostile.compare_cuts],
+    "texts": [hostile.compare_texts],
     "words": [changes.compare_words],
     "gen": [company.compare],
     "operators": [operators.compare],
