@@ -1,19 +1,17 @@
 -- Nodes over a left join to which no rule applies: none applies with another left side of these columns, where they may rest.
-use Rattle.std.proofs.Common.{◌≡◌, ◌∙◌, ℕ, true, false, List, [], ◌++◌, length, Option, Some, None, refl, sym, ap, subst}
+use Rattle.std.proofs.Common.{◌≡◌, true, false, List, [], ◌++◌, length, Option, Some, None, refl, sym, ap, subst}
 use Rattle.std.specs.Prelude.{Bool, ◌&&◌, not, option_map, if◌then◌else◌}
 use Rattle.std.specs.Bool.{then_some}
 use Rattle.std.specs.List.{list_all, list_any}
 use Rattle.std.specs.Option.{option_map_or, option_or}
-use Rattle.vkg_lists.proofs.Bools.{and_parts}
 use Rattle.vkg_lists.proofs.Onto.{map_lacking}
 use Rattle.vkg_lists.proofs.Results.{some_of}
 use Rattle.vkg_lists.specs.Options.{joined}
-use Rattle.vkg_columns.specs.Columns.{at_place}
-use Rattle.vkg_expr.specs.Expr.{Expr, exprs}
+use Rattle.vkg_expr.specs.Expr.{Expr}
 use Rattle.vkg_expr.specs.Logic.{and_then, conjuncts}
 use Rattle.vkg_expr.specs.Places.{first_place}
 use Rattle.vkg_plan.specs.Kinds.{Kinds, Tables, checked, plan_kinds, width}
-use Rattle.vkg_plan.specs.Plan.{Plan, Nil, Unit as UnitPlan, Empty, Scan, Select, Project, Join, Left, UnionAll, Distinct}
+use Rattle.vkg_plan.specs.Plan.{Plan, Nil, Scan, Project, Left}
 use Rattle.vkg_rules.proofs.Outcomes.{neither}
 use Rattle.vkg_rules.specs.declared.rewrite.Fell.TheVariants as fell
 use Rattle.vkg_rules.specs.Parts.{typed_left, typed_project}
@@ -21,13 +19,11 @@ use Rattle.vkg_rules.specs.Steps.{IsTyped, Step}
 use Rattle.vkg_steps.specs.Rests.{Rests}
 use Rattle.vkg_conditions.proofs.Told.{condition-stays}
 use Rattle.vkg_conditions.specs.Cases.{smaller}
-use Rattle.vkg_conditions.specs.SimplifyCondition.{first_of, in_own, simplify_condition}
+use Rattle.vkg_conditions.specs.SimplifyCondition.{first_of, simplify_condition}
 use Rattle.vkg_equalities.proofs.Conjuncts.{none_asked}
 use Rattle.vkg_equalities.specs.Decided.{asks_terms}
-use Rattle.vkg_equalities.specs.TermEquality.{node_decided, term_equality}
-use Rattle.vkg_joins.specs.JoinInJoin.{join_in_join}
+use Rattle.vkg_equalities.specs.TermEquality.{term_equality}
 use Rattle.vkg_key_joins.specs.ParentJoin.{parent_join}
-use Rattle.vkg_key_joins.specs.SelfJoin.{self_join}
 use Rattle.vkg_lifts.specs.LiftProjects.{Parts, above, keeps_nulls, lift_projects, parts_between}
 use Rattle.vkg_moves.specs.LeftToJoin.{left_to_join}
 use Rattle.vkg_moves.specs.MergeProjects.{are_in_place, merge_projects}
@@ -36,18 +32,14 @@ use Rattle.vkg_nulls.specs.KnownColumns.{known_columns, own_known}
 use Rattle.vkg_nulls.specs.NullTests.{known_column, of_constant, of_strict}
 use Rattle.vkg_nulls.specs.SimplifyNull.{changed_by, simplify_null}
 use Rattle.vkg_shapes.specs.FalseCondition.{false_condition, is_never}
-use Rattle.vkg_shapes.specs.FewMembers.{few_members}
-use Rattle.vkg_shapes.specs.FlatUnion.{flat_union}
 use Rattle.vkg_shapes.specs.Parts.{padded}
 use Rattle.vkg_shapes.specs.PropagateEmpty.{is_nothing, propagate_empty}
 use Rattle.vkg_shapes.specs.SelectTrue.{select_true}
 use Rattle.vkg_spreads.specs.DistributeUnion.{distribute_union}
-use Rattle.vkg_unions.specs.DistinctDistinct.{distinct_distinct}
 use Rattle.vkg_unions.specs.EqualMembers.{equal_members}
-use Rattle.vkg_unique.specs.DistinctUnique.{distinct_unique}
 use Rattle.vkg_unique.specs.UnusedLeft.{is_over_first, keys_of, ties_key, unused_left, without_right}
 use Rattle.vkg_normal.specs.NormalForm.{all_rules, conditions, distincts, flatten, key_joins, left_joins, moves, removals}
-use Rattle.vkg_normal.specs.Resting.{is_left, may_rest}
+use Rattle.vkg_normal.specs.Resting.{may_rest}
 use Rattle.vkg_normal.proofs.Flags.{left-flags}
 
 -- ---- the rules one by one

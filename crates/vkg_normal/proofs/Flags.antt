@@ -1,15 +1,12 @@
 -- A plan has as many flags as columns.
-use Rattle.std.proofs.Common.{◌≡◌, ◌∙◌, ◌+◌, ℕ, false, List, [], ◌∷◌, ◌++◌, length, length-append, map, Option, Some, None, sym, ap, arith}
+use Rattle.std.proofs.Common.{◌≡◌, ◌∙◌, ◌+◌, false, List, [], ◌∷◌, ◌++◌, length, length-append, map, Option, Some, None, sym, ap, arith}
 use Rattle.std.specs.Prelude.{Bool, option_map, slice_get}
-use Rattle.std.specs.List.{list_all}
 use Rattle.std.specs.Option.{option_map_or}
 use Rattle.std.proofs.lemmas.List.{length-map}
 use Rattle.std.proofs.lemmas.Option.{same_Some}
 use Rattle.vkg_lists.proofs.Onto.{both_given, first_given}
 use Rattle.vkg_lists.specs.Options.{joined}
 use Rattle.vkg_schema.specs.declared.table.Table.{Table}
-use Rattle.vkg_expr.specs.Expr.{exprs}
-use Rattle.vkg_expr.specs.Typing.{kinds_of}
 use Rattle.vkg_plan.proofs.RowsFit.{beside_is, checked_is}
 use Rattle.vkg_plan.specs.Kinds.{Kinds, Tables, beside_all, kinds_of_each, plan_kinds, side_by_side}
 use Rattle.vkg_plan.specs.Plan.{Plan, Plans, Unit as UnitPlan, Empty, Scan, Select, Project, Join, Left, UnionAll, Distinct, Nil, More}

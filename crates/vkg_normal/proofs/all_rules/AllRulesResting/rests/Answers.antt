@@ -1,5 +1,5 @@
 -- Where they may, the rules rest.
-use Rattle.std.proofs.Common.{◌≡◌, ◌∙◌, true, sym}
+use Rattle.std.proofs.Common.{◌∙◌, sym}
 use Rattle.vkg_plan.specs.Seen.{plan_seen}
 use Rattle.vkg_normal.proofs.AtRest.{all-rest}
 use Rattle.vkg_normal.proofs.all_rules.AllRulesResting.rests.Goals as goal
