@@ -1,5 +1,5 @@
 -- Sides around a plan: one more, one less, and another plan within them.
-use Rattle.std.proofs.Common.{◌≡◌, ℕ, zero, suc, ◌+◌, ◌<◌, true, List, [], ◌∷◌, ◌++◌, Option, Some, None, refl, sym, ap, ◌∙◌, subst, arith}
+use Rattle.std.proofs.Common.{◌≡◌, ℕ, zero, suc, ◌<◌, true, List, [], ◌∷◌, ◌++◌, Option, Some, None, refl, sym, ap, ◌∙◌, subst, arith}
 use Rattle.std.specs.Prelude.{Bool, false, IfOk, Result, Ok, Err, is_some, option_map, option_and_then, reverse}
 use Rattle.std.specs.Option.{option_or}
 use Rattle.vkg_lists.specs.Options.{joined}
@@ -7,7 +7,7 @@ use Rattle.vkg_base.specs.declared.memory.Memory.{Memory}
 use Rattle.vkg_expr.specs.Expr.{Expr, exprs}
 use Rattle.vkg_expr.specs.Typing.{kinds_of}
 use Rattle.vkg_plan.specs.Kinds.{Kinds, Tables, checked, plan_kinds}
-use Rattle.vkg_plan.specs.Plan.{Plan, Nil, Unit as UnitPlan, Empty, Scan, Select, Project, Join, Left, UnionAll, Distinct}
+use Rattle.vkg_plan.specs.Plan.{Plan, Unit as UnitPlan, Project, Left}
 use Rattle.vkg_rules.specs.declared.rewrite.Fell.{Fell}
 use Rattle.vkg_rules.specs.Everywhere.{around, everywhere}
 use Rattle.vkg_rules.specs.Parts.{typed_left, typed_project}
@@ -18,9 +18,9 @@ use Rattle.vkg_rules.proofs.Inside.{nodes}
 use Rattle.vkg_rules.proofs.Outcomes.{outcome-none, outcome-some}
 use Rattle.vkg_schema.specs.Meets.{IsWellFormed}
 use Rattle.vkg_steps.specs.Behind.{Behind}
-use Rattle.vkg_steps.specs.Outcomes.{IsInside, IsStep}
+use Rattle.vkg_steps.specs.Outcomes.{IsStep}
 use Rattle.vkg_steps.specs.Rests.{Rests, inner, with_inner}
-use Rattle.vkg_steps.specs.Spine.{AllRest, AreLeftSides, GoesDown, HasStepped, IsAround, IsLeftSide, IsLeftwards, IsOpened, IsRaised, IsReady, IsSide, IsStepOf, MayFollow, RaisedBy, over, path_over, within}
+use Rattle.vkg_steps.specs.Spine.{AllRest, AreLeftSides, GoesDown, HasStepped, IsAround, IsLeftSide, IsLeftwards, IsOpened, IsRaised, IsSide, IsStepOf, MayFollow, RaisedBy, over, path_over, within}
 use Rattle.vkg_steps.proofs.PlaceLemmas.{differs-left, differs-project, not-applied, nothing_behind}
 
 -- ---- sides

@@ -3,7 +3,6 @@ use Rattle.std.proofs.Common.{◌≡◌, ◌∙◌, [], ◌∷◌, Option, sym, 
 use Rattle.std.specs.Prelude.{IfOk, reverse}
 use Rattle.std.proofs.lemmas.List.{map-append}
 use Rattle.vkg_lists.proofs.Results.{some_of}
-use Rattle.vkg_plan.specs.Plan.{Plan}
 use Rattle.vkg_plan.specs.Seen.{plan_seen}
 use Rattle.vkg_rules.specs.declared.rewrite.Fell.{Fell}
 use Rattle.vkg_rules.specs.Everywhere.{everywhere}

@@ -1,17 +1,15 @@
 -- Where the rule rests one side more is around the plan; else the plan is changed, or a part of it that is no such side.
-use Rattle.std.proofs.Common.{◌≡◌, ◌∙◌, ◌<◌, ℕ, true, List, [], Option, Some, None, sym, ap, subst}
+use Rattle.std.proofs.Common.{◌≡◌, ◌∙◌, Option, Some, sym, ap, subst}
 use Rattle.std.specs.Prelude.{IfOk, reverse}
 use Rattle.std.proofs.lemmas.Result.{IfOk-weaker}
-use Rattle.vkg_plan.specs.declared.plan.Plan.{Plan as PlanValue}
 use Rattle.vkg_plan.specs.Plan.{Plan}
 use Rattle.vkg_plan.specs.Seen.{plan_seen}
 use Rattle.vkg_rules.specs.declared.rewrite.Fell.{Fell}
 use Rattle.vkg_rules.specs.Steps.{IsTyped}
-use Rattle.vkg_rules.proofs.Inside.{nodes}
 use Rattle.vkg_rules.proofs.Outcomes.{outcome-none, outcome-some}
 use Rattle.vkg_steps.specs.Outcomes.{IsInside, IsNext}
 use Rattle.vkg_steps.specs.Sides.{sides_seen}
-use Rattle.vkg_steps.specs.Spine.{GoesDown, HasStepped, IsAround, IsOpened, within}
+use Rattle.vkg_steps.specs.Spine.{GoesDown, HasStepped, IsOpened, within}
 use Rattle.vkg_steps.proofs.OutcomeLemmas.{at_root, from_inside, told_next}
 use Rattle.vkg_steps.proofs.PlaceLemmas.{here}
 use Rattle.vkg_steps.proofs.SpineLemmas.{gone-down, not-so, typed-within}

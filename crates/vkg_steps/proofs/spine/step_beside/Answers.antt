@@ -2,7 +2,7 @@
 use Rattle.std.proofs.Common.{◌≡◌, ◌∙◌, None, map, sym, ap}
 use Rattle.vkg_expr.specs.Seen.{expr_seen}
 use Rattle.vkg_plan.specs.declared.plan.Plan.{Plan as PlanValue}
-use Rattle.vkg_plan.specs.Plan.{Plan, Project}
+use Rattle.vkg_plan.specs.Plan.{Project}
 use Rattle.vkg_plan.specs.Seen.{plan_seen}
 use Rattle.vkg_rules.specs.Everywhere.{everywhere}
 use Rattle.vkg_steps.specs.Outcomes.{IsStep}

@@ -1,5 +1,5 @@
 -- The innermost side is taken, and the plan is its node.
-use Rattle.std.proofs.Common.{◌≡◌, ◌∙◌, [], ◌∷◌, ap}
+use Rattle.std.proofs.Common.{◌∙◌, [], ◌∷◌, ap}
 use Rattle.std.specs.Prelude.{reverse}
 use Rattle.std.proofs.lemmas.List.{map-append}
 use Rattle.vkg_plan.specs.Seen.{plan_seen}
