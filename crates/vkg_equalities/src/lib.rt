@@ -19,6 +19,7 @@ mod recognition;
 mod table_columns;
 mod term_equality;
 
+pub use conditions::may_decide;
 pub use deciding::decided;
 pub use recognition::recognised;
 pub use table_columns::{are_table_columns, flag_at};

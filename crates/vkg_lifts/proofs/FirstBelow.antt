@@ -9,8 +9,7 @@ use Rattle.vkg_rules.specs.StepSeen.{plans_seen}
 use Rattle.vkg_rules.proofs.Inside.{after_all}
 use Rattle.vkg_rules.proofs.Members.{after_seen, drop_here, seen_more}
 use Rattle.vkg_lifts.proofs.FirstProject.{after_one}
-use Rattle.vkg_lifts.specs.BelowProjects.{below, first_below}
-use Rattle.vkg_lifts.specs.LiftProjects.{is_project}
+use Rattle.vkg_lifts.specs.BelowProjects.{below, first_below, is_project}
 
 -- no Project before i
 abbrev pub NoneBefore : List PlanValue → ℕ → Type 0

@@ -14,8 +14,8 @@ use Rattle.vkg_rules.specs.declared.rewrite.Fell.TheVariants as fell
 use Rattle.vkg_rules.specs.StepSeen.{plans_seen}
 use Rattle.vkg_rules.proofs.Inside.{after_all}
 use Rattle.vkg_rules.proofs.Members.{before_one, drop_here, seen_more}
-use Rattle.vkg_lifts.specs.BelowProjects.{exprs_between, exprs_of_members}
-use Rattle.vkg_lifts.specs.LiftProjects.{Lifted, Parts, before, behind, is_project, lifted, parts_between, widths}
+use Rattle.vkg_lifts.specs.BelowProjects.{exprs_between, exprs_of_members, is_project}
+use Rattle.vkg_lifts.specs.LiftProjects.{Lifted, Parts, before, behind, lifted, parts_between, widths}
 
 -- the members of the list that were passed stay before what comes of the rest
 abbrev pub passed : List Plan → Option Lifted → Option Lifted

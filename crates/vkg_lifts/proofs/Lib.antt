@@ -1,5 +1,5 @@
 pub mod FirstProject
-pub mod AnyProject
 pub mod OwnColumns
+pub mod Counting
 pub mod LiftParts
 pub mod FirstBelow

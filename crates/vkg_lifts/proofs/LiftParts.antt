@@ -9,8 +9,8 @@ use Rattle.vkg_plan.specs.Kinds.{Tables, width}
 use Rattle.vkg_plan.specs.Plan.{Plan, Plans, Unit as UnitPlan, Empty, Scan, Select, Project, Join, Left, UnionAll, Distinct, More, Nil}
 use Rattle.vkg_rules.specs.declared.rewrite.Fell.TheVariants as fell
 use Rattle.vkg_rules.specs.Steps.{Step}
-use Rattle.vkg_lifts.specs.BelowProjects.{below, exprs_above, exprs_of_left, exprs_of_node, exprs_of_right, first_below, opened}
-use Rattle.vkg_lifts.specs.LiftProjects.{Lifted, Parts, above, behind, keeps_nulls, lift, lift_projects, lifted, over_left_side, over_right_side, parts_between, waits}
+use Rattle.vkg_lifts.specs.BelowProjects.{below, exprs_above, exprs_of_left, exprs_of_right, first_below, opened}
+use Rattle.vkg_lifts.specs.LiftProjects.{Lifted, Parts, above, behind, keeps_nulls, lift_projects, lifted, over_left_side, over_right_side, parts_between}
 
 -- the step to the expressions over the node that is opened
 abbrev pub over : Plan → List Expr → Step
@@ -19,10 +19,6 @@ over p es = (Project es (opened es p), fell.Weight)
 by_test : {A B : Type 0} (b : Bool) (f : A → B) (o : Option A) → (if b then option_map f o else None) ≡ option_map f (if b then o else None)
 by_test true f o = refl
 by_test false f o = refl
-
-unless_waiting : {A B : Type 0} (b : Bool) (f : A → B) (o : Option B) (x : Option A) → o ≡ option_map f x → (if b then None else o) ≡ option_map f (if b then None else x)
-unless_waiting true f o x e = refl
-unless_waiting false f o x e = e
 
 -- ---- the members of a Join
 
@@ -73,15 +69,12 @@ module _ (s : Tables) where
 
   -- ---- the rule
 
-  of-node : (p : Plan) → lift s p ≡ option_map (over p) (exprs_of_node s p)
-  of-node (Select c (Project es p)) = refl
-  of-node (Select c _) = refl
-  of-node (Join ps c) = above-first ps c (lifted s 0 ps) (first-below 0 ps)
-  of-node (Left p q c) = either-side p q c
-  of-node _ = refl
-
   pub lift_is : (p : Plan) → lift_projects s p ≡ option_map (over p) (exprs_above s p)
-  lift_is p = unless_waiting (waits p) (over p) (lift s p) (exprs_of_node s p) (of-node p)
+  lift_is (Select c (Project es p)) = refl
+  lift_is (Select c _) = refl
+  lift_is (Join ps c) = above-first ps c (lifted s 0 ps) (first-below 0 ps)
+  lift_is (Left p q c) = either-side p q c
+  lift_is _ = refl
 
   pub no_lift : (p : Plan) → exprs_above s p ≡ None → lift_projects s p ≡ None
   no_lift p e = lift_is p ∙ ap (option_map (over p)) e

@@ -1,12 +1,12 @@
 -- A Project below a node, which comes above it: its expressions there, and the node over what the Project projects.
-use Rattle.std.specs.Prelude.{ℕ, List, Option, Some, None, option_map, if◌then◌else◌}
+use Rattle.std.specs.Prelude.{ℕ, Bool, true, false, List, Option, Some, None, option_map, if◌then◌else◌}
 use Rattle.std.specs.Option.{option_or}
 use Rattle.vkg_columns.specs.Columns.{at_place}
 use Rattle.vkg_expr.specs.Expr.{Expr}
 use Rattle.vkg_expr.specs.Strict.{put}
 use Rattle.vkg_plan.specs.Kinds.{Tables, width}
 use Rattle.vkg_plan.specs.Plan.{Plan, Plans, Select, Project, Join, Left, Nil, More}
-use Rattle.vkg_lifts.specs.LiftProjects.{is_project, keeps_nulls, lifted, parts_between, waits}
+use Rattle.vkg_lifts.specs.LiftProjects.{keeps_nulls, lifted, parts_between}
 
 -- ---- its expressions
 
@@ -28,17 +28,19 @@ exprs_of_left schema p q = exprs_between schema 0 (width schema q) p
 abbrev pub exprs_of_right : Tables → Plan → Plan → Option (List Expr)
 exprs_of_right schema p q = if keeps_nulls q then exprs_between schema (width schema p) 0 q else None
 
-abbrev pub exprs_of_node : Tables → Plan → Option (List Expr)
-exprs_of_node schema (Select c p) = own_exprs p
-exprs_of_node schema (Join ps c) = exprs_of_members schema ps
-exprs_of_node schema (Left p q c) = option_or (exprs_of_left schema p q) (exprs_of_right schema p q)
-exprs_of_node schema p = None
-
 -- above the node, if one comes above it
 abbrev pub exprs_above : Tables → Plan → Option (List Expr)
-exprs_above schema p = if waits p then None else exprs_of_node schema p
+exprs_above schema (Select c p) = own_exprs p
+exprs_above schema (Join ps c) = exprs_of_members schema ps
+exprs_above schema (Left p q c) = option_or (exprs_of_left schema p q) (exprs_of_right schema p q)
+exprs_above schema p = None
 
 -- ---- the node without it
+
+-- the plan is a Project
+abbrev pub is_project : Plan → Bool
+is_project (Project es p) = true
+is_project p = false
 
 -- what a Project projects
 abbrev pub below : Plan → Plan

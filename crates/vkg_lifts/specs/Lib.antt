@@ -1,4 +1,5 @@
 pub mod LiftProjects
+pub mod Counted
 pub mod LiftedSeen
 pub mod PutPlaces
 pub mod InBetween

@@ -1,5 +1,5 @@
 -- A Project below a Select, a Join or a Left comes above it, and its expressions are put into the condition.
-use Rattle.std.specs.Prelude.{ℕ, ◌+◌, Bool, true, false, ◌||◌, List, ◌++◌, map, Option, Some, None, option_map, if◌then◌else◌}
+use Rattle.std.specs.Prelude.{ℕ, ◌+◌, Bool, false, List, ◌++◌, map, Option, Some, None, option_map, if◌then◌else◌}
 use Rattle.std.specs.List.{list_all}
 use Rattle.std.specs.Option.{option_or}
 use Rattle.vkg_columns.specs.Columns.{at_place, columns_from}
@@ -72,43 +72,10 @@ keeps_nulls p = false
 abbrev pub over_right_side : Tables → Plan → Plan → Expr → Option Step
 over_right_side schema p q c = if keeps_nulls q then option_map (λ x. above x.0 (Left p x.1) c) (parts_between schema (width schema p) 0 q) else None
 
--- so of each of these nodes
-abbrev pub lift : Rule
-lift schema (Select c p) = over_select c p
-lift schema (Join ps c) = over_join schema ps c
-lift schema (Left p q c) = option_or (over_left_side schema p q c) (over_right_side schema p q c)
-lift schema p = None
-
--- ---- of a chain of left joins the innermost Project first
-
--- the plan is a Project
-abbrev pub is_project : Plan → Bool
-is_project (Project es p) = true
-is_project p = false
-
--- one of the plans is
-abbrev pub any_project : Plans → Bool
-any_project Nil = false
-any_project (More p ps) = is_project p || any_project ps
-
--- a Project below the plan can come above it
-abbrev pub is_over_project : Plan → Bool
-is_over_project (Select c p) = is_project p
-is_over_project (Join ps c) = any_project ps
-is_over_project (Left p q c) = is_project p || keeps_nulls q
-is_over_project p = false
-
--- a Project that meets another one, or will when that one has come above the plan below
-abbrev pub is_waiting : Plan → Bool
-is_waiting (Project es p) = is_project p || is_over_project p
-is_waiting p = false
-
--- one is on the left of a Left
-abbrev pub waits : Plan → Bool
-waits (Left p q c) = is_waiting p
-waits p = false
-
--- ---- the rule
+-- ---- so of each of these nodes
 
 abbrev pub lift_projects : Rule
-lift_projects schema p = if waits p then None else lift schema p
+lift_projects schema (Select c p) = over_select c p
+lift_projects schema (Join ps c) = over_join schema ps c
+lift_projects schema (Left p q c) = option_or (over_left_side schema p q c) (over_right_side schema p q c)
+lift_projects schema p = None

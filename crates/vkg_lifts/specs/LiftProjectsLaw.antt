@@ -1,6 +1,6 @@
 -- Its laws: the expressions give of each row below what the Project gave, with the columns beside it.
 use Rattle.std.proofs.Common.{◌≡◌, ◌∙◌, inl, inr, ℕ, ◌+◌, ◌*◌, ◌<◌, true, List, [], ◌∷◌, ◌++◌, append-nil, length, map, Some, refl, sym, ap, subst, arith}
-use Rattle.std.specs.Prelude.{Bool, false, Option, None, if◌then◌else◌, option_map, replicate}
+use Rattle.std.specs.Prelude.{option_map, replicate}
 use Rattle.std.specs.List.{filter, list_all}
 use Rattle.std.proofs.lemmas.List.{length-replicate, map-id}
 use Rattle.std.proofs.lemmas.Option.{same_Some}
@@ -29,7 +29,7 @@ use Rattle.vkg_shapes.specs.TableRows.{tables_fit}
 use Rattle.vkg_lifts.specs.InBetween.{AreWithin, between-kinds, between-values, kinds-long}
 use Rattle.vkg_lifts.specs.LiftedKinds.{above-kinds, as_wide, project-kinds, wide-rows}
 use Rattle.vkg_lifts.specs.LiftedMembers.{is-lifted, left-both, sides-of}
-use Rattle.vkg_lifts.specs.LiftProjects.{Lifted, Parts, above, in_between, keeps_nulls, lift, lift_projects, lifted, over_join, over_left_side, over_right_side, over_select, parts_between, waits}
+use Rattle.vkg_lifts.specs.LiftProjects.{Lifted, Parts, above, in_between, keeps_nulls, lift_projects, lifted, over_join, over_left_side, over_right_side, over_select, parts_between}
 use Rattle.vkg_lifts.specs.NullRows.{null-values}
 use Rattle.vkg_lifts.specs.PutPlaces.{filter-projected, put_places-holds}
 use Rattle.vkg_lifts.specs.ThroughPairs.{AreOfWidth, left-through}
@@ -179,19 +179,14 @@ module _ (s : Tables) where
       let m = map_given (λ (y : Parts). above y.0 (Left p y.1) c) (parts_between s (width s p) 0 q) x g.1 in
       subst (IsLawful s (Left p q c)) m.2 (right-given p q c m.0 g.0 t m.1)
 
-  lawful : (p : Plan) (x : Step) → IsTyped s p → lift s p ≡ Some x → IsLawful s p x
+  lawful : (p : Plan) (x : Step) → IsTyped s p → lift_projects s p ≡ Some x → IsLawful s p x
   lawful (Select c p) x t e = of_select c p x t e
   lawful (Join ps c) x t e = of_join ps c x t e
   lawful (Left p q c) x t e = elim (or_given (over_left_side s p q c) (over_right_side s p q c) x e) [ inl k ↦ of_left p q c x t k | inr k ↦ of_right p q c x t k ]
   lawful _ x t e = cc
 
--- what is made where nothing waits
-not_waiting : (b : Bool) (o : Option Step) (x : Step) → (if b then None else o) ≡ Some x → o ≡ Some x
-not_waiting true o x e = cc
-not_waiting false o x e = e
-
 pub lift_projects-keeps : KeepsAll lift_projects
-lift_projects-keeps s form p x t e = let l = lawful s p x t (not_waiting (waits p) (lift s p) x e) in record { kinds = l.kinds; rows = l.rows }
+lift_projects-keeps s form p x t e = let l = lawful s p x t e in record { kinds = l.kinds; rows = l.rows }
 
 pub lift_projects-falls : FallsAll lift_projects
-lift_projects-falls s form p x t e = (lawful s p x t (not_waiting (waits p) (lift s p) x e)).falls
+lift_projects-falls s form p x t e = (lawful s p x t e).falls

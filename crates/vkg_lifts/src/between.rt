@@ -1,49 +1,43 @@
 // Expressions with columns before them and behind them.
-ghost use Rattle.std.specs.Prelude.{◌≡◌, ◌+◌, IfOk, IsTrue, is_some, length, map};
+ghost use Rattle.std.specs.Prelude.{◌≡◌, IfOk, IsTrue, is_some, length, map};
 ghost use Rattle.vkg_columns.specs.Columns.{at_place, columns_from};
-ghost use Rattle.vkg_expr.specs.Expr.{exprs};
 ghost use Rattle.vkg_expr.specs.Seen.{expr_seen};
 ghost use Rattle.vkg_expr.specs.Strict.{moved as moved_by, put as put_in};
-ghost use Rattle.vkg_expr.specs.Typing.{kinds_of};
+ghost use Rattle.vkg_lifts.specs.InBetween.{AreWithin};
 ghost use Rattle.vkg_lifts.specs.LiftProjects.{in_between as between_columns};
 
+use crate::widths::sum;
 use std::alloc::Global;
 use vkg_base::{Items, Memory};
-use vkg_cells::SqlType;
 use vkg_columns::put;
 use vkg_expr::Expr;
 
-/// Expressions over columns of the kinds `own`, which stand between columns of two other lists of kinds: in the place of their
-/// own columns among all of them.
+/// Expressions over so many columns of their own, which stand between columns of others: in the place of their own columns among
+/// all of them.
 #[tactic(auto, using(vkg_columns::proofs::Lists::both_seen))]
 pub fn in_between(
     alloc: Global,
     es: &[Expr],
-    before: &[SqlType],
-    own: &[SqlType],
-    after: &[SqlType],
+    before: usize,
+    own: usize,
+    after: usize,
 ) -> Result<Items<Expr>, Memory>
-    requires { IsTrue (is_some (kinds_of (exprs (map expr_seen es.now)) own.now)) }
-    ensures { IfOk result (λ all. map expr_seen all ≡ between_columns (length before.now) (length own.now) (length after.now) (map expr_seen es.now)) }
+    requires { AreWithin own (map expr_seen es.now) }
+    ensures { IfOk result (λ all. map expr_seen all ≡ between_columns before own after (map expr_seen es.now)) }
 {
     let mut rest = moved_each(alloc, es, before, own)?;
-    rest.append(columns_last(alloc, before, own, after)?)?;
-    let mut all = columns_behind(alloc, &[], before)?;
+    rest.append(columns(alloc, sum(before, own)?, after)?)?;
+    let mut all = columns(alloc, 0, before)?;
     all.append(rest)?;
     Ok(all)
 }
 
-/// The expressions with their columns, which are of the kinds `own`, moved behind those of the kinds `before`.
-fn moved_each(
-    alloc: Global,
-    es: &[Expr],
-    before: &[SqlType],
-    own: &[SqlType],
-) -> Result<Items<Expr>, Memory>
-    requires { IsTrue (is_some (kinds_of (exprs (map expr_seen es.now)) own.now)) }
-    ensures { IfOk result (λ all. map expr_seen all ≡ map (moved_by (length before.now)) (map expr_seen es.now)) }
+/// The expressions with their own columns moved behind others.
+fn moved_each(alloc: Global, es: &[Expr], before: usize, own: usize) -> Result<Items<Expr>, Memory>
+    requires { AreWithin own (map expr_seen es.now) }
+    ensures { IfOk result (λ all. map expr_seen all ≡ map (moved_by before) (map expr_seen es.now)) }
 {
-    let by = columns_behind(alloc, before, own)?;
+    let by = columns(alloc, before, own)?;
     put_each(alloc, es, by.as_slice())
 }
 
@@ -58,28 +52,14 @@ fn put_each(alloc: Global, es: &[Expr], by: &[Expr]) -> Result<Items<Expr>, Memo
     Ok(all)
 }
 
-/// As many columns as there are kinds after those before and the own ones.
-fn columns_last(
-    alloc: Global,
-    before: &[SqlType],
-    own: &[SqlType],
-    after: &[SqlType],
-) -> Result<Items<Expr>, Memory>
-    ensures { IfOk result (λ es. map expr_seen es ≡ columns_from (length before.now + length own.now) (length after.now)) }
-{
-    let mut first = Items::from_slice(alloc, before)?;
-    first.append(Items::from_slice(alloc, own)?)?;
-    columns_behind(alloc, first.as_slice(), after)
-}
-
-/// As many columns as there are own kinds, from the first on that is behind those before.
+/// So many columns, from one on.
 #[tactic(auto, using(vkg_columns::proofs::Lists::next_column))]
-fn columns_behind(alloc: Global, before: &[SqlType], own: &[SqlType]) -> Result<Items<Expr>, Memory>
-    ensures { IfOk result (λ es. map expr_seen es ≡ columns_from (length before.now) (length own.now)) }
+fn columns(alloc: Global, first: usize, many: usize) -> Result<Items<Expr>, Memory>
+    ensures { IfOk result (λ es. map expr_seen es ≡ columns_from first many) }
 {
     let mut columns = Items::new(alloc);
-    for i in 0..own.len() {
-        columns.push(Expr::Col(before.len() + i))?;
+    for i in 0..many {
+        columns.push(Expr::Col(sum(first, i)?))?;
     }
     Ok(columns)
 }

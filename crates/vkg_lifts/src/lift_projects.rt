@@ -3,15 +3,15 @@ ghost use Rattle.std.specs.Option.{option_or};
 ghost use Rattle.vkg_plan.specs.Seen.{plan_seen};
 ghost use Rattle.vkg_rules.specs.declared.rewrite.Fell.TheVariants as weight;
 ghost use Rattle.vkg_rules.specs.Steps.{IsTyped};
-ghost use Rattle.vkg_lifts.specs.BelowProjects.{exprs_above as exprs_above_of, exprs_of_left as of_left, exprs_of_node as of_node, exprs_of_right as of_right, own_exprs as own};
+ghost use Rattle.vkg_lifts.specs.BelowProjects.{exprs_above as exprs_above_of, exprs_of_left as of_left, exprs_of_right as of_right, own_exprs as own};
 ghost use Rattle.vkg_lifts.specs.LiftedSeen.{exprs_seen};
 ghost use Rattle.vkg_lifts.specs.LiftProjects.{lift_projects};
 ghost use Rattle.vkg_lifts.specs.LiftProjectsLaw.{lift_projects-keeps, lift_projects-falls};
 
-use crate::innermost::waits;
 use crate::members::exprs_of_members;
-use crate::parts::{exprs_between, is_project, keeps_nulls, kinds};
+use crate::parts::{exprs_between, is_project, keeps_nulls};
 use crate::taken_out::lifted;
+use crate::widths::width;
 use std::alloc::Global;
 use vkg_base::{Box, Items, Memory};
 use vkg_expr::{Expr, copy_exprs};
@@ -19,8 +19,7 @@ use vkg_plan::Plan;
 use vkg_rules::{Answer, Fell, Rewrite, unchanged};
 use vkg_schema::Schema;
 
-/// A projection below a selection, a join or a left join comes above it, and its expressions are put into the condition; of a
-/// chain of left joins the innermost one first.
+/// A projection below a selection, a join or a left join comes above it, and its expressions are put into the condition.
 #[derive(Drop)]
 pub struct LiftProjects;
 
@@ -76,21 +75,10 @@ fn lighter(plan: Box<Plan>) -> Answer
 }
 
 /// The expressions above the node of a projection below it, if one comes above it.
+#[tactic(auto, using(vkg_rules::proofs::Seen::seen_nodes))]
 fn exprs_above(alloc: Global, schema: &Schema, plan: &Plan) -> Result<Option<Items<Expr>>, Memory>
     requires { IsTyped schema.now (plan_seen plan.now) }
     ensures { IfOk result (λ o. option_map exprs_seen o ≡ exprs_above_of schema.now (plan_seen plan.now)) }
-{
-    if waits(plan) {
-        Ok(None)
-    } else {
-        exprs_of_node(alloc, schema, plan)
-    }
-}
-
-#[tactic(auto, using(vkg_rules::proofs::Seen::seen_nodes))]
-fn exprs_of_node(alloc: Global, schema: &Schema, plan: &Plan) -> Result<Option<Items<Expr>>, Memory>
-    requires { IsTyped schema.now (plan_seen plan.now) }
-    ensures { IfOk result (λ o. option_map exprs_seen o ≡ of_node schema.now (plan_seen plan.now)) }
 {
     match plan {
         Plan::Select(_, p) => own_exprs(alloc, p),
@@ -136,14 +124,14 @@ fn exprs_of_left(
     p: &Plan,
     q: &Plan,
 ) -> Result<Option<Items<Expr>>, Memory>
-    requires { IsTyped schema.now (plan_seen p.now) }
+    requires p { IsTyped schema.now (plan_seen p.now) }
+    requires q { IsTyped schema.now (plan_seen q.now) }
     ensures { IfOk result (λ o. option_map exprs_seen o ≡ of_left schema.now (plan_seen p.now) (plan_seen q.now)) }
 {
     if !is_project(p) {
         return Ok(None);
     }
-    let after = kinds(alloc, schema, q)?;
-    exprs_between(alloc, schema, p, &[], after.as_slice())
+    exprs_between(alloc, schema, p, 0, width(schema, q)?)
 }
 
 fn exprs_of_right(
@@ -152,12 +140,12 @@ fn exprs_of_right(
     p: &Plan,
     q: &Plan,
 ) -> Result<Option<Items<Expr>>, Memory>
-    requires { IsTyped schema.now (plan_seen q.now) }
+    requires p { IsTyped schema.now (plan_seen p.now) }
+    requires q { IsTyped schema.now (plan_seen q.now) }
     ensures { IfOk result (λ o. option_map exprs_seen o ≡ of_right schema.now (plan_seen p.now) (plan_seen q.now)) }
 {
     if !keeps_nulls(q) {
         return Ok(None);
     }
-    let before = kinds(alloc, schema, p)?;
-    exprs_between(alloc, schema, q, before.as_slice(), &[])
+    exprs_between(alloc, schema, q, width(schema, p)?, 0)
 }

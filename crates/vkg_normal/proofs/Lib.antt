@@ -1,2 +1,4 @@
 pub mod Normal
 pub mod OneEnd
+pub mod Flags
+pub mod AtRest

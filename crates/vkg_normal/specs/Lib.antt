@@ -1,2 +1,3 @@
 pub mod NormalForm
 pub mod Laws
+pub mod Resting

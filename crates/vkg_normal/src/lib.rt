@@ -10,10 +10,12 @@
 //! and vkg_nulls for the rules, on vkg_rules for their laws and on vkg_steps for steps in place.
 #![tactic(auto)]
 
+mod all_rules;
 mod laws;
 mod normal_form;
 mod order;
 
+pub use all_rules::AllRules;
 pub use laws::normal_forms;
 pub use normal_form::normalise;
 pub use order::{Flatten, Rules, rules};

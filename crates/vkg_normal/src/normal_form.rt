@@ -4,7 +4,7 @@ ghost use Rattle.vkg_rules.specs.Steps.{IsTyped, Keeps};
 ghost use Rattle.vkg_chains.specs.Ends.{IsEndOf};
 ghost use Rattle.vkg_normal.specs.NormalForm.{IsNormal, all_rules, normal_form};
 
-use crate::order::rules;
+use crate::all_rules::AllRules;
 use std::alloc::Global;
 use vkg_base::{Box, Memory};
 use vkg_plan::Plan;
@@ -21,7 +21,6 @@ pub fn normalise(alloc: Global, schema: &Schema, plan: Box<Plan>) -> Result<Box<
     ensures typed { IfOk result (λ q. IsTyped schema.now (plan_seen q)) }
     ensures keeps { IfOk result (λ q. Keeps schema.now (plan_seen plan) (plan_seen q)) }
 {
-    let rules = rules();
-    let end = vkg_steps::normalise(&rules, alloc, schema, plan)?;
+    let end = vkg_steps::normalise(&AllRules, alloc, schema, plan)?;
     Ok(end)
 }

@@ -1,3 +1,4 @@
 pub mod MemberLemmas
 pub mod OutcomeLemmas
 pub mod PlaceLemmas
+pub mod SpineLemmas

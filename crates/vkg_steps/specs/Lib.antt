@@ -1,2 +1,5 @@
 pub mod Behind
 pub mod Outcomes
+pub mod Rests
+pub mod Spine
+pub mod Sides

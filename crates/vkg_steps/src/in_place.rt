@@ -62,7 +62,7 @@ pub fn step_in<R: Rewrite>(
 }
 
 /// A plan that the rule changed at the root, which was reached on the way to a place.
-fn changed(alloc: Global, asked: Answer, place: &[usize]) -> Result<Stepped, Memory>
+pub fn changed(alloc: Global, asked: Answer, place: &[usize]) -> Result<Stepped, Memory>
     ensures plan { IfOk result (λ x. x.plan ≡ asked.plan) }
     ensures fell { IfOk result (λ x. x.fell ≡ asked.fell) }
     ensures place { IfOk result (λ x. IsNext (reverse place.now) asked.dropped (reverse x.place)) }
@@ -116,7 +116,7 @@ fn boxed(
 }
 
 #[cycle(in_place)]
-fn step_below<R: Rewrite>(
+pub fn step_below<R: Rewrite>(
     rule: &R,
     alloc: Global,
     schema: &Schema,
@@ -164,7 +164,7 @@ fn selected(alloc: Global, c: Expr, x: Stepped) -> Result<Stepped, Memory>
 }
 
 #[tactic(auto, using(crate::proofs::OutcomeLemmas::outcomes))]
-fn projected(alloc: Global, es: Items<Expr>, x: Stepped) -> Result<Stepped, Memory>
+pub fn projected(alloc: Global, es: Items<Expr>, x: Stepped) -> Result<Stepped, Memory>
     ensures plan { IfOk result (λ y. plan_seen y.plan ≡ Project (map expr_seen es) (plan_seen x.plan)) }
     ensures fell { IfOk result (λ y. y.fell ≡ x.fell) }
     ensures place { IfOk result (λ y. y.place ≡ x.place) }
@@ -261,7 +261,7 @@ fn step_sides<R: Rewrite>(
 
 /// A step on the right side, where there is none on the left one.
 #[cycle(in_place)]
-fn step_right<R: Rewrite>(
+pub fn step_right<R: Rewrite>(
     rule: &R,
     alloc: Global,
     schema: &Schema,
@@ -301,7 +301,7 @@ fn turned(x: Stepped, turn: usize) -> Result<Stepped, Memory>
 }
 
 #[tactic(auto, using(crate::proofs::OutcomeLemmas::outcomes))]
-fn on_left(alloc: Global, x: Stepped, q: Box<Plan>, c: Expr) -> Result<Stepped, Memory>
+pub fn on_left(alloc: Global, x: Stepped, q: Box<Plan>, c: Expr) -> Result<Stepped, Memory>
     ensures plan { IfOk result (λ y. plan_seen y.plan ≡ Left (plan_seen x.plan) (plan_seen q) (expr_seen c)) }
     ensures fell { IfOk result (λ y. y.fell ≡ x.fell) }
     ensures place { IfOk result (λ y. y.place ≡ x.place ++ 0 ∷ []) }

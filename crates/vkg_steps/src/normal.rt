@@ -3,17 +3,18 @@ ghost use Rattle.vkg_plan.specs.Seen.{plan_seen};
 ghost use Rattle.vkg_rules.specs.Steps.{IsTyped, Keeps};
 ghost use Rattle.vkg_chains.specs.Ends.{IsEndOf, Settled, end_of};
 
-use crate::in_place::{Stepped, step_in};
+use crate::in_place::Stepped;
+use crate::resting::Resting;
+use crate::spine::step_within;
 use std::alloc::Global;
 use vkg_base::{Box, Items, Memory};
 use vkg_plan::Plan;
-use vkg_rules::Rewrite;
 use vkg_schema::Schema;
 
 /// The plan with the rule taken at the first subplan that it changes, again and again until it changes none. It has the
 /// plan's columns, and its bag of rows over every database that meets the schema. After a change the next one is looked for
 /// where that was made, and in what stands around it, not from the beginning.
-pub fn normalise<R: Rewrite>(
+pub fn normalise<R: Resting>(
     rule: &R,
     alloc: Global,
     schema: &Schema,
@@ -26,6 +27,7 @@ pub fn normalise<R: Rewrite>(
     ensures keeps { IfOk result (λ q. Keeps schema.now (plan_seen plan) (plan_seen q)) }
 {
     let _over = schema.tables();
+    let mut around = Items::new(alloc);
     let mut current = plan;
     let mut place = Items::new(alloc);
     loop {
@@ -33,7 +35,7 @@ pub fn normalise<R: Rewrite>(
             plan: next,
             fell,
             place: there,
-        } = step_in(rule, alloc, schema, current, place.as_slice())?;
+        } = step_within(rule, alloc, schema, &mut around, current, place.as_slice())?;
         let Some(_) = fell else {
             return Ok(next);
         };

@@ -107,25 +107,8 @@ def keeps_nulls(plan):
     return isinstance(plan, Project) and all(is_strict(one) and columns_in(one) for one in plan.expressions)
 
 
-def is_over_project(plan):
-    """Whether a projection below a node can come above it."""
-    if isinstance(plan, Left):
-        return isinstance(plan.left, Project) or keeps_nulls(plan.right)
-    return isinstance(plan, (Select, Join)) and first_of(Project, subplans(plan)) is not None
-
-
-def is_waiting(plan):
-    """Whether a plan is a projection that meets another one, or will when that one has come above the node below."""
-    return isinstance(plan, Project) and (isinstance(plan.inner, Project) or is_over_project(plan.inner))
-
-
 def lift_projects(plan, tables):
-    """LiftProjects: a projection below a selection, a join or a left join comes above it; of a chain of left joins the innermost one first."""
-    return None if isinstance(plan, Left) and is_waiting(plan.left) else lift(plan, tables)
-
-
-def lift(plan, tables):
-    """A node with a projection below it as the projection above it, its expressions put into the condition."""
+    """LiftProjects: a projection below a selection, a join or a left join comes above it, its expressions put into the condition."""
     match plan:
         case Select(condition, Project(expressions, inner)):
             return Project(expressions, Select(put_in(condition, expressions), inner))

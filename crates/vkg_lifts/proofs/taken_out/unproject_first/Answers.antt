@@ -4,8 +4,7 @@ use Rattle.vkg_plan.specs.declared.plan.Plan.{Plan as PlanValue}
 use Rattle.vkg_plan.specs.Seen.{plan_seen}
 use Rattle.vkg_rules.specs.StepSeen.{plans_seen}
 use Rattle.vkg_lifts.proofs.FirstBelow.{none_at_all, not_here, opened_here}
-use Rattle.vkg_lifts.specs.BelowProjects.{first_below}
-use Rattle.vkg_lifts.specs.LiftProjects.{is_project}
+use Rattle.vkg_lifts.specs.BelowProjects.{first_below, is_project}
 use Rattle.vkg_lifts.proofs.taken_out.unproject_first.Goals as goal
 
 pub returns-then-is_project : goal.returns-then-is_project

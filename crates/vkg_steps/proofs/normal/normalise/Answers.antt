@@ -15,6 +15,9 @@ use Rattle.vkg_chains.specs.FixLaw.{run-none, run-some, typed-after}
 use Rattle.vkg_chains.proofs.EndLemmas.{end-is, end-keeps, end-settled}
 use Rattle.vkg_rules.specs.Places.{outcome}
 use Rattle.vkg_steps.specs.Behind.{Behind}
+use Rattle.vkg_steps.specs.declared.spine.Side.{Side as SideValue}
+use Rattle.vkg_steps.specs.Sides.{sides_seen}
+use Rattle.vkg_steps.specs.Spine.{IsAround, IsReady, within}
 use Rattle.vkg_rules.proofs.Outcomes.{outcome-none, outcome-some}
 use Rattle.vkg_steps.proofs.PlaceLemmas.{nothing_behind}
 use Rattle.vkg_steps.proofs.normal.normalise.Goals as goal
@@ -36,22 +39,35 @@ pub loop-place-smaller : goal.loop-place-smaller
 loop-place-smaller g c =
     let a = c.args.rule.now in
     let step = at_step (g.R.Rewrite.becomes a) (g.met.R.Rewrite.keeps a) (g.met.R.Rewrite.falls a) c.args.schema.now c.tables-over.ensures.form
-    (plan_seen c.loop-place.current) (plan_seen c.in_ok-next.field-0.plan) c.loop-place.invariant.typed c.in-Some.field-0 c.in_ok-next.field-0.fell c.in-Some.is c.in_ok-next.ensures.0 in
+    (within (sides_seen c.loop-place.around) (plan_seen c.loop-place.current)) (within (sides_seen c.step_within.new.around) (plan_seen c.in_ok-next.field-0.plan))
+    c.loop-place.invariant.typed c.in-Some.field-0 c.in_ok-next.field-0.fell c.in-Some.is c.in_ok-next.ensures.0 in
     omega (arith, ap (λ y. length y.0) step.0)
 
 pub loop-place-preserved : goal.loop-place-preserved
 loop-place-preserved g c =
     let a = c.args.rule.now in
-    let step = at_step (g.R.Rewrite.becomes a) (g.met.R.Rewrite.keeps a) (g.met.R.Rewrite.falls a) c.args.schema.now c.tables-over.ensures.form
-    (plan_seen c.loop-place.current) (plan_seen c.in_ok-next.field-0.plan) c.loop-place.invariant.typed c.in-Some.field-0 c.in_ok-next.field-0.fell c.in-Some.is c.in_ok-next.ensures.0 in
-    record { typed = step.1; behind = c.in_ok-next.ensures.1; same = c.loop-place.invariant.same ∙ ap (λ y. y.1) step.0 }
+    let r = g.R.Rewrite.becomes a in
+    let s = c.args.schema.now in
+    let x = c.in_ok-next.field-0 in
+    let sides = sides_seen c.step_within.new.around in
+    let step = at_step r (g.met.R.Rewrite.keeps a) (g.met.R.Rewrite.falls a) s c.tables-over.ensures.form
+    (within (sides_seen c.loop-place.around) (plan_seen c.loop-place.current)) (within sides (plan_seen x.plan))
+    c.loop-place.invariant.typed c.in-Some.field-0 x.fell c.in-Some.is c.in_ok-next.ensures.0 in
+    let ready = subst (λ (o : Option Fell). IsReady o s (r s) sides (plan_seen x.plan) (reverse x.place)) c.in-Some.is c.in_ok-next.ensures.1 in
+    record { typed = step.1; rest = (refl, ready.0, ready.1); same = c.loop-place.invariant.same ∙ ap (λ y. y.1) step.0 }
 
 pub returns-in_default-clause-value : goal.returns-in_default-clause-value
 returns-in_default-clause-value g c =
     let a = c.args.rule.now in
-    let last = at_last (g.R.Rewrite.becomes a) (g.met.R.Rewrite.keeps a) (g.met.R.Rewrite.falls a) c.args.schema.now c.tables-over.ensures.form
-    (plan_seen c.loop-place.current) (plan_seen c.in_ok-next.field-0.plan) c.loop-place.invariant.typed c.in_ok-next.field-0.fell c.in_default.is c.in_ok-next.ensures.0 in
-    last ∙ sym c.loop-place.invariant.same
+    let r = g.R.Rewrite.becomes a in
+    let s = c.args.schema.now in
+    let x = c.in_ok-next.field-0 in
+    let sides = sides_seen c.step_within.new.around in
+    let none = subst (λ (o : Option Fell). IsReady o s (r s) sides (plan_seen x.plan) (reverse x.place)) c.in_default.is c.in_ok-next.ensures.1 in
+    let last = at_last r (g.met.R.Rewrite.keeps a) (g.met.R.Rewrite.falls a) s c.tables-over.ensures.form
+    (within (sides_seen c.loop-place.around) (plan_seen c.loop-place.current)) (within sides (plan_seen x.plan))
+    c.loop-place.invariant.typed x.fell c.in_default.is c.in_ok-next.ensures.0 in
+    sym (ap (λ (xs : List Plan). within xs (plan_seen x.plan)) none) ∙ last ∙ sym c.loop-place.invariant.same
 
 pub returns-in_default-clause-end : goal.returns-in_default-clause-end
 returns-in_default-clause-end g c =
@@ -82,6 +98,13 @@ returns-in_default-clause-keeps g c =
 
 pub loop-place-init : goal.loop-place-init
 loop-place-init g c =
-    let r = g.R.Rewrite.becomes c.args.rule.now c.args.schema.now in
+    let r = g.R.Rewrite.becomes c.args.rule.now in
+    let s = c.args.schema.now in
     let p = plan_seen c.args.plan in
-    record { typed = c.requires; behind = subst (λ (n : List ℕ). Behind r (reverse n) p) (sym c.new-place.ensures) (nothing_behind r p); same = refl }
+    let around = subst (λ (l : List SideValue). IsAround s (r s) (sides_seen l) p (reverse c.new-place.result) (within (sides_seen l) p)) (sym c.new-around.ensures)
+    (refl, tt, subst (λ (n : List ℕ). Behind (r s) (reverse n) p) (sym c.new-place.ensures) (nothing_behind (r s) p)) in
+    record {
+      typed = subst (λ (l : List SideValue). IsTyped s (within (sides_seen l) p)) (sym c.new-around.ensures) c.requires;
+      rest = around;
+      same = ap (λ (l : List SideValue). end_of r s (within (sides_seen l) p)) (sym c.new-around.ensures);
+    }
