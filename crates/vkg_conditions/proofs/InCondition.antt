@@ -16,7 +16,7 @@ pub twice : {A B C : Type 0} (f : B → C) (g : A → B) (o : Option A) → opti
 twice f g None = refl
 twice f g (Some x) = refl
 
-either : {A B : Type 0} (g : A → B) (a b : Option A) (r : Option B) → r ≡ option_map g b → option_or (option_map g a) r ≡ option_map g (option_or a b)
+pub either : {A B : Type 0} (g : A → B) (a b : Option A) (r : Option B) → r ≡ option_map g b → option_or (option_map g a) r ≡ option_map g (option_or a b)
 either g None b r e = e
 either g (Some x) b r e = refl
 

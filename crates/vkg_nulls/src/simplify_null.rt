@@ -76,26 +76,41 @@ fn simpler_condition(
 {
     match condition(plan) {
         None => Ok(None),
-        Some(c) => {
-            let known = OfKnown {
-                flags: own_known(alloc, schema, plan)?,
-            };
-            known_first(alloc, &known, c)
-        }
+        Some(c) => simpler_in(alloc, schema, plan, c),
     }
 }
 
-/// A condition with its first test of a column that is never NULL false, else after the first other case that applies in it.
-fn known_first(alloc: Global, known: &OfKnown, c: &Expr) -> Result<Option<Box<Expr>>, Memory>
-    ensures { IfOk result (λ o. option_map expr_seen o ≡ null_in known.now.flags (expr_seen c.now)) }
+fn simpler_in(
+    alloc: Global,
+    schema: &Schema,
+    plan: &Plan,
+    c: &Expr,
+) -> Result<Option<Box<Expr>>, Memory>
+    ensures { IfOk result (λ o. option_map expr_seen o ≡ null_in (own_flags schema.now (plan_seen plan.now)) (expr_seen c.now)) }
 {
-    match first_place(alloc, known, c)? {
+    match known_in(alloc, schema, plan, c)? {
         Some(d) => Ok(Some(d)),
-        None => others_first(alloc, c),
+        None => others_in(alloc, c),
     }
 }
 
-fn others_first(alloc: Global, c: &Expr) -> Result<Option<Box<Expr>>, Memory>
+/// A condition on the columns of a plan's first node with its first test of a column that is never NULL false.
+fn known_in(
+    alloc: Global,
+    schema: &Schema,
+    plan: &Plan,
+    c: &Expr,
+) -> Result<Option<Box<Expr>>, Memory>
+    ensures { IfOk result (λ o. option_map expr_seen o ≡ at_first_place (known_column (own_flags schema.now (plan_seen plan.now))) (expr_seen c.now)) }
+{
+    let known = OfKnown {
+        flags: own_known(alloc, schema, plan)?,
+    };
+    first_place(alloc, &known, c)
+}
+
+/// A condition after the first other case that applies in it.
+fn others_in(alloc: Global, c: &Expr) -> Result<Option<Box<Expr>>, Memory>
     ensures { IfOk result (λ o. option_map expr_seen o ≡ option_or (at_first_place of_constant (expr_seen c.now)) (at_first_place of_strict (expr_seen c.now))) }
 {
     match first_place(alloc, &OfConstant, c)? {

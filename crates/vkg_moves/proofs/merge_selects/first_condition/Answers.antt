@@ -11,8 +11,8 @@ use Rattle.vkg_moves.proofs.FirstSelect.{condition_here, kinds_wide, no_conditio
 use Rattle.vkg_moves.specs.MergeSelects.{Part, part_behind}
 use Rattle.vkg_moves.proofs.merge_selects.first_condition.Goals as goal
 
-pub returns-in_ok-c-in-Some : goal.returns-in_ok-c-in-Some
-returns-in_ok-c-in-Some c =
+pub returns-in-Some : goal.returns-in-Some
+returns-in-Some c =
     let p = c.index-ps-i.result in
     let part = ap (option_map expr_seen) (sym c.in-Some.is) ∙ c.in_ok-c.ensures ∙ ap (λ ks. option_map (λ (x : Part). x.1) (part_behind (length ks) (plan_seen p))) c.as_slice.ensures in
     condition_here c.args.schema.now c.args.ps.now c.loop-i.i (length c.loop-i.before) p (expr_seen c.in-Some.c) (omega arith) c.index-ps-i.is part c.loop-i.invariant.found
