@@ -6,6 +6,7 @@ use Rattle.vkg_expr.specs.Logic.{and_then}
 use Rattle.vkg_plan.specs.Kinds.{Tables, width}
 use Rattle.vkg_plan.specs.Plan.{Plan, Plans, Unit as UnitPlan, Empty, Scan, Select, Project, Join, Left, UnionAll, Distinct, More, Nil}
 use Rattle.vkg_rules.specs.declared.rewrite.Fell.TheVariants as fell
+use Rattle.vkg_rules.specs.Steps.{Step}
 use Rattle.vkg_joins.specs.JoinInJoin.{Members, behind}
 use Rattle.vkg_moves.specs.MergeSelects.{first_below, first_condition, member_condition, merge_selects, opened, unselected}
 
@@ -17,10 +18,16 @@ later : (p : Plan) (ps : Plans) (o : Option Members) → AreFirst ps o → AreFi
 later p ps None e = refl
 later p ps (Some x) e = ap (option_map (behind p)) e
 
-above-first : (ps : Plans) (c : Expr) (o : Option Members) → AreFirst (first_below ps) o →
-    option_map (λ (x : Members). (Join x.0 (and_then x.1 c), fell.Weight)) o ≡ option_map (λ d. (opened d (Join ps c), fell.Weight)) (option_map (λ (x : Members). x.1) o)
+-- the step to the Join of members under their condition and then this one, and to the plan that is opened
+abbrev joined : Expr → Members → Step
+joined c x = (Join x.0 (and_then x.1 c), fell.Weight)
+
+abbrev over : Plan → Expr → Step
+over p d = (opened d p, fell.Weight)
+
+above-first : (ps : Plans) (c : Expr) (o : Option Members) → AreFirst (first_below ps) o → option_map (joined c) o ≡ option_map (over (Join ps c)) (option_map (λ (x : Members). x.1) o)
 above-first ps c None e = refl
-above-first ps c (Some x) e = ap (option_map (λ (y : Members). (Join y.0 (and_then y.1 c), fell.Weight))) e
+above-first ps c (Some x) e = ap (option_map (joined c)) e
 
 module _ (s : Tables) where
   first-below : (n : ℕ) (ps : Plans) → AreFirst (first_below ps) (unselected s n ps)
@@ -38,6 +45,6 @@ module _ (s : Tables) where
   pub member_opened : (p q : Plan) (d : Expr) → member_condition s p ≡ Some d → q ≡ opened d p → merge_selects s p ≡ Some (q, fell.Weight)
   member_opened (Join ps c) q d e h =
       above-first ps c (unselected s 0 ps) (first-below 0 ps)
-      ∙ ap (option_map (λ b. (opened b (Join ps c), fell.Weight))) e
+      ∙ ap (option_map (over (Join ps c))) e
       ∙ ap (λ (z : Plan). Some (z, fell.Weight)) (sym h)
   member_opened _ q d e h = cc
