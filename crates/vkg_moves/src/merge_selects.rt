@@ -265,11 +265,7 @@ fn member_condition(
 }
 
 #[tactic(auto, using(crate::proofs::FirstSelect::no_condition))]
-fn first_condition(
-    alloc: Global,
-    schema: &Schema,
-    ps: &[Plan],
-) -> Result<Option<Box<Expr>>, Memory>
+fn first_condition(alloc: Global, schema: &Schema, ps: &[Plan]) -> Result<Option<Box<Expr>>, Memory>
     requires { AreTyped schema.now (plans_seen ps.now) }
     ensures { IfOk result (λ o. option_map expr_seen o ≡ first_condition_of schema.now (plans_seen ps.now)) }
 {
