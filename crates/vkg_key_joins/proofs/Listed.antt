@@ -1,6 +1,5 @@
 -- Plans in lists, as the program has them and as they are seen.
-use Rattle.std.proofs.Common.{◌≡◌, ◌∙◌, ℕ, zero, suc, ◌+◌, List, [], ◌∷◌, ◌++◌, length, map, take, drop, Option, None, Some, refl, sym, ap}
-use Rattle.std.specs.Prelude.{option_map}
+use Rattle.std.proofs.Common.{◌≡◌, ◌∙◌, ℕ, zero, suc, ◌+◌, List, [], ◌∷◌, ◌++◌, length, map, take, drop, add-one, refl, sym, ap}
 use Rattle.std.proofs.lemmas.List.{length-map, map-append}
 use Rattle.vkg_plan.specs.declared.plan.Plan.{Plan as PlanValue}
 use Rattle.vkg_plan.specs.Plan.{Plan, More, each, plans}
@@ -22,8 +21,11 @@ pub before_length : (ps : List PlanValue) (at : ℕ) → length (map plan_seen (
 before_length ps at = length-map (take at ps) plan_seen
 
 -- the members but for the one at a place
+rest-behind : (ps : List PlanValue) (at : ℕ) → without_at at (plans_seen ps) ≡ plans (map plan_seen (take at ps) ++ map plan_seen (drop (suc at) ps))
+rest-behind [] zero = refl
+rest-behind [] (suc at) = refl
+rest-behind (p ∷ ps) zero = refl
+rest-behind (p ∷ ps) (suc at) = ap (More (plan_seen p)) (rest-behind ps at)
+
 pub rest_is : (ps : List PlanValue) (at : ℕ) → without_at at (plans_seen ps) ≡ plans (map plan_seen (take at ps) ++ map plan_seen (drop (at + 1) ps))
-rest_is [] zero = refl
-rest_is [] (suc at) = refl
-rest_is (p ∷ ps) zero = refl
-rest_is (p ∷ ps) (suc at) = ap (More (plan_seen p)) (rest_is ps at)
+rest_is ps at = rest-behind ps at ∙ ap (λ n. plans (map plan_seen (take at ps) ++ map plan_seen (drop n ps))) (sym (add-one at))
