@@ -1,5 +1,5 @@
 -- The rule on a plan that has a condition, by the condition alone.
-use Rattle.std.proofs.Common.{◌≡◌, true, List, Bool, Option, refl, ap, ◌∙◌}
+use Rattle.std.proofs.Common.{◌≡◌, ◌∙◌, Bool, true, List, Option, ap}
 use Rattle.std.specs.Prelude.{option_and_then, option_map}
 use Rattle.std.specs.Option.{option_or}
 use Rattle.vkg_expr.specs.Expr.{Expr}

@@ -1,10 +1,10 @@
 ghost use Rattle.std.specs.Prelude.{◌≡◌, IfOk, option_and_then, option_map};
 ghost use Rattle.std.specs.Option.{option_or};
 ghost use Rattle.vkg_conditions.specs.NodeCondition.{condition_of};
-ghost use Rattle.vkg_nulls.specs.KnownColumns.{own_known as own_flags};
-ghost use Rattle.vkg_nulls.specs.NullTests.{known_column, of_constant, of_strict};
 ghost use Rattle.vkg_expr.specs.Places.{first_place as at_first_place};
 ghost use Rattle.vkg_expr.specs.Seen.{expr_seen};
+ghost use Rattle.vkg_nulls.specs.KnownColumns.{own_known as own_flags};
+ghost use Rattle.vkg_nulls.specs.NullTests.{known_column, of_constant, of_strict};
 ghost use Rattle.vkg_nulls.specs.SimplifyNull.{changed_by, null_in, simplify_null};
 ghost use Rattle.vkg_nulls.specs.SimplifyNullLaw.{simplify_null-keeps, simplify_null-falls};
 ghost use Rattle.vkg_plan.specs.Seen.{plan_seen};
