@@ -3,3 +3,4 @@ pub mod Found
 pub mod PlaceLemmas
 pub mod Tried
 pub mod Told
+pub mod InCondition

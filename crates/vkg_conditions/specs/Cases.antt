@@ -14,7 +14,7 @@ use Rattle.vkg_conditions.specs.declared.cases.Case.TheVariants as case
 use Rattle.vkg_conditions.specs.declared.junctions.Junction.{Junction}
 use Rattle.vkg_conditions.specs.declared.junctions.Junction.TheVariants as junction
 use Rattle.vkg_conditions.specs.Conditions.{deciding, flat, is_and, is_or, negated, neutral, repeated, twice_negated}
-use Rattle.vkg_conditions.specs.SimplifyCondition.{in_condition, in_own, same_itself}
+use Rattle.vkg_conditions.specs.SimplifyCondition.{in_condition, in_conjuncts, in_own, same_itself}
 
 -- And or Or of some, and whether an expression is one
 abbrev pub junction_of : Junction → List Expr → Expr
@@ -42,6 +42,14 @@ step_of case.Repeated = repeated
 abbrev pub first_case : List Case → Plan → Option Plan
 first_case [] p = in_condition same_itself p
 first_case (c ∷ cs) p = option_or (in_own (step_of c) p) (first_case cs p)
+
+-- so of a condition: the first of some cases that applies in it, and the first of all
+abbrev pub case_in : List Case → Expr → Option Expr
+case_in [] c = in_conjuncts same_itself c
+case_in (k ∷ ks) c = option_or (first_place (step_of k) c) (case_in ks c)
+
+abbrev pub simplified_in : Expr → Option Expr
+simplified_in c = case_in (case.Deciding ∷ case.Neutral ∷ case.Negated ∷ case.Flat ∷ case.TwiceNegated ∷ case.Repeated ∷ []) c
 
 abbrev pub smaller : Plan → Step
 smaller p = (p, fell.Size)

@@ -1,3 +1,4 @@
+pub mod NodeCondition
 pub mod SameAs
 pub mod Changes
 pub mod FirstPlace

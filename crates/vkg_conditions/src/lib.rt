@@ -5,6 +5,8 @@
 //! first place. `specs/SimplifyConditionLaw.antt` has its laws: the columns and the bag of rows stay over every database that meets
 //! the schema, and the size of the plan's expressions is less.
 //!
+//! `node_condition` has the condition of a plan's first node, and the node under another one, by which a rule moves what is below.
+//!
 //! Stands on vkg_expr for expressions, on vkg_same for equal ones, on vkg_plan for plans, and on vkg_rules for rules and their laws.
 #![tactic(auto)]
 
@@ -13,11 +15,13 @@ mod change;
 mod conjuncts;
 pub mod junctions;
 mod lists;
+pub mod node_condition;
 mod parts;
 mod places;
 mod simplify_condition;
 mod strict;
 
 pub use change::Change;
+pub use places::first_place;
 pub use simplify_condition::{SimplifyCondition, in_own};
 pub use strict::{is_null, is_strict};

@@ -1,15 +1,19 @@
-ghost use Rattle.std.specs.Prelude.{◌≡◌, IfOk, map, option_map};
-ghost use Rattle.vkg_conditions.specs.Cases.{first_case as case_that_applies, smaller};
+ghost use Rattle.std.specs.Prelude.{◌≡◌, IfOk, None, map, option_and_then, option_map};
+ghost use Rattle.vkg_conditions.specs.Cases.{case_in, first_case as case_that_applies, simplified_in, smaller};
+ghost use Rattle.vkg_conditions.specs.NodeCondition.{condition_of};
 ghost use Rattle.vkg_conditions.specs.SimplifyCondition.{in_condition as in_conjuncts_of, in_own as in_own_exprs, same_itself, simplify_condition};
 ghost use Rattle.vkg_conditions.specs.SimplifyConditionLaw.{simplify_condition-keeps, simplify_condition-falls};
 ghost use Rattle.vkg_expr.specs.Seen.{expr_seen};
 ghost use Rattle.vkg_plan.specs.Plan.{Join, Left, Project, Select};
 ghost use Rattle.vkg_plan.specs.Seen.{plan_seen};
+ghost use Rattle.vkg_rules.specs.Places.{outcome};
+ghost use Rattle.vkg_rules.specs.Steps.{IsTyped};
 ghost use Rattle.vkg_rules.specs.StepSeen.{plans_seen, step_seen};
 
 use crate::cases::Case;
 use crate::change::Change;
 use crate::conjuncts::in_conjuncts;
+use crate::node_condition::{condition, conditioned, has_condition};
 use crate::places::{first_place, in_list};
 use std::alloc::Global;
 use vkg_base::{Box, Items, Memory};
@@ -17,6 +21,16 @@ use vkg_expr::Expr;
 use vkg_plan::{Plan, copy_plan_box, copy_plans};
 use vkg_rules::{Answer, Fell, Rewrite, answered, last_turn, unchanged};
 use vkg_schema::Schema;
+
+/// The cases, in the order in which they are tried.
+const CASES: [Case; 6] = [
+    Case::Deciding,
+    Case::Neutral,
+    Case::Negated,
+    Case::Flat,
+    Case::TwiceNegated,
+    Case::Repeated,
+];
 
 /// What is constant, nested or said twice in a plan's own expressions goes, one step at a time: the first case that applies
 /// anywhere in them, at its first place.
@@ -33,17 +47,10 @@ impl Rewrite for SimplifyCondition {
         _: &Schema,
         plan: &Plan,
     ) -> Result<Option<(Plan, Fell)>, Memory> {
-        let cases = [
-            Case::Deciding,
-            Case::Neutral,
-            Case::Negated,
-            Case::Flat,
-            Case::TwiceNegated,
-            Case::Repeated,
-        ];
-        first_case(alloc, &cases, plan)
+        first_case(alloc, &CASES, plan)
     }
 
+    // What is below a condition stays in memory once.
     fn apply_again(
         &self,
         alloc: Global,
@@ -54,10 +61,7 @@ impl Rewrite for SimplifyCondition {
         match last_turn(place) {
             // the plan's own expressions are what they were
             Some(_) => Ok(unchanged(plan)),
-            None => {
-                let made = self.apply(alloc, schema, &plan)?;
-                answered(alloc, plan, made)
-            }
+            None => simpler(self, alloc, schema, plan),
         }
     }
 
@@ -65,6 +69,52 @@ impl Rewrite for SimplifyCondition {
 
     ghost falls = { λ r. simplify_condition-falls };
 }
+
+// ---- the condition alone, where the plan has one
+
+/// The plan after a step in its own expressions, if there is one.
+#[tactic(auto, using(crate::proofs::InCondition::simplified_is))]
+fn simpler(
+    rule: &SimplifyCondition,
+    alloc: Global,
+    schema: &Schema,
+    plan: Box<Plan>,
+) -> Result<Answer, Memory>
+    requires { IsTyped schema.now (plan_seen plan) }
+    ensures value { IfOk result (λ x. (plan_seen x.plan, x.fell) ≡ outcome (plan_seen plan) (simplify_condition schema.now (plan_seen plan))) }
+    ensures dropped { IfOk result (λ x. x.dropped ≡ None) }
+{
+    if has_condition(&plan) {
+        let c = simpler_condition(alloc, &plan)?;
+        return conditioned(alloc, plan, c, Fell::Size);
+    }
+    let made = rule.apply(alloc, schema, &plan)?;
+    answered(alloc, plan, made)
+}
+
+/// The condition of the plan's first node after the first case that applies in it, if one does.
+fn simpler_condition(alloc: Global, plan: &Plan) -> Result<Option<Box<Expr>>, Memory>
+    ensures { IfOk result (λ o. option_map expr_seen o ≡ option_and_then simplified_in (condition_of (plan_seen plan.now))) }
+{
+    match condition(plan) {
+        None => Ok(None),
+        Some(c) => first_in(alloc, &CASES, c),
+    }
+}
+
+/// A condition after the first of some cases that applies in it, else with a conjunct that is equal to itself changed.
+fn first_in(alloc: Global, cases: &[Case], c: &Expr) -> Result<Option<Box<Expr>>, Memory>
+    ensures { IfOk result (λ o. option_map expr_seen o ≡ case_in cases.now (expr_seen c.now)) }
+{
+    for case in cases {
+        if let Some(d) = first_place(alloc, case, c)? {
+            return Ok(Some(d));
+        }
+    }
+    in_conjuncts(alloc, c)
+}
+
+// ---- all of its own expressions
 
 /// The first of some cases that applies in the plan's own expressions, else a conjunct that is equal to itself.
 #[tactic(auto, using(crate::proofs::Tried::first_does_not))]

@@ -1,3 +1,4 @@
 pub mod Conjuncts
+pub mod InCondition
 pub mod Lists
 mod Rows

@@ -10,7 +10,8 @@
 //! - `decided`: an equality of two such terms over such columns, as its verdict.
 //! - `TermEquality`: the first conjunct of a condition that is decided, in its place.
 //!
-//! Stands on vkg_match for verdicts, on vkg_rules for rules and their laws, and on vkg_columns for conditions.
+//! Stands on vkg_match for verdicts, on vkg_rules for rules and their laws, on vkg_columns for conditions, and on vkg_conditions for
+//! a node under another one.
 #![tactic(auto)]
 
 mod conditions;

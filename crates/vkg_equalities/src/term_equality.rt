@@ -1,9 +1,7 @@
-ghost use Rattle.std.specs.Prelude.{◌≡◌, IfOk, map, option_map};
+ghost use Rattle.std.specs.Prelude.{◌≡◌, IfOk, option_and_then, option_map};
 ghost use Rattle.vkg_expr.specs.Seen.{expr_seen};
-ghost use Rattle.vkg_plan.specs.Plan.{Join, Left, Select};
 ghost use Rattle.vkg_plan.specs.Seen.{plan_seen};
-ghost use Rattle.vkg_rules.specs.declared.rewrite.Fell.TheVariants as fell;
-ghost use Rattle.vkg_rules.specs.StepSeen.{plans_seen, step_seen};
+ghost use Rattle.vkg_conditions.specs.NodeCondition.{condition_of};
 ghost use Rattle.vkg_equalities.specs.TermEquality.{node_decided, term_equality};
 ghost use Rattle.vkg_equalities.specs.TermEqualityLaw.{term_equality-keeps, term_equality-falls};
 
@@ -12,9 +10,10 @@ use crate::deciding::decided_in;
 use crate::table_columns::are_table_columns;
 use std::alloc::Global;
 use vkg_base::{Box, Memory};
+use vkg_conditions::node_condition::{condition, conditioned, with_condition};
 use vkg_expr::Expr;
-use vkg_plan::{Plan, copy_plan_box, copy_plans, plan_kinds};
-use vkg_rules::{Fell, Rewrite};
+use vkg_plan::{Plan, copy_plan_box, plan_kinds};
+use vkg_rules::{Answer, Fell, Rewrite};
 use vkg_schema::Schema;
 
 /// The first conjunct of a condition that asks two terms over columns of tables to be the same becomes equalities of columns,
@@ -25,24 +24,48 @@ pub struct TermEquality;
 impl Rewrite for TermEquality {
     ghost becomes = { λ r. term_equality };
 
-    #[tactic(auto, using(vkg_rules::proofs::Seen::seen_nodes))]
+    #[tactic(auto, using(crate::proofs::InCondition::equality_is))]
     fn apply(
         &self,
         alloc: Global,
         schema: &Schema,
         plan: &Plan,
     ) -> Result<Option<(Plan, Fell)>, Memory> {
-        match plan {
-            Plan::Select(c, p) => selected(alloc, p, of_node(alloc, schema, plan, c)?),
-            Plan::Join(ps, c) => joined(alloc, ps.as_slice(), of_node(alloc, schema, plan, c)?),
-            Plan::Left(p, q, c) => left_joined(alloc, p, q, of_node(alloc, schema, plan, c)?),
-            _ => Ok(None),
+        match decided(alloc, schema, plan)? {
+            None => Ok(None),
+            Some(c) => {
+                let changed = with_condition(alloc, copy_plan_box(alloc, plan)?, c)?;
+                Ok(Some((changed.into_inner(), Fell::Equalities)))
+            }
         }
+    }
+
+    // What is below the condition stays in memory once.
+    #[tactic(auto, using(crate::proofs::InCondition::equality_is))]
+    fn apply_again(
+        &self,
+        alloc: Global,
+        schema: &Schema,
+        plan: Box<Plan>,
+        _: &[usize],
+    ) -> Result<Answer, Memory> {
+        let c = decided(alloc, schema, &plan)?;
+        conditioned(alloc, plan, c, Fell::Equalities)
     }
 
     ghost keeps = { λ r. term_equality-keeps };
 
     ghost falls = { λ r. term_equality-falls };
+}
+
+/// The condition of a plan's first node, if it has one, with a conjunct decided, if there is one.
+fn decided(alloc: Global, schema: &Schema, plan: &Plan) -> Result<Option<Box<Expr>>, Memory>
+    ensures { IfOk result (λ o. option_map expr_seen o ≡ option_and_then (node_decided schema.now (plan_seen plan.now)) (condition_of (plan_seen plan.now))) }
+{
+    match condition(plan) {
+        None => Ok(None),
+        Some(c) => of_node(alloc, schema, plan, c),
+    }
 }
 
 /// The condition of a plan's first node with a conjunct decided, if there is one. The plan is walked only where a conjunct may be.
@@ -63,52 +86,4 @@ fn of_node(
     };
     let flags = are_table_columns(alloc, schema, plan)?;
     decided_in(alloc, flags.as_slice(), kinds.as_slice(), c)
-}
-
-/// The selection by another condition, if there is one.
-#[tactic(auto, using(vkg_rules::proofs::Seen::seen_nodes))]
-fn selected(alloc: Global, p: &Plan, d: Option<Box<Expr>>) -> Result<Option<(Plan, Fell)>, Memory>
-    ensures { IfOk result (λ o. option_map step_seen o ≡ option_map (λ d. (Select d (plan_seen p.now), fell.Equalities)) (option_map expr_seen d)) }
-{
-    match d {
-        None => Ok(None),
-        Some(d) => {
-            let p = copy_plan_box(alloc, p)?;
-            Ok(Some((Plan::Select(d.into_inner(), p), Fell::Equalities)))
-        }
-    }
-}
-
-/// The join under another condition, if there is one.
-#[tactic(auto, using(vkg_rules::proofs::Seen::seen_nodes))]
-fn joined(alloc: Global, ps: &[Plan], d: Option<Box<Expr>>) -> Result<Option<(Plan, Fell)>, Memory>
-    ensures { IfOk result (λ o. option_map step_seen o ≡ option_map (λ d. (Join (plans_seen ps.now) d, fell.Equalities)) (option_map expr_seen d)) }
-{
-    match d {
-        None => Ok(None),
-        Some(d) => {
-            let ps = copy_plans(alloc, ps)?;
-            Ok(Some((Plan::Join(ps, d.into_inner()), Fell::Equalities)))
-        }
-    }
-}
-
-/// The left join under another condition, if there is one.
-#[tactic(auto, using(vkg_rules::proofs::Seen::seen_nodes))]
-fn left_joined(
-    alloc: Global,
-    p: &Plan,
-    q: &Plan,
-    d: Option<Box<Expr>>,
-) -> Result<Option<(Plan, Fell)>, Memory>
-    ensures { IfOk result (λ o. option_map step_seen o ≡ option_map (λ d. (Left (plan_seen p.now) (plan_seen q.now) d, fell.Equalities)) (option_map expr_seen d)) }
-{
-    match d {
-        None => Ok(None),
-        Some(d) => {
-            let p = copy_plan_box(alloc, p)?;
-            let q = copy_plan_box(alloc, q)?;
-            Ok(Some((Plan::Left(p, q, d.into_inner()), Fell::Equalities)))
-        }
-    }
 }

@@ -2,6 +2,7 @@ pub mod Tables
 pub mod MembersLaw
 pub mod SelfJoin
 pub mod SelfJoinLaw
+pub mod SecondSeen
 pub mod ParentJoin
 pub mod ParentNames
 pub mod ParentRows

@@ -9,6 +9,7 @@ use Rattle.vkg_plan.specs.Kinds.{Tables, width}
 use Rattle.vkg_plan.specs.Plan.{Plan, Scan, Project, Join, each, plans}
 use Rattle.vkg_rules.specs.declared.rewrite.Fell.TheVariants as fell
 use Rattle.vkg_rules.specs.Steps.{Rule, Step}
+use Rattle.vkg_shapes.specs.Without.{without_at}
 use Rattle.vkg_keys.specs.Keys.{with_itself}
 use Rattle.vkg_keys.specs.Members.{Place, first_two, others, renamed, widths}
 use Rattle.vkg_keys.specs.Ties.{all_tied}
@@ -46,3 +47,8 @@ self_joined schema c x y = then_some (is_again schema c x y) (over_others (named
 abbrev pub self_join : Rule
 self_join schema (Join ps c) = first_two (self_joined schema c) (each ps)
 self_join schema p = None
+
+-- The expressions above a Join, and put into its condition, without the member at a place. Other plans, which have no member, stay.
+abbrev pub over_rest : List Expr → ℕ → Plan → Plan
+over_rest names at (Join ps c) = Project names (Join (without_at at ps) (put (at_place names) c))
+over_rest names at p = p

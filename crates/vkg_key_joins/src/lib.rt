@@ -19,6 +19,7 @@ mod parent_names;
 mod parent_use;
 mod self_join;
 mod tables;
+mod without_scan;
 
 pub use parent_join::ParentJoin;
 pub use self_join::SelfJoin;

@@ -1,18 +1,21 @@
-ghost use Rattle.std.specs.Prelude.{◌≡◌, ◌+◌, ◌++◌, IfOk, map, take, drop, option_map};
+ghost use Rattle.std.specs.Prelude.{◌≡◌, ◌+◌, ◌++◌, IfOk, None, Some, map, take, drop, option_map};
 ghost use Rattle.vkg_columns.specs.Columns.{at_place};
 ghost use Rattle.vkg_expr.specs.Seen.{expr_seen};
 ghost use Rattle.vkg_expr.specs.Strict.{put as put_in};
 ghost use Rattle.vkg_plan.specs.Plan.{Join, plans};
 ghost use Rattle.vkg_plan.specs.Seen.{plan_seen};
-ghost use Rattle.vkg_rules.specs.StepSeen.{step_seen};
+ghost use Rattle.vkg_rules.specs.declared.rewrite.Fell.TheVariants as fell;
+ghost use Rattle.vkg_rules.specs.StepSeen.{plans_seen, step_seen};
 ghost use Rattle.vkg_keys.specs.Keys.{with_itself};
 ghost use Rattle.vkg_keys.specs.Members.{first_made, first_two};
 ghost use Rattle.vkg_keys.specs.ScansSeen.{place_in};
 ghost use Rattle.vkg_keys.specs.Ties.{all_tied};
+ghost use Rattle.vkg_key_joins.specs.SecondSeen.{step_without};
 ghost use Rattle.vkg_key_joins.specs.SelfJoin.{is_again as are_one_row, is_twice as is_table_twice, named_in_first as columns_in_first, over_others as over_all_others, self_join, self_joined as joined_with_itself, ties_key as condition_ties_key};
 ghost use Rattle.vkg_key_joins.specs.SelfJoinLaw.{self_join-keeps, self_join-falls};
 
 use crate::tables::keys_of;
+use crate::without_scan::over_rest;
 use std::alloc::Global;
 use vkg_base::{Box, Items, Memory};
 use vkg_columns::put;
@@ -21,7 +24,7 @@ use vkg_keys::{
     ScanAt, are_tied, before, behind, kinds, others, renamed, scan_columns, scans, widths,
 };
 use vkg_plan::Plan;
-use vkg_rules::{Fell, Rewrite};
+use vkg_rules::{Answer, Fell, Rewrite, unchanged};
 use vkg_schema::Schema;
 
 /// Of two scans of one table in a join whose rows are to agree on a key the later goes, and its columns are named in the first.
@@ -44,13 +47,41 @@ impl Rewrite for SelfJoin {
         }
     }
 
+    // The other members stay in memory once.
+    fn apply_again(
+        &self,
+        alloc: Global,
+        schema: &Schema,
+        plan: Box<Plan>,
+        _: &[usize],
+    ) -> Result<Answer, Memory> {
+        match second(alloc, schema, &plan)? {
+            None => Ok(unchanged(plan)),
+            Some((names, y)) => Ok(lighter(over_rest(alloc, plan.into_inner(), names, y.at)?)),
+        }
+    }
+
     ghost keeps = { λ r. self_join-keeps };
 
     ghost falls = { λ r. self_join-falls };
 }
 
+/// A plan of less weight than before.
+fn lighter(plan: Box<Plan>) -> Answer
+    ensures plan { result.plan ≡ plan }
+    ensures fell { result.fell ≡ Some fell.Weight }
+    ensures dropped { result.dropped ≡ None }
+{
+    Answer {
+        plan,
+        fell: Some(Fell::Weight),
+        dropped: None,
+    }
+}
+
 // ---- the first two scans
 
+#[tactic(auto, using(vkg_rules::proofs::Seen::seen_nodes, crate::proofs::Listed::rest_is))]
 fn joined(
     alloc: Global,
     schema: &Schema,
@@ -59,29 +90,58 @@ fn joined(
 ) -> Result<Option<(Plan, Fell)>, Memory>
     ensures { IfOk result (λ o. option_map step_seen o ≡ first_two (joined_with_itself schema.now (expr_seen c.now)) (map plan_seen ps.now)) }
 {
+    match second_in(alloc, schema, ps, c)? {
+        None => Ok(None),
+        Some((names, y)) => Ok(Some(without_second(alloc, names, ps, y, c)?)),
+    }
+}
+
+/// Of a join the columns of all members named without the second of the first two scans that are one row, and its place.
+#[tactic(auto, using(vkg_rules::proofs::Seen::seen_nodes, crate::proofs::Listed::each_plans))]
+fn second(
+    alloc: Global,
+    schema: &Schema,
+    plan: &Plan,
+) -> Result<Option<(Items<Expr>, ScanAt)>, Memory>
+    ensures { IfOk result (λ o. option_map (step_without (plan_seen plan.now)) o ≡ self_join schema.now (plan_seen plan.now)) }
+{
+    match plan {
+        Plan::Join(ps, c) => second_in(alloc, schema, ps.as_slice(), c),
+        _ => Ok(None),
+    }
+}
+
+fn second_in(
+    alloc: Global,
+    schema: &Schema,
+    ps: &[Plan],
+    c: &Expr,
+) -> Result<Option<(Items<Expr>, ScanAt)>, Memory>
+    ensures { IfOk result (λ o. option_map (step_without (Join (plans_seen ps.now) (expr_seen c.now))) o ≡ first_two (joined_with_itself schema.now (expr_seen c.now)) (map plan_seen ps.now)) }
+{
     let found = scans(alloc, ps)?;
     over_scans(alloc, schema, ps, found.as_slice(), c)
 }
 
-/// What is made of the first of the scans, with another.
+/// What is told of the first of the scans, with another.
 fn over_scans(
     alloc: Global,
     schema: &Schema,
     ps: &[Plan],
     all: &[ScanAt],
     c: &Expr,
-) -> Result<Option<(Plan, Fell)>, Memory>
-    ensures { IfOk result (λ o. option_map step_seen o ≡ first_made (λ x. first_made (joined_with_itself schema.now (expr_seen c.now) x) (map (place_in ps.now) all.now)) (map (place_in ps.now) all.now)) }
+) -> Result<Option<(Items<Expr>, ScanAt)>, Memory>
+    ensures { IfOk result (λ o. option_map (step_without (Join (plans_seen ps.now) (expr_seen c.now))) o ≡ first_made (λ x. first_made (joined_with_itself schema.now (expr_seen c.now) x) (map (place_in ps.now) all.now)) (map (place_in ps.now) all.now)) }
 {
     for x in all {
-        if let Some(made) = with_another(alloc, schema, ps, *x, all, c)? {
-            return Ok(Some(made));
+        if let Some(told) = with_another(alloc, schema, ps, *x, all, c)? {
+            return Ok(Some(told));
         }
     }
     Ok(None)
 }
 
-/// What is made of a scan and the first other.
+/// What is told of a scan and the first other.
 fn with_another(
     alloc: Global,
     schema: &Schema,
@@ -89,18 +149,19 @@ fn with_another(
     x: ScanAt,
     all: &[ScanAt],
     c: &Expr,
-) -> Result<Option<(Plan, Fell)>, Memory>
-    ensures { IfOk result (λ o. option_map step_seen o ≡ first_made (joined_with_itself schema.now (expr_seen c.now) (place_in ps.now x)) (map (place_in ps.now) all.now)) }
+) -> Result<Option<(Items<Expr>, ScanAt)>, Memory>
+    ensures { IfOk result (λ o. option_map (step_without (Join (plans_seen ps.now) (expr_seen c.now))) o ≡ first_made (joined_with_itself schema.now (expr_seen c.now) (place_in ps.now x)) (map (place_in ps.now) all.now)) }
 {
     for y in all {
-        if let Some(made) = self_joined(alloc, schema, ps, x, *y, c)? {
-            return Ok(Some(made));
+        if let Some(told) = self_joined(alloc, schema, ps, x, *y, c)? {
+            return Ok(Some(told));
         }
     }
     Ok(None)
 }
 
-/// The join without the second, if rows of the two are to agree on a key.
+/// The columns named without the second, and its place, if rows of the two are to agree on a key.
+#[tactic(auto, using(crate::proofs::Listed::rest_is))]
 fn self_joined(
     alloc: Global,
     schema: &Schema,
@@ -108,14 +169,13 @@ fn self_joined(
     x: ScanAt,
     y: ScanAt,
     c: &Expr,
-) -> Result<Option<(Plan, Fell)>, Memory>
-    ensures { IfOk result (λ o. option_map step_seen o ≡ joined_with_itself schema.now (expr_seen c.now) (place_in ps.now x) (place_in ps.now y)) }
+) -> Result<Option<(Items<Expr>, ScanAt)>, Memory>
+    ensures { IfOk result (λ o. option_map (step_without (Join (plans_seen ps.now) (expr_seen c.now))) o ≡ joined_with_itself schema.now (expr_seen c.now) (place_in ps.now x) (place_in ps.now y)) }
 {
     if !is_again(alloc, schema, ps, x, y, c)? {
         return Ok(None);
     }
-    let names = named_in_first(alloc, schema, ps, x, y)?;
-    Ok(Some(without_second(alloc, names, ps, y, c)?))
+    Ok(Some((named_in_first(alloc, schema, ps, x, y)?, y)))
 }
 
 // ---- whether they are one row

@@ -4,7 +4,9 @@ use Rattle.std.specs.Prelude.{false, option_map}
 use Rattle.std.specs.List.{list_any}
 use Rattle.std.specs.Option.{option_map_or, option_or}
 use Rattle.vkg_lists.proofs.Bools.{neither}
+use Rattle.vkg_lists.proofs.Onto.{map_lacking}
 use Rattle.vkg_expr.specs.declared.expr.Expr.{Expr as ExprValue}
+use Rattle.vkg_expr.specs.Expr.{Expr}
 use Rattle.vkg_expr.specs.Seen.{expr_seen}
 use Rattle.vkg_plan.specs.declared.plan.Plan.{Plan as PlanValue}
 use Rattle.vkg_plan.specs.Kinds.{Kinds, Tables, plan_kinds, width}
@@ -16,7 +18,7 @@ use Rattle.vkg_rules.specs.StepSeen.{plans_seen}
 use Rattle.vkg_rules.proofs.Inside.{after_all}
 use Rattle.vkg_rules.proofs.Members.{after_seen, before_one, drop_here, seen_more}
 use Rattle.vkg_joins.specs.JoinInJoin.{Members, behind}
-use Rattle.vkg_moves.specs.MergeSelects.{Part, before, is_select, part_behind, unselected}
+use Rattle.vkg_moves.specs.MergeSelects.{Part, before, first_condition, is_select, part_behind, unselected}
 
 -- as many kinds as columns
 pub kinds_wide : (s : Tables) (p : Plan) → length (kinds_or_none s p) ≡ width s p
@@ -34,7 +36,7 @@ passed ps = option_map (λ x. (after_all ps x.0, x.1))
 abbrev pub Passed : Tables → List PlanValue → ℕ → ℕ → Type 0
 Passed s ps i n = unselected s 0 (plans_seen ps) ≡ passed (map plan_seen (take i ps)) (unselected s n (plans_seen (drop i ps)))
 
-after_one : (ps : List Plan) (p : Plan) (qs : Plans) → after_all ps (More p qs) ≡ after_all (ps ++ p ∷ []) qs
+pub after_one : (ps : List Plan) (p : Plan) (qs : Plans) → after_all ps (More p qs) ≡ after_all (ps ++ p ∷ []) qs
 after_one ps p qs = ap (λ o. option_map_or (λ x. x.0) o Nil) (before_one ps p (Some (qs, fell.Weight)))
 
 passed-one : (ps : List Plan) (p : Plan) (o : Option Members) → passed ps (option_map (behind p) o) ≡ passed (ps ++ p ∷ []) o
@@ -85,3 +87,23 @@ no_select s n (p ∷ ps) e =
     let m = n + width s (plan_seen p) in
     ap (λ o. option_or (option_map (before (plans_seen ps)) o) (option_map (behind (plan_seen p)) (unselected s m (plans_seen ps)))) (no_part (plan_seen p) n none.0)
     ∙ ap (option_map (behind (plan_seen p))) (no_select s m ps none.1)
+
+-- ---- the condition alone
+
+condition-first : (s : Tables) (n : ℕ) (ls : List Plan) (p : Plan) (ps : Plans) (o : Option Part) (c : Expr) → Some c ≡ option_map (λ x. x.1) o → Some c ≡ option_map (λ x. x.1) (passed ls (at_first s n p ps o))
+condition-first s n ls p ps None c e = cc
+condition-first s n ls p ps (Some x) c e = e
+
+pub condition_here : (s : Tables) (ps : List PlanValue) (i n : ℕ) (p : PlanValue) (c : Expr) → i < length ps → p ≡ get_or ps i p → Some c ≡ option_map (λ x. x.1) (part_behind n (plan_seen p)) → Passed s ps i n →
+    Some c ≡ first_condition s (plans_seen ps)
+condition_here s ps i n p c below is part k =
+    let o = part_behind n (plan_seen p) in
+    condition-first s n (map plan_seen (take i ps)) (plan_seen p) (plans_seen (drop (i + 1) ps)) o c part ∙ ap (option_map (λ (x : Members). x.1)) (sym (passed-here s ps i n p o below is refl k))
+
+pub no_condition_here : (s : Tables) (ps : List PlanValue) (i n m : ℕ) (p : PlanValue) → i < length ps → p ≡ get_or ps i p → None ≡ option_map (λ (x : Part). x.1) (part_behind n (plan_seen p)) → m ≡ n + width s (plan_seen p) →
+    Passed s ps i n → Passed s ps (i + 1) m
+no_condition_here s ps i n m p below is none w k =
+    no_select_here s ps i n m p below is (sym (map_lacking (λ (x : Part). x.1) (part_behind n (plan_seen p)) (sym none))) w k
+
+pub no_condition : (s : Tables) (ps : List PlanValue) → list_any (λ p. is_select (plan_seen p)) ps ≡ false → first_condition s (plans_seen ps) ≡ None
+no_condition s ps e = ap (option_map (λ (x : Members). x.1)) (no_select s 0 ps e)

@@ -1,3 +1,5 @@
 pub mod Behind
 pub mod FirstSelect
 pub mod InPlace
+pub mod FirstBelow
+pub mod MemberParts

@@ -1,5 +1,5 @@
 -- A condition over a node that has a condition, and one of a node's member: both become one.
-use Rattle.std.specs.Prelude.{ℕ, ◌+◌, Bool, true, false, not, Option, Some, None, option_map}
+use Rattle.std.specs.Prelude.{ℕ, ◌+◌, Bool, true, false, not, Option, Some, None, option_map, if◌then◌else◌}
 use Rattle.std.specs.Bool.{then_some}
 use Rattle.std.specs.Option.{option_or}
 use Rattle.vkg_expr.specs.Expr.{Expr}
@@ -72,3 +72,28 @@ under_both c p = p
 abbrev pub merged : Plan → Plan
 merged (Select c p) = under_both c p
 merged p = p
+
+-- ---- a Join of which a Select among the members is taken apart
+
+-- the condition of the first Select, over the columns of all members
+abbrev pub first_condition : Tables → Plans → Option Expr
+first_condition schema ps = option_map (λ x. x.1) (unselected schema 0 ps)
+
+abbrev pub member_condition : Tables → Plan → Option Expr
+member_condition schema (Join ps c) = first_condition schema ps
+member_condition schema p = None
+
+-- what a Select selects from
+abbrev pub below : Plan → Plan
+below (Select c p) = p
+below p = p
+
+-- so of the first Select among the members
+abbrev pub first_below : Plans → Plans
+first_below Nil = Nil
+first_below (More p ps) = if is_select p then More (below p) ps else More p (first_below ps)
+
+-- The Join over that, under a condition and then its own. Other plans, which have no member, stay.
+abbrev pub opened : Expr → Plan → Plan
+opened d (Join ps c) = Join (first_below ps) (and_then d c)
+opened d p = p

@@ -11,14 +11,14 @@ ghost use Rattle.vkg_rules.specs.Steps.{IsTyped};
 ghost use Rattle.vkg_rules.specs.StepSeen.{plans_seen, step_seen};
 ghost use Rattle.vkg_joins.specs.MembersSeen.{members_seen};
 ghost use Rattle.vkg_moves.specs.Columns.{names_behind as some_behind};
-ghost use Rattle.vkg_moves.specs.MergeSelects.{is_select as a_select, merge_selects, over_condition as over_condition_of, part_behind as part_moved, unselected as unselected_behind};
+ghost use Rattle.vkg_moves.specs.MergeSelects.{first_condition as first_condition_of, is_select as a_select, member_condition as member_condition_of, merge_selects, over_condition as over_condition_of, part_behind as part_moved, unselected as unselected_behind};
 ghost use Rattle.vkg_moves.specs.MergeSelectsLaw.{merge_selects-keeps, merge_selects-falls};
 ghost use Rattle.vkg_moves.specs.PartsSeen.{part_seen};
 
 use crate::answers::lighter;
 use crate::columns::names_behind;
 use crate::kinds::{kinds, width};
-use crate::under_both::{is_over_condition, merged};
+use crate::under_both::{is_over_condition, is_select, merged, opened};
 use std::alloc::Global;
 use vkg_base::{Box, Items, Memory};
 use vkg_cells::SqlType;
@@ -51,7 +51,7 @@ impl Rewrite for MergeSelects {
         }
     }
 
-    // What is selected from stays in memory once, where it has a condition.
+    // What is selected from stays in memory once, where it has a condition, and so do the members of a join.
     fn apply_again(
         &self,
         alloc: Global,
@@ -61,6 +61,9 @@ impl Rewrite for MergeSelects {
     ) -> Result<Answer, Memory> {
         if is_over_condition(&plan) {
             return Ok(lighter(merged(alloc, plan.into_inner())?));
+        }
+        if let Some(c) = member_condition(alloc, schema, &plan)? {
+            return Ok(lighter(opened(alloc, plan.into_inner(), &c)?));
         }
         let made = self.apply(alloc, schema, &plan)?;
         answered(alloc, plan, made)
@@ -213,12 +216,6 @@ fn has_select(ps: &[Plan]) -> bool
     ps.iter().any(|p| is_select(p))
 }
 
-fn is_select(p: &Plan) -> bool
-    ensures { result ≡ a_select (plan_seen p.now) }
-{
-    matches!(p, Plan::Select(_, _))
-}
-
 /// What a selection selects from, and its condition, whose columns are moved behind those before it.
 #[tactic(auto, using(vkg_rules::proofs::Seen::seen_nodes))]
 fn part_behind(
@@ -247,6 +244,63 @@ fn in_place(alloc: Global, ps: &[Plan], i: usize, p: Box<Plan>) -> Result<Items<
     ensures { IfOk result (λ r. r ≡ take i ps.now ++ p ∷ drop (i + 1) ps.now) }
 {
     replaced(alloc, ps, i, p.into_inner())
+}
+
+// ---- the condition of the first selection among them
+
+/// The condition of the first selection among the members of a join, over their columns, if there is one.
+#[tactic(auto, using(vkg_rules::proofs::Seen::seen_nodes))]
+fn member_condition(
+    alloc: Global,
+    schema: &Schema,
+    plan: &Plan,
+) -> Result<Option<Box<Expr>>, Memory>
+    requires { IsTyped schema.now (plan_seen plan.now) }
+    ensures { IfOk result (λ o. option_map expr_seen o ≡ member_condition_of schema.now (plan_seen plan.now)) }
+{
+    match plan {
+        Plan::Join(ps, _) => first_condition(alloc, schema, ps.as_slice()),
+        _ => Ok(None),
+    }
+}
+
+#[tactic(auto, using(crate::proofs::FirstSelect::no_condition))]
+fn first_condition(alloc: Global, schema: &Schema, ps: &[Plan]) -> Result<Option<Box<Expr>>, Memory>
+    requires { AreTyped schema.now (plans_seen ps.now) }
+    ensures { IfOk result (λ o. option_map expr_seen o ≡ first_condition_of schema.now (plans_seen ps.now)) }
+{
+    if !has_select(ps) {
+        return Ok(None);
+    }
+    let mut before = Items::new(alloc);
+    for i in 0..ps.len() {
+        let p = &ps[i];
+        if let Some(c) = condition_behind(alloc, schema, p, before.as_slice())? {
+            return Ok(Some(c));
+        }
+        before.append(kinds(alloc, schema, p)?)?;
+    }
+    Ok(None)
+}
+
+/// The condition of a selection, whose columns are moved behind those before it.
+#[tactic(auto, using(vkg_rules::proofs::Seen::seen_nodes))]
+fn condition_behind(
+    alloc: Global,
+    schema: &Schema,
+    p: &Plan,
+    before: &[SqlType],
+) -> Result<Option<Box<Expr>>, Memory>
+    requires { IsTyped schema.now (plan_seen p.now) }
+    ensures { IfOk result (λ o. option_map expr_seen o ≡ option_map (λ x. x.1) (part_moved (length before.now) (plan_seen p.now))) }
+{
+    match p {
+        Plan::Select(c, _) => {
+            let own = kinds(alloc, schema, p)?;
+            Ok(Some(Box::new(alloc, moved(alloc, c, before, own.as_slice())?)?))
+        }
+        _ => Ok(None),
+    }
 }
 
 // ---- on the right of a left join
