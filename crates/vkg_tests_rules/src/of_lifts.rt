@@ -70,8 +70,14 @@ const OUTCOMES: [(&str, &str); 9] = [
         "on the right",
         "SELECT c1 AS c1, c2 AS c2, c4 AS c3, c3 AS c4 FROM (SELECT * FROM (TABLE \"t\") AS t1 LEFT JOIN (TABLE \"t\") AS t2 ON SAME(c1, c4)) AS t",
     ),
-    ("over another", "none"),
-    ("over a left join with one", "none"),
+    (
+        "over another",
+        "SELECT c2 AS c1, c1 AS c2, c3 AS c3, c4 AS c4 FROM (SELECT * FROM (SELECT c2 AS c1, c1 AS c2 FROM (TABLE \"t\") AS t) AS t1 LEFT JOIN (TABLE \"t\") AS t2 ON SAME(c2, c3)) AS t",
+    ),
+    (
+        "over a left join with one",
+        "SELECT c2 AS c1, c1 AS c2, c5 AS c3, c6 AS c4 FROM (SELECT * FROM (SELECT * FROM (SELECT c2 AS c1, c1 AS c2 FROM (TABLE \"t\") AS t) AS t1 LEFT JOIN (TABLE \"t\") AS t2 ON SAME(c1, c3)) AS t1 LEFT JOIN (TABLE \"t\") AS t2 ON SAME(c2, c5)) AS t",
+    ),
     ("with NULL on the right", "none"),
     (
         "with NULL on the left",
