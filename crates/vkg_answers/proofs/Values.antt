@@ -1,11 +1,10 @@
 -- A filter's expression over a row has the value that it has under the row's solution.
-use Rattle.std.proofs.Common.{◌≡◌, ℕ, Bool, true, false, [], ◌++◌, refl}
-use Rattle.std.specs.Prelude.{Option, Some, None, option_map, option_and_then, is_some, Contains}
+use Rattle.std.proofs.Common.{◌≡◌, ℕ, Bool, true, false, [], ◌++◌, refl, ap}
+use Rattle.std.specs.Prelude.{Option, Some, None, IfSome, not, option_map, option_and_then, is_some, Contains}
 use Rattle.std.proofs.lemmas.List.Elements.{Contains-append_left, Contains-append_right}
 use Rattle.vkg_lists.proofs.Members.{Contains-here}
 use Rattle.vkg_lists.proofs.Bools.{not_true}
 use Rattle.vkg_terms.specs.declared.term.Term.{Term}
-use Rattle.vkg_terms.specs.declared.term.Term.TheVariants.{Iri, Blank, Lit}
 use Rattle.vkg_terms.specs.Same.{term_eq}
 use Rattle.vkg_cells.specs.declared.cell.Cell.{Cell}
 use Rattle.vkg_cells.specs.Order.{same}
@@ -18,8 +17,7 @@ use Rattle.vkg_values.specs.declared.operator.Take.{Take as TakeOp}
 use Rattle.vkg_values.specs.Known.{widest}
 use Rattle.vkg_values.specs.Logic.{not3, and3, or3}
 use Rattle.vkg_values.specs.Operators.{ebv, test_value, take_value, compare_value, on_two}
-use Rattle.vkg_values.specs.declared.operator.Take.TheVariants as take
-use Rattle.vkg_values.proofs.Narrow.{compare_narrow, ebv_narrow as ebv_known, test_narrow}
+use Rattle.vkg_values.proofs.Narrow.{compare_narrow, ebv_narrow as ebv_known, take_narrow, test_narrow}
 use Rattle.vkg_sparql.specs.declared.pattern.Node.TheVariants.{Fixed}
 use Rattle.vkg_sparql.specs.Lawful.{condition_nodes}
 use Rattle.vkg_sparql.specs.Query.{Condition, Variable, Constant, Bound, Test, Take, Compare, SameTerm, Not, And, Or}
@@ -62,16 +60,9 @@ truth_meant true e row o m = Prim.rw (m.1, m.2) (of m.0)
     of (Some true) = refl
     of (Some false) = refl
 
-take_narrow : (f : TakeOp) (a : Term) → IsNarrow (take_value f a)
-take_narrow take.Str (Iri s) = refl
-take_narrow take.Str (Blank s) = tt
-take_narrow take.Str (Lit s k) = refl
-take_narrow take.Lang (Iri s) = tt
-take_narrow take.Lang (Blank s) = tt
-take_narrow take.Lang (Lit s k) = refl
-take_narrow take.Datatype (Iri s) = tt
-take_narrow take.Datatype (Blank s) = tt
-take_narrow take.Datatype (Lit s k) = refl
+narrow_again : (o : Option Term) → IfSome o (λ t. is_wide_number t ≡ false) → IsNarrow o
+narrow_again None h = tt
+narrow_again (Some t) h = ap not h
 
 -- the constants of an expression are narrow
 abbrev pub IsNarrowCondition : Condition → Type 0
@@ -92,7 +83,7 @@ test_means f c (Some t) m = (Some (test_value None f t), Prim.rw (m.0, test_narr
 
 take_means : (f : TakeOp) (c : Cell) (o : Option Term) → Means false c o → Means false (term_cell (option_and_then (take_value f) (term_of c))) (option_and_then (take_value f) o)
 take_means f c None m = (Prim.rw m.0 refl, tt)
-take_means f c (Some t) m = (Prim.rw m.0 refl, take_narrow f t)
+take_means f c (Some t) m = (Prim.rw m.0 refl, narrow_again (take_value f t) (take_narrow f t))
 
 both_means : (g h : Term → Term → Option Bool) (c d : Cell) (o p : Option Term) → ((a b : Term) → IsNarrow (Some a) → IsNarrow (Some b) → g a b ≡ h a b) → Means false c o → Means false d p →
     Means true (truth_cell (on_two g (term_of c) (term_of d))) (option_map truth_term (on_two h o p))

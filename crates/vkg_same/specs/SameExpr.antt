@@ -26,6 +26,7 @@ abbrev pub same_take : Take → Take → Bool
 same_take take.Str take.Str = true
 same_take take.Lang take.Lang = true
 same_take take.Datatype take.Datatype = true
+same_take take.Length take.Length = true
 same_take a b = false
 
 abbrev pub same_compare : Compare → Compare → Bool
@@ -35,6 +36,9 @@ same_compare compare.Less compare.Less = true
 same_compare compare.Greater compare.Greater = true
 same_compare compare.LessOrEqual compare.LessOrEqual = true
 same_compare compare.GreaterOrEqual compare.GreaterOrEqual = true
+same_compare compare.Starts compare.Starts = true
+same_compare compare.Ends compare.Ends = true
+same_compare compare.Contains compare.Contains = true
 same_compare a b = false
 
 abbrev pub same_operator : Operator → Operator → Bool

@@ -32,6 +32,7 @@ same_take-is : (a b : Take) → same_take a b ≡ true → a ≡ b
 same_take-is take.Str take.Str e = refl
 same_take-is take.Lang take.Lang e = refl
 same_take-is take.Datatype take.Datatype e = refl
+same_take-is take.Length take.Length e = refl
 same_take-is _ _ e = cc
 
 same_compare-is : (a b : Compare) → same_compare a b ≡ true → a ≡ b
@@ -41,6 +42,9 @@ same_compare-is compare.Less compare.Less e = refl
 same_compare-is compare.Greater compare.Greater e = refl
 same_compare-is compare.LessOrEqual compare.LessOrEqual e = refl
 same_compare-is compare.GreaterOrEqual compare.GreaterOrEqual e = refl
+same_compare-is compare.Starts compare.Starts e = refl
+same_compare-is compare.Ends compare.Ends e = refl
+same_compare-is compare.Contains compare.Contains e = refl
 same_compare-is _ _ e = cc
 
 same_operator-is : (a b : Operator) → same_operator a b ≡ true → a ≡ b

@@ -36,6 +36,7 @@ same_take-itself : (a : Take) → same_take a a ≡ true
 same_take-itself take.Str = refl
 same_take-itself take.Lang = refl
 same_take-itself take.Datatype = refl
+same_take-itself take.Length = refl
 
 same_compare-itself : (a : Compare) → same_compare a a ≡ true
 same_compare-itself compare.Equal = refl
@@ -44,6 +45,9 @@ same_compare-itself compare.Less = refl
 same_compare-itself compare.Greater = refl
 same_compare-itself compare.LessOrEqual = refl
 same_compare-itself compare.GreaterOrEqual = refl
+same_compare-itself compare.Starts = refl
+same_compare-itself compare.Ends = refl
+same_compare-itself compare.Contains = refl
 
 same_operator-itself : (a : Operator) → same_operator a a ≡ true
 same_operator-itself (operator.Test a) = same_test-itself a

@@ -103,6 +103,7 @@ fn same_take(a: Take, b: Take) -> bool
         (Take::Str, Take::Str) => true,
         (Take::Lang, Take::Lang) => true,
         (Take::Datatype, Take::Datatype) => true,
+        (Take::Length, Take::Length) => true,
         _ => false,
     }
 }
@@ -117,6 +118,9 @@ fn same_compare(a: Compare, b: Compare) -> bool
         (Compare::Greater, Compare::Greater) => true,
         (Compare::LessOrEqual, Compare::LessOrEqual) => true,
         (Compare::GreaterOrEqual, Compare::GreaterOrEqual) => true,
+        (Compare::Starts, Compare::Starts) => true,
+        (Compare::Ends, Compare::Ends) => true,
+        (Compare::Contains, Compare::Contains) => true,
         _ => false,
     }
 }

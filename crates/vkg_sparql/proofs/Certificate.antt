@@ -4,7 +4,7 @@ use Rattle.vkg_grammar.specs.Certified.{Claim}
 use Rattle.vkg_grammar.specs.Form.{IsWellFormed}
 use Rattle.vkg_grammar.specs.Grammar.{IsLL1}
 use Rattle.vkg_grammar.proofs.Certifying.{passes_ll1, is_grammar, has_kinds}
-use Rattle.vkg_tokens.specs.declared.sparql_kinds.TheConstants.{OPEN_BRACE, CLOSE_BRACE, OPEN, CLOSE, OPEN_BRACKET, CLOSE_BRACKET, DOT, SEMICOLON, COMMA, EQUAL, NOT_EQUAL, LESS, GREATER, LESS_EQUAL, GREATER_EQUAL, NOT, AND, OR, STAR, CARETS, IRIREF, PNAME_NS, PNAME_LN, BLANK, VAR, STRING, LANGTAG, INTEGER, DECIMAL, IS_A, TRUE, FALSE, BASE, PREFIX, SELECT, DISTINCT, REDUCED, WHERE, OPTIONAL, GRAPH, FILTER, UNION, BOUND, SAMETERM, ISIRI, ISURI, ISBLANK, ISLITERAL, ISNUMERIC, STR, LANG, DATATYPE, KIND_COUNT}
+use Rattle.vkg_tokens.specs.declared.sparql_kinds.TheConstants.{OPEN_BRACE, CLOSE_BRACE, OPEN, CLOSE, OPEN_BRACKET, CLOSE_BRACKET, DOT, SEMICOLON, COMMA, EQUAL, NOT_EQUAL, LESS, GREATER, LESS_EQUAL, GREATER_EQUAL, NOT, AND, OR, STAR, CARETS, IRIREF, PNAME_NS, PNAME_LN, BLANK, VAR, STRING, LANGTAG, INTEGER, DECIMAL, IS_A, TRUE, FALSE, BASE, PREFIX, SELECT, DISTINCT, REDUCED, WHERE, OPTIONAL, GRAPH, FILTER, UNION, BOUND, SAMETERM, ISIRI, ISURI, ISBLANK, ISLITERAL, ISNUMERIC, STR, LANG, DATATYPE, STRLEN, STRSTARTS, STRENDS, CONTAINS, KIND_COUNT}
 use Rattle.vkg_sparql.specs.declared.grammar_table.TheConstants.{SPARQL}
 
 abbrev claims : List Claim
@@ -68,7 +68,7 @@ claims =
     ∷ record { empty = false; begin = CLOSE_BRACKET ∷ []; follow = OPEN_BRACE ∷ CLOSE_BRACE ∷ CLOSE_BRACKET ∷ DOT ∷ SEMICOLON ∷ COMMA ∷ IRIREF ∷ PNAME_NS ∷ PNAME_LN ∷ VAR ∷ IS_A ∷ OPTIONAL ∷ GRAPH ∷ FILTER ∷ []; level = 1 }
     ∷ record { empty = false; begin = CLOSE_BRACKET ∷ IRIREF ∷ PNAME_NS ∷ PNAME_LN ∷ VAR ∷ IS_A ∷ []; follow = OPEN_BRACE ∷ CLOSE_BRACE ∷ CLOSE_BRACKET ∷ DOT ∷ SEMICOLON ∷ COMMA ∷ OPTIONAL ∷ GRAPH ∷ FILTER ∷ []; level = 2 }
     ∷ record { empty = false; begin = OPEN_BRACKET ∷ []; follow = OPEN_BRACE ∷ CLOSE_BRACE ∷ CLOSE_BRACKET ∷ DOT ∷ SEMICOLON ∷ COMMA ∷ OPTIONAL ∷ GRAPH ∷ FILTER ∷ []; level = 3 }
-    ∷ record { empty = false; begin = COMMA ∷ []; follow = OPEN ∷ OPEN_BRACKET ∷ NOT ∷ IRIREF ∷ PNAME_NS ∷ PNAME_LN ∷ BLANK ∷ VAR ∷ STRING ∷ INTEGER ∷ DECIMAL ∷ TRUE ∷ FALSE ∷ BOUND ∷ SAMETERM ∷ ISIRI ∷ ISURI ∷ ISBLANK ∷ ISLITERAL ∷ ISNUMERIC ∷ STR ∷ LANG ∷ DATATYPE ∷ []; level = 1 }
+    ∷ record { empty = false; begin = COMMA ∷ []; follow = OPEN ∷ OPEN_BRACKET ∷ NOT ∷ IRIREF ∷ PNAME_NS ∷ PNAME_LN ∷ BLANK ∷ VAR ∷ STRING ∷ INTEGER ∷ DECIMAL ∷ TRUE ∷ FALSE ∷ BOUND ∷ SAMETERM ∷ ISIRI ∷ ISURI ∷ ISBLANK ∷ ISLITERAL ∷ ISNUMERIC ∷ STR ∷ LANG ∷ DATATYPE ∷ STRLEN ∷ STRSTARTS ∷ STRENDS ∷ CONTAINS ∷ []; level = 1 }
     ∷ record { empty = false; begin = COMMA ∷ []; follow = OPEN_BRACE ∷ CLOSE_BRACE ∷ CLOSE_BRACKET ∷ DOT ∷ SEMICOLON ∷ COMMA ∷ OPTIONAL ∷ GRAPH ∷ FILTER ∷ []; level = 4 }
     ∷ record { empty = true; begin = COMMA ∷ []; follow = OPEN_BRACE ∷ CLOSE_BRACE ∷ CLOSE_BRACKET ∷ DOT ∷ SEMICOLON ∷ OPTIONAL ∷ GRAPH ∷ FILTER ∷ []; level = 1 }
     ∷ record { empty = false; begin = SEMICOLON ∷ []; follow = OPEN_BRACE ∷ CLOSE_BRACE ∷ CLOSE_BRACKET ∷ DOT ∷ SEMICOLON ∷ IRIREF ∷ PNAME_NS ∷ PNAME_LN ∷ VAR ∷ IS_A ∷ OPTIONAL ∷ GRAPH ∷ FILTER ∷ []; level = 1 }
@@ -95,30 +95,36 @@ claims =
     ∷ record { empty = false; begin = IRIREF ∷ PNAME_NS ∷ PNAME_LN ∷ VAR ∷ []; follow = OPEN_BRACE ∷ []; level = 2 }
     ∷ record { empty = false; begin = IRIREF ∷ PNAME_NS ∷ PNAME_LN ∷ VAR ∷ []; follow = OPEN_BRACE ∷ CLOSE_BRACE ∷ OPEN_BRACKET ∷ DOT ∷ IRIREF ∷ PNAME_NS ∷ PNAME_LN ∷ BLANK ∷ VAR ∷ STRING ∷ INTEGER ∷ DECIMAL ∷ TRUE ∷ FALSE ∷ OPTIONAL ∷ GRAPH ∷ FILTER ∷ []; level = 5 }
     ∷ record { empty = false; begin = GRAPH ∷ []; follow = OPEN_BRACE ∷ CLOSE_BRACE ∷ OPEN_BRACKET ∷ DOT ∷ IRIREF ∷ PNAME_NS ∷ PNAME_LN ∷ BLANK ∷ VAR ∷ STRING ∷ INTEGER ∷ DECIMAL ∷ TRUE ∷ FALSE ∷ OPTIONAL ∷ GRAPH ∷ FILTER ∷ []; level = 6 }
-    ∷ record { empty = false; begin = FILTER ∷ []; follow = OPEN ∷ BOUND ∷ SAMETERM ∷ ISIRI ∷ ISURI ∷ ISBLANK ∷ ISLITERAL ∷ ISNUMERIC ∷ STR ∷ LANG ∷ DATATYPE ∷ []; level = 1 }
-    ∷ record { empty = false; begin = OPEN ∷ BOUND ∷ SAMETERM ∷ ISIRI ∷ ISURI ∷ ISBLANK ∷ ISLITERAL ∷ ISNUMERIC ∷ STR ∷ LANG ∷ DATATYPE ∷ []; follow = OPEN_BRACE ∷ CLOSE_BRACE ∷ OPEN_BRACKET ∷ DOT ∷ IRIREF ∷ PNAME_NS ∷ PNAME_LN ∷ BLANK ∷ VAR ∷ STRING ∷ INTEGER ∷ DECIMAL ∷ TRUE ∷ FALSE ∷ OPTIONAL ∷ GRAPH ∷ FILTER ∷ []; level = 6 }
+    ∷ record { empty = false; begin = FILTER ∷ []; follow = OPEN ∷ BOUND ∷ SAMETERM ∷ ISIRI ∷ ISURI ∷ ISBLANK ∷ ISLITERAL ∷ ISNUMERIC ∷ STR ∷ LANG ∷ DATATYPE ∷ STRLEN ∷ STRSTARTS ∷ STRENDS ∷ CONTAINS ∷ []; level = 1 }
+    ∷ record { empty = false; begin = OPEN ∷ BOUND ∷ SAMETERM ∷ ISIRI ∷ ISURI ∷ ISBLANK ∷ ISLITERAL ∷ ISNUMERIC ∷ STR ∷ LANG ∷ DATATYPE ∷ STRLEN ∷ STRSTARTS ∷ STRENDS ∷ CONTAINS ∷ []; follow = OPEN_BRACE ∷ CLOSE_BRACE ∷ OPEN_BRACKET ∷ DOT ∷ IRIREF ∷ PNAME_NS ∷ PNAME_LN ∷ BLANK ∷ VAR ∷ STRING ∷ INTEGER ∷ DECIMAL ∷ TRUE ∷ FALSE ∷ OPTIONAL ∷ GRAPH ∷ FILTER ∷ []; level = 6 }
     ∷ record { empty = false; begin = OPEN ∷ []; follow = OPEN_BRACE ∷ CLOSE_BRACE ∷ CLOSE ∷ OPEN_BRACKET ∷ DOT ∷ COMMA ∷ EQUAL ∷ NOT_EQUAL ∷ LESS ∷ GREATER ∷ LESS_EQUAL ∷ GREATER_EQUAL ∷ AND ∷ OR ∷ IRIREF ∷ PNAME_NS ∷ PNAME_LN ∷ BLANK ∷ VAR ∷ STRING ∷ INTEGER ∷ DECIMAL ∷ TRUE ∷ FALSE ∷ OPTIONAL ∷ GRAPH ∷ FILTER ∷ []; level = 10 }
-    ∷ record { empty = false; begin = OPEN ∷ []; follow = OPEN ∷ NOT ∷ IRIREF ∷ PNAME_NS ∷ PNAME_LN ∷ VAR ∷ STRING ∷ INTEGER ∷ DECIMAL ∷ TRUE ∷ FALSE ∷ BOUND ∷ SAMETERM ∷ ISIRI ∷ ISURI ∷ ISBLANK ∷ ISLITERAL ∷ ISNUMERIC ∷ STR ∷ LANG ∷ DATATYPE ∷ []; level = 1 }
-    ∷ record { empty = false; begin = OPEN ∷ NOT ∷ IRIREF ∷ PNAME_NS ∷ PNAME_LN ∷ VAR ∷ STRING ∷ INTEGER ∷ DECIMAL ∷ TRUE ∷ FALSE ∷ BOUND ∷ SAMETERM ∷ ISIRI ∷ ISURI ∷ ISBLANK ∷ ISLITERAL ∷ ISNUMERIC ∷ STR ∷ LANG ∷ DATATYPE ∷ []; follow = CLOSE ∷ COMMA ∷ []; level = 8 }
-    ∷ record { empty = false; begin = OPEN ∷ NOT ∷ IRIREF ∷ PNAME_NS ∷ PNAME_LN ∷ VAR ∷ STRING ∷ INTEGER ∷ DECIMAL ∷ TRUE ∷ FALSE ∷ BOUND ∷ SAMETERM ∷ ISIRI ∷ ISURI ∷ ISBLANK ∷ ISLITERAL ∷ ISNUMERIC ∷ STR ∷ LANG ∷ DATATYPE ∷ []; follow = CLOSE ∷ COMMA ∷ OR ∷ []; level = 7 }
-    ∷ record { empty = false; begin = OPEN ∷ NOT ∷ IRIREF ∷ PNAME_NS ∷ PNAME_LN ∷ VAR ∷ STRING ∷ INTEGER ∷ DECIMAL ∷ TRUE ∷ FALSE ∷ BOUND ∷ SAMETERM ∷ ISIRI ∷ ISURI ∷ ISBLANK ∷ ISLITERAL ∷ ISNUMERIC ∷ STR ∷ LANG ∷ DATATYPE ∷ []; follow = CLOSE ∷ COMMA ∷ AND ∷ OR ∷ []; level = 6 }
-    ∷ record { empty = false; begin = OPEN ∷ NOT ∷ IRIREF ∷ PNAME_NS ∷ PNAME_LN ∷ VAR ∷ STRING ∷ INTEGER ∷ DECIMAL ∷ TRUE ∷ FALSE ∷ BOUND ∷ SAMETERM ∷ ISIRI ∷ ISURI ∷ ISBLANK ∷ ISLITERAL ∷ ISNUMERIC ∷ STR ∷ LANG ∷ DATATYPE ∷ []; follow = CLOSE ∷ COMMA ∷ EQUAL ∷ NOT_EQUAL ∷ LESS ∷ GREATER ∷ LESS_EQUAL ∷ GREATER_EQUAL ∷ AND ∷ OR ∷ []; level = 5 }
-    ∷ record { empty = false; begin = NOT ∷ []; follow = OPEN ∷ IRIREF ∷ PNAME_NS ∷ PNAME_LN ∷ VAR ∷ STRING ∷ INTEGER ∷ DECIMAL ∷ TRUE ∷ FALSE ∷ BOUND ∷ SAMETERM ∷ ISIRI ∷ ISURI ∷ ISBLANK ∷ ISLITERAL ∷ ISNUMERIC ∷ STR ∷ LANG ∷ DATATYPE ∷ []; level = 1 }
-    ∷ record { empty = true; begin = NOT ∷ []; follow = OPEN ∷ IRIREF ∷ PNAME_NS ∷ PNAME_LN ∷ VAR ∷ STRING ∷ INTEGER ∷ DECIMAL ∷ TRUE ∷ FALSE ∷ BOUND ∷ SAMETERM ∷ ISIRI ∷ ISURI ∷ ISBLANK ∷ ISLITERAL ∷ ISNUMERIC ∷ STR ∷ LANG ∷ DATATYPE ∷ []; level = 1 }
-    ∷ record { empty = false; begin = OPEN ∷ IRIREF ∷ PNAME_NS ∷ PNAME_LN ∷ VAR ∷ STRING ∷ INTEGER ∷ DECIMAL ∷ TRUE ∷ FALSE ∷ BOUND ∷ SAMETERM ∷ ISIRI ∷ ISURI ∷ ISBLANK ∷ ISLITERAL ∷ ISNUMERIC ∷ STR ∷ LANG ∷ DATATYPE ∷ []; follow = CLOSE ∷ COMMA ∷ EQUAL ∷ NOT_EQUAL ∷ LESS ∷ GREATER ∷ LESS_EQUAL ∷ GREATER_EQUAL ∷ AND ∷ OR ∷ []; level = 4 }
-    ∷ record { empty = false; begin = BOUND ∷ SAMETERM ∷ ISIRI ∷ ISURI ∷ ISBLANK ∷ ISLITERAL ∷ ISNUMERIC ∷ STR ∷ LANG ∷ DATATYPE ∷ []; follow = OPEN_BRACE ∷ CLOSE_BRACE ∷ CLOSE ∷ OPEN_BRACKET ∷ DOT ∷ COMMA ∷ EQUAL ∷ NOT_EQUAL ∷ LESS ∷ GREATER ∷ LESS_EQUAL ∷ GREATER_EQUAL ∷ AND ∷ OR ∷ IRIREF ∷ PNAME_NS ∷ PNAME_LN ∷ BLANK ∷ VAR ∷ STRING ∷ INTEGER ∷ DECIMAL ∷ TRUE ∷ FALSE ∷ OPTIONAL ∷ GRAPH ∷ FILTER ∷ []; level = 5 }
+    ∷ record { empty = false; begin = OPEN ∷ []; follow = OPEN ∷ NOT ∷ IRIREF ∷ PNAME_NS ∷ PNAME_LN ∷ VAR ∷ STRING ∷ INTEGER ∷ DECIMAL ∷ TRUE ∷ FALSE ∷ BOUND ∷ SAMETERM ∷ ISIRI ∷ ISURI ∷ ISBLANK ∷ ISLITERAL ∷ ISNUMERIC ∷ STR ∷ LANG ∷ DATATYPE ∷ STRLEN ∷ STRSTARTS ∷ STRENDS ∷ CONTAINS ∷ []; level = 1 }
+    ∷ record { empty = false; begin = OPEN ∷ NOT ∷ IRIREF ∷ PNAME_NS ∷ PNAME_LN ∷ VAR ∷ STRING ∷ INTEGER ∷ DECIMAL ∷ TRUE ∷ FALSE ∷ BOUND ∷ SAMETERM ∷ ISIRI ∷ ISURI ∷ ISBLANK ∷ ISLITERAL ∷ ISNUMERIC ∷ STR ∷ LANG ∷ DATATYPE ∷ STRLEN ∷ STRSTARTS ∷ STRENDS ∷ CONTAINS ∷ []; follow = CLOSE ∷ COMMA ∷ []; level = 8 }
+    ∷ record { empty = false; begin = OPEN ∷ NOT ∷ IRIREF ∷ PNAME_NS ∷ PNAME_LN ∷ VAR ∷ STRING ∷ INTEGER ∷ DECIMAL ∷ TRUE ∷ FALSE ∷ BOUND ∷ SAMETERM ∷ ISIRI ∷ ISURI ∷ ISBLANK ∷ ISLITERAL ∷ ISNUMERIC ∷ STR ∷ LANG ∷ DATATYPE ∷ STRLEN ∷ STRSTARTS ∷ STRENDS ∷ CONTAINS ∷ []; follow = CLOSE ∷ COMMA ∷ OR ∷ []; level = 7 }
+    ∷ record { empty = false; begin = OPEN ∷ NOT ∷ IRIREF ∷ PNAME_NS ∷ PNAME_LN ∷ VAR ∷ STRING ∷ INTEGER ∷ DECIMAL ∷ TRUE ∷ FALSE ∷ BOUND ∷ SAMETERM ∷ ISIRI ∷ ISURI ∷ ISBLANK ∷ ISLITERAL ∷ ISNUMERIC ∷ STR ∷ LANG ∷ DATATYPE ∷ STRLEN ∷ STRSTARTS ∷ STRENDS ∷ CONTAINS ∷ []; follow = CLOSE ∷ COMMA ∷ AND ∷ OR ∷ []; level = 6 }
+    ∷ record { empty = false; begin = OPEN ∷ NOT ∷ IRIREF ∷ PNAME_NS ∷ PNAME_LN ∷ VAR ∷ STRING ∷ INTEGER ∷ DECIMAL ∷ TRUE ∷ FALSE ∷ BOUND ∷ SAMETERM ∷ ISIRI ∷ ISURI ∷ ISBLANK ∷ ISLITERAL ∷ ISNUMERIC ∷ STR ∷ LANG ∷ DATATYPE ∷ STRLEN ∷ STRSTARTS ∷ STRENDS ∷ CONTAINS ∷ []; follow = CLOSE ∷ COMMA ∷ EQUAL ∷ NOT_EQUAL ∷ LESS ∷ GREATER ∷ LESS_EQUAL ∷ GREATER_EQUAL ∷ AND ∷ OR ∷ []; level = 5 }
+    ∷ record { empty = false; begin = NOT ∷ []; follow = OPEN ∷ IRIREF ∷ PNAME_NS ∷ PNAME_LN ∷ VAR ∷ STRING ∷ INTEGER ∷ DECIMAL ∷ TRUE ∷ FALSE ∷ BOUND ∷ SAMETERM ∷ ISIRI ∷ ISURI ∷ ISBLANK ∷ ISLITERAL ∷ ISNUMERIC ∷ STR ∷ LANG ∷ DATATYPE ∷ STRLEN ∷ STRSTARTS ∷ STRENDS ∷ CONTAINS ∷ []; level = 1 }
+    ∷ record { empty = true; begin = NOT ∷ []; follow = OPEN ∷ IRIREF ∷ PNAME_NS ∷ PNAME_LN ∷ VAR ∷ STRING ∷ INTEGER ∷ DECIMAL ∷ TRUE ∷ FALSE ∷ BOUND ∷ SAMETERM ∷ ISIRI ∷ ISURI ∷ ISBLANK ∷ ISLITERAL ∷ ISNUMERIC ∷ STR ∷ LANG ∷ DATATYPE ∷ STRLEN ∷ STRSTARTS ∷ STRENDS ∷ CONTAINS ∷ []; level = 1 }
+    ∷ record { empty = false; begin = OPEN ∷ IRIREF ∷ PNAME_NS ∷ PNAME_LN ∷ VAR ∷ STRING ∷ INTEGER ∷ DECIMAL ∷ TRUE ∷ FALSE ∷ BOUND ∷ SAMETERM ∷ ISIRI ∷ ISURI ∷ ISBLANK ∷ ISLITERAL ∷ ISNUMERIC ∷ STR ∷ LANG ∷ DATATYPE ∷ STRLEN ∷ STRSTARTS ∷ STRENDS ∷ CONTAINS ∷ []; follow = CLOSE ∷ COMMA ∷ EQUAL ∷ NOT_EQUAL ∷ LESS ∷ GREATER ∷ LESS_EQUAL ∷ GREATER_EQUAL ∷ AND ∷ OR ∷ []; level = 4 }
+    ∷ record { empty = false; begin = BOUND ∷ SAMETERM ∷ ISIRI ∷ ISURI ∷ ISBLANK ∷ ISLITERAL ∷ ISNUMERIC ∷ STR ∷ LANG ∷ DATATYPE ∷ STRLEN ∷ STRSTARTS ∷ STRENDS ∷ CONTAINS ∷ []; follow = OPEN_BRACE ∷ CLOSE_BRACE ∷ CLOSE ∷ OPEN_BRACKET ∷ DOT ∷ COMMA ∷ EQUAL ∷ NOT_EQUAL ∷ LESS ∷ GREATER ∷ LESS_EQUAL ∷ GREATER_EQUAL ∷ AND ∷ OR ∷ IRIREF ∷ PNAME_NS ∷ PNAME_LN ∷ BLANK ∷ VAR ∷ STRING ∷ INTEGER ∷ DECIMAL ∷ TRUE ∷ FALSE ∷ OPTIONAL ∷ GRAPH ∷ FILTER ∷ []; level = 5 }
     ∷ record { empty = false; begin = BOUND ∷ []; follow = OPEN ∷ []; level = 1 }
     ∷ record { empty = false; begin = CLOSE ∷ []; follow = OPEN_BRACE ∷ CLOSE_BRACE ∷ CLOSE ∷ OPEN_BRACKET ∷ DOT ∷ COMMA ∷ EQUAL ∷ NOT_EQUAL ∷ LESS ∷ GREATER ∷ LESS_EQUAL ∷ GREATER_EQUAL ∷ AND ∷ OR ∷ IRIREF ∷ PNAME_NS ∷ PNAME_LN ∷ BLANK ∷ VAR ∷ STRING ∷ INTEGER ∷ DECIMAL ∷ TRUE ∷ FALSE ∷ OPTIONAL ∷ GRAPH ∷ FILTER ∷ []; level = 1 }
     ∷ record { empty = false; begin = VAR ∷ []; follow = OPEN_BRACE ∷ CLOSE_BRACE ∷ CLOSE ∷ OPEN_BRACKET ∷ DOT ∷ COMMA ∷ EQUAL ∷ NOT_EQUAL ∷ LESS ∷ GREATER ∷ LESS_EQUAL ∷ GREATER_EQUAL ∷ AND ∷ OR ∷ IRIREF ∷ PNAME_NS ∷ PNAME_LN ∷ BLANK ∷ VAR ∷ STRING ∷ INTEGER ∷ DECIMAL ∷ TRUE ∷ FALSE ∷ OPTIONAL ∷ GRAPH ∷ FILTER ∷ []; level = 2 }
     ∷ record { empty = false; begin = OPEN ∷ []; follow = OPEN_BRACE ∷ CLOSE_BRACE ∷ CLOSE ∷ OPEN_BRACKET ∷ DOT ∷ COMMA ∷ EQUAL ∷ NOT_EQUAL ∷ LESS ∷ GREATER ∷ LESS_EQUAL ∷ GREATER_EQUAL ∷ AND ∷ OR ∷ IRIREF ∷ PNAME_NS ∷ PNAME_LN ∷ BLANK ∷ VAR ∷ STRING ∷ INTEGER ∷ DECIMAL ∷ TRUE ∷ FALSE ∷ OPTIONAL ∷ GRAPH ∷ FILTER ∷ []; level = 3 }
     ∷ record { empty = false; begin = BOUND ∷ []; follow = OPEN_BRACE ∷ CLOSE_BRACE ∷ CLOSE ∷ OPEN_BRACKET ∷ DOT ∷ COMMA ∷ EQUAL ∷ NOT_EQUAL ∷ LESS ∷ GREATER ∷ LESS_EQUAL ∷ GREATER_EQUAL ∷ AND ∷ OR ∷ IRIREF ∷ PNAME_NS ∷ PNAME_LN ∷ BLANK ∷ VAR ∷ STRING ∷ INTEGER ∷ DECIMAL ∷ TRUE ∷ FALSE ∷ OPTIONAL ∷ GRAPH ∷ FILTER ∷ []; level = 4 }
+    ∷ record { empty = false; begin = SAMETERM ∷ STRSTARTS ∷ STRENDS ∷ CONTAINS ∷ []; follow = OPEN ∷ []; level = 2 }
     ∷ record { empty = false; begin = SAMETERM ∷ []; follow = OPEN ∷ []; level = 1 }
-    ∷ record { empty = false; begin = OPEN ∷ NOT ∷ IRIREF ∷ PNAME_NS ∷ PNAME_LN ∷ VAR ∷ STRING ∷ INTEGER ∷ DECIMAL ∷ TRUE ∷ FALSE ∷ BOUND ∷ SAMETERM ∷ ISIRI ∷ ISURI ∷ ISBLANK ∷ ISLITERAL ∷ ISNUMERIC ∷ STR ∷ LANG ∷ DATATYPE ∷ []; follow = OPEN_BRACE ∷ CLOSE_BRACE ∷ CLOSE ∷ OPEN_BRACKET ∷ DOT ∷ COMMA ∷ EQUAL ∷ NOT_EQUAL ∷ LESS ∷ GREATER ∷ LESS_EQUAL ∷ GREATER_EQUAL ∷ AND ∷ OR ∷ IRIREF ∷ PNAME_NS ∷ PNAME_LN ∷ BLANK ∷ VAR ∷ STRING ∷ INTEGER ∷ DECIMAL ∷ TRUE ∷ FALSE ∷ OPTIONAL ∷ GRAPH ∷ FILTER ∷ []; level = 9 }
+    ∷ record { empty = false; begin = STRSTARTS ∷ []; follow = OPEN ∷ []; level = 1 }
+    ∷ record { empty = false; begin = STRENDS ∷ []; follow = OPEN ∷ []; level = 1 }
+    ∷ record { empty = false; begin = CONTAINS ∷ []; follow = OPEN ∷ []; level = 1 }
+    ∷ record { empty = false; begin = STRENDS ∷ CONTAINS ∷ []; follow = OPEN ∷ []; level = 2 }
+    ∷ record { empty = false; begin = STRSTARTS ∷ STRENDS ∷ CONTAINS ∷ []; follow = OPEN ∷ []; level = 2 }
+    ∷ record { empty = false; begin = OPEN ∷ NOT ∷ IRIREF ∷ PNAME_NS ∷ PNAME_LN ∷ VAR ∷ STRING ∷ INTEGER ∷ DECIMAL ∷ TRUE ∷ FALSE ∷ BOUND ∷ SAMETERM ∷ ISIRI ∷ ISURI ∷ ISBLANK ∷ ISLITERAL ∷ ISNUMERIC ∷ STR ∷ LANG ∷ DATATYPE ∷ STRLEN ∷ STRSTARTS ∷ STRENDS ∷ CONTAINS ∷ []; follow = OPEN_BRACE ∷ CLOSE_BRACE ∷ CLOSE ∷ OPEN_BRACKET ∷ DOT ∷ COMMA ∷ EQUAL ∷ NOT_EQUAL ∷ LESS ∷ GREATER ∷ LESS_EQUAL ∷ GREATER_EQUAL ∷ AND ∷ OR ∷ IRIREF ∷ PNAME_NS ∷ PNAME_LN ∷ BLANK ∷ VAR ∷ STRING ∷ INTEGER ∷ DECIMAL ∷ TRUE ∷ FALSE ∷ OPTIONAL ∷ GRAPH ∷ FILTER ∷ []; level = 9 }
     ∷ record { empty = false; begin = COMMA ∷ []; follow = OPEN_BRACE ∷ CLOSE_BRACE ∷ CLOSE ∷ OPEN_BRACKET ∷ DOT ∷ COMMA ∷ EQUAL ∷ NOT_EQUAL ∷ LESS ∷ GREATER ∷ LESS_EQUAL ∷ GREATER_EQUAL ∷ AND ∷ OR ∷ IRIREF ∷ PNAME_NS ∷ PNAME_LN ∷ BLANK ∷ VAR ∷ STRING ∷ INTEGER ∷ DECIMAL ∷ TRUE ∷ FALSE ∷ OPTIONAL ∷ GRAPH ∷ FILTER ∷ []; level = 10 }
-    ∷ record { empty = false; begin = OPEN ∷ NOT ∷ IRIREF ∷ PNAME_NS ∷ PNAME_LN ∷ VAR ∷ STRING ∷ INTEGER ∷ DECIMAL ∷ TRUE ∷ FALSE ∷ BOUND ∷ SAMETERM ∷ ISIRI ∷ ISURI ∷ ISBLANK ∷ ISLITERAL ∷ ISNUMERIC ∷ STR ∷ LANG ∷ DATATYPE ∷ []; follow = OPEN_BRACE ∷ CLOSE_BRACE ∷ CLOSE ∷ OPEN_BRACKET ∷ DOT ∷ COMMA ∷ EQUAL ∷ NOT_EQUAL ∷ LESS ∷ GREATER ∷ LESS_EQUAL ∷ GREATER_EQUAL ∷ AND ∷ OR ∷ IRIREF ∷ PNAME_NS ∷ PNAME_LN ∷ BLANK ∷ VAR ∷ STRING ∷ INTEGER ∷ DECIMAL ∷ TRUE ∷ FALSE ∷ OPTIONAL ∷ GRAPH ∷ FILTER ∷ []; level = 11 }
+    ∷ record { empty = false; begin = OPEN ∷ NOT ∷ IRIREF ∷ PNAME_NS ∷ PNAME_LN ∷ VAR ∷ STRING ∷ INTEGER ∷ DECIMAL ∷ TRUE ∷ FALSE ∷ BOUND ∷ SAMETERM ∷ ISIRI ∷ ISURI ∷ ISBLANK ∷ ISLITERAL ∷ ISNUMERIC ∷ STR ∷ LANG ∷ DATATYPE ∷ STRLEN ∷ STRSTARTS ∷ STRENDS ∷ CONTAINS ∷ []; follow = OPEN_BRACE ∷ CLOSE_BRACE ∷ CLOSE ∷ OPEN_BRACKET ∷ DOT ∷ COMMA ∷ EQUAL ∷ NOT_EQUAL ∷ LESS ∷ GREATER ∷ LESS_EQUAL ∷ GREATER_EQUAL ∷ AND ∷ OR ∷ IRIREF ∷ PNAME_NS ∷ PNAME_LN ∷ BLANK ∷ VAR ∷ STRING ∷ INTEGER ∷ DECIMAL ∷ TRUE ∷ FALSE ∷ OPTIONAL ∷ GRAPH ∷ FILTER ∷ []; level = 11 }
     ∷ record { empty = false; begin = OPEN ∷ []; follow = OPEN_BRACE ∷ CLOSE_BRACE ∷ CLOSE ∷ OPEN_BRACKET ∷ DOT ∷ COMMA ∷ EQUAL ∷ NOT_EQUAL ∷ LESS ∷ GREATER ∷ LESS_EQUAL ∷ GREATER_EQUAL ∷ AND ∷ OR ∷ IRIREF ∷ PNAME_NS ∷ PNAME_LN ∷ BLANK ∷ VAR ∷ STRING ∷ INTEGER ∷ DECIMAL ∷ TRUE ∷ FALSE ∷ OPTIONAL ∷ GRAPH ∷ FILTER ∷ []; level = 12 }
-    ∷ record { empty = false; begin = SAMETERM ∷ []; follow = OPEN_BRACE ∷ CLOSE_BRACE ∷ CLOSE ∷ OPEN_BRACKET ∷ DOT ∷ COMMA ∷ EQUAL ∷ NOT_EQUAL ∷ LESS ∷ GREATER ∷ LESS_EQUAL ∷ GREATER_EQUAL ∷ AND ∷ OR ∷ IRIREF ∷ PNAME_NS ∷ PNAME_LN ∷ BLANK ∷ VAR ∷ STRING ∷ INTEGER ∷ DECIMAL ∷ TRUE ∷ FALSE ∷ OPTIONAL ∷ GRAPH ∷ FILTER ∷ []; level = 13 }
-    ∷ record { empty = false; begin = ISIRI ∷ ISURI ∷ ISBLANK ∷ ISLITERAL ∷ ISNUMERIC ∷ STR ∷ LANG ∷ DATATYPE ∷ []; follow = OPEN ∷ []; level = 2 }
+    ∷ record { empty = false; begin = SAMETERM ∷ STRSTARTS ∷ STRENDS ∷ CONTAINS ∷ []; follow = OPEN_BRACE ∷ CLOSE_BRACE ∷ CLOSE ∷ OPEN_BRACKET ∷ DOT ∷ COMMA ∷ EQUAL ∷ NOT_EQUAL ∷ LESS ∷ GREATER ∷ LESS_EQUAL ∷ GREATER_EQUAL ∷ AND ∷ OR ∷ IRIREF ∷ PNAME_NS ∷ PNAME_LN ∷ BLANK ∷ VAR ∷ STRING ∷ INTEGER ∷ DECIMAL ∷ TRUE ∷ FALSE ∷ OPTIONAL ∷ GRAPH ∷ FILTER ∷ []; level = 13 }
+    ∷ record { empty = false; begin = ISIRI ∷ ISURI ∷ ISBLANK ∷ ISLITERAL ∷ ISNUMERIC ∷ STR ∷ LANG ∷ DATATYPE ∷ STRLEN ∷ []; follow = OPEN ∷ []; level = 2 }
     ∷ record { empty = false; begin = ISIRI ∷ []; follow = OPEN ∷ []; level = 1 }
     ∷ record { empty = false; begin = ISURI ∷ []; follow = OPEN ∷ []; level = 1 }
     ∷ record { empty = false; begin = ISBLANK ∷ []; follow = OPEN ∷ []; level = 1 }
@@ -127,37 +133,39 @@ claims =
     ∷ record { empty = false; begin = STR ∷ []; follow = OPEN ∷ []; level = 1 }
     ∷ record { empty = false; begin = LANG ∷ []; follow = OPEN ∷ []; level = 1 }
     ∷ record { empty = false; begin = DATATYPE ∷ []; follow = OPEN ∷ []; level = 1 }
-    ∷ record { empty = false; begin = LANG ∷ DATATYPE ∷ []; follow = OPEN ∷ []; level = 2 }
-    ∷ record { empty = false; begin = STR ∷ LANG ∷ DATATYPE ∷ []; follow = OPEN ∷ []; level = 2 }
-    ∷ record { empty = false; begin = ISNUMERIC ∷ STR ∷ LANG ∷ DATATYPE ∷ []; follow = OPEN ∷ []; level = 2 }
-    ∷ record { empty = false; begin = ISLITERAL ∷ ISNUMERIC ∷ STR ∷ LANG ∷ DATATYPE ∷ []; follow = OPEN ∷ []; level = 2 }
-    ∷ record { empty = false; begin = ISBLANK ∷ ISLITERAL ∷ ISNUMERIC ∷ STR ∷ LANG ∷ DATATYPE ∷ []; follow = OPEN ∷ []; level = 2 }
-    ∷ record { empty = false; begin = ISURI ∷ ISBLANK ∷ ISLITERAL ∷ ISNUMERIC ∷ STR ∷ LANG ∷ DATATYPE ∷ []; follow = OPEN ∷ []; level = 2 }
-    ∷ record { empty = false; begin = ISIRI ∷ ISURI ∷ ISBLANK ∷ ISLITERAL ∷ ISNUMERIC ∷ STR ∷ LANG ∷ DATATYPE ∷ []; follow = OPEN_BRACE ∷ CLOSE_BRACE ∷ CLOSE ∷ OPEN_BRACKET ∷ DOT ∷ COMMA ∷ EQUAL ∷ NOT_EQUAL ∷ LESS ∷ GREATER ∷ LESS_EQUAL ∷ GREATER_EQUAL ∷ AND ∷ OR ∷ IRIREF ∷ PNAME_NS ∷ PNAME_LN ∷ BLANK ∷ VAR ∷ STRING ∷ INTEGER ∷ DECIMAL ∷ TRUE ∷ FALSE ∷ OPTIONAL ∷ GRAPH ∷ FILTER ∷ []; level = 11 }
-    ∷ record { empty = false; begin = SAMETERM ∷ ISIRI ∷ ISURI ∷ ISBLANK ∷ ISLITERAL ∷ ISNUMERIC ∷ STR ∷ LANG ∷ DATATYPE ∷ []; follow = OPEN_BRACE ∷ CLOSE_BRACE ∷ CLOSE ∷ OPEN_BRACKET ∷ DOT ∷ COMMA ∷ EQUAL ∷ NOT_EQUAL ∷ LESS ∷ GREATER ∷ LESS_EQUAL ∷ GREATER_EQUAL ∷ AND ∷ OR ∷ IRIREF ∷ PNAME_NS ∷ PNAME_LN ∷ BLANK ∷ VAR ∷ STRING ∷ INTEGER ∷ DECIMAL ∷ TRUE ∷ FALSE ∷ OPTIONAL ∷ GRAPH ∷ FILTER ∷ []; level = 12 }
+    ∷ record { empty = false; begin = STRLEN ∷ []; follow = OPEN ∷ []; level = 1 }
+    ∷ record { empty = false; begin = DATATYPE ∷ STRLEN ∷ []; follow = OPEN ∷ []; level = 2 }
+    ∷ record { empty = false; begin = LANG ∷ DATATYPE ∷ STRLEN ∷ []; follow = OPEN ∷ []; level = 2 }
+    ∷ record { empty = false; begin = STR ∷ LANG ∷ DATATYPE ∷ STRLEN ∷ []; follow = OPEN ∷ []; level = 2 }
+    ∷ record { empty = false; begin = ISNUMERIC ∷ STR ∷ LANG ∷ DATATYPE ∷ STRLEN ∷ []; follow = OPEN ∷ []; level = 2 }
+    ∷ record { empty = false; begin = ISLITERAL ∷ ISNUMERIC ∷ STR ∷ LANG ∷ DATATYPE ∷ STRLEN ∷ []; follow = OPEN ∷ []; level = 2 }
+    ∷ record { empty = false; begin = ISBLANK ∷ ISLITERAL ∷ ISNUMERIC ∷ STR ∷ LANG ∷ DATATYPE ∷ STRLEN ∷ []; follow = OPEN ∷ []; level = 2 }
+    ∷ record { empty = false; begin = ISURI ∷ ISBLANK ∷ ISLITERAL ∷ ISNUMERIC ∷ STR ∷ LANG ∷ DATATYPE ∷ STRLEN ∷ []; follow = OPEN ∷ []; level = 2 }
+    ∷ record { empty = false; begin = ISIRI ∷ ISURI ∷ ISBLANK ∷ ISLITERAL ∷ ISNUMERIC ∷ STR ∷ LANG ∷ DATATYPE ∷ STRLEN ∷ []; follow = OPEN_BRACE ∷ CLOSE_BRACE ∷ CLOSE ∷ OPEN_BRACKET ∷ DOT ∷ COMMA ∷ EQUAL ∷ NOT_EQUAL ∷ LESS ∷ GREATER ∷ LESS_EQUAL ∷ GREATER_EQUAL ∷ AND ∷ OR ∷ IRIREF ∷ PNAME_NS ∷ PNAME_LN ∷ BLANK ∷ VAR ∷ STRING ∷ INTEGER ∷ DECIMAL ∷ TRUE ∷ FALSE ∷ OPTIONAL ∷ GRAPH ∷ FILTER ∷ []; level = 11 }
+    ∷ record { empty = false; begin = SAMETERM ∷ ISIRI ∷ ISURI ∷ ISBLANK ∷ ISLITERAL ∷ ISNUMERIC ∷ STR ∷ LANG ∷ DATATYPE ∷ STRLEN ∷ STRSTARTS ∷ STRENDS ∷ CONTAINS ∷ []; follow = OPEN_BRACE ∷ CLOSE_BRACE ∷ CLOSE ∷ OPEN_BRACKET ∷ DOT ∷ COMMA ∷ EQUAL ∷ NOT_EQUAL ∷ LESS ∷ GREATER ∷ LESS_EQUAL ∷ GREATER_EQUAL ∷ AND ∷ OR ∷ IRIREF ∷ PNAME_NS ∷ PNAME_LN ∷ BLANK ∷ VAR ∷ STRING ∷ INTEGER ∷ DECIMAL ∷ TRUE ∷ FALSE ∷ OPTIONAL ∷ GRAPH ∷ FILTER ∷ []; level = 12 }
     ∷ record { empty = false; begin = IRIREF ∷ PNAME_NS ∷ PNAME_LN ∷ STRING ∷ INTEGER ∷ DECIMAL ∷ TRUE ∷ FALSE ∷ []; follow = CLOSE ∷ COMMA ∷ EQUAL ∷ NOT_EQUAL ∷ LESS ∷ GREATER ∷ LESS_EQUAL ∷ GREATER_EQUAL ∷ AND ∷ OR ∷ []; level = 3 }
     ∷ record { empty = false; begin = IRIREF ∷ PNAME_NS ∷ PNAME_LN ∷ VAR ∷ STRING ∷ INTEGER ∷ DECIMAL ∷ TRUE ∷ FALSE ∷ []; follow = CLOSE ∷ COMMA ∷ EQUAL ∷ NOT_EQUAL ∷ LESS ∷ GREATER ∷ LESS_EQUAL ∷ GREATER_EQUAL ∷ AND ∷ OR ∷ []; level = 2 }
-    ∷ record { empty = false; begin = IRIREF ∷ PNAME_NS ∷ PNAME_LN ∷ VAR ∷ STRING ∷ INTEGER ∷ DECIMAL ∷ TRUE ∷ FALSE ∷ BOUND ∷ SAMETERM ∷ ISIRI ∷ ISURI ∷ ISBLANK ∷ ISLITERAL ∷ ISNUMERIC ∷ STR ∷ LANG ∷ DATATYPE ∷ []; follow = CLOSE ∷ COMMA ∷ EQUAL ∷ NOT_EQUAL ∷ LESS ∷ GREATER ∷ LESS_EQUAL ∷ GREATER_EQUAL ∷ AND ∷ OR ∷ []; level = 3 }
-    ∷ record { empty = false; begin = EQUAL ∷ NOT_EQUAL ∷ LESS ∷ GREATER ∷ LESS_EQUAL ∷ GREATER_EQUAL ∷ []; follow = OPEN ∷ NOT ∷ IRIREF ∷ PNAME_NS ∷ PNAME_LN ∷ VAR ∷ STRING ∷ INTEGER ∷ DECIMAL ∷ TRUE ∷ FALSE ∷ BOUND ∷ SAMETERM ∷ ISIRI ∷ ISURI ∷ ISBLANK ∷ ISLITERAL ∷ ISNUMERIC ∷ STR ∷ LANG ∷ DATATYPE ∷ []; level = 2 }
-    ∷ record { empty = false; begin = EQUAL ∷ []; follow = OPEN ∷ NOT ∷ IRIREF ∷ PNAME_NS ∷ PNAME_LN ∷ VAR ∷ STRING ∷ INTEGER ∷ DECIMAL ∷ TRUE ∷ FALSE ∷ BOUND ∷ SAMETERM ∷ ISIRI ∷ ISURI ∷ ISBLANK ∷ ISLITERAL ∷ ISNUMERIC ∷ STR ∷ LANG ∷ DATATYPE ∷ []; level = 1 }
-    ∷ record { empty = false; begin = NOT_EQUAL ∷ []; follow = OPEN ∷ NOT ∷ IRIREF ∷ PNAME_NS ∷ PNAME_LN ∷ VAR ∷ STRING ∷ INTEGER ∷ DECIMAL ∷ TRUE ∷ FALSE ∷ BOUND ∷ SAMETERM ∷ ISIRI ∷ ISURI ∷ ISBLANK ∷ ISLITERAL ∷ ISNUMERIC ∷ STR ∷ LANG ∷ DATATYPE ∷ []; level = 1 }
-    ∷ record { empty = false; begin = LESS ∷ []; follow = OPEN ∷ NOT ∷ IRIREF ∷ PNAME_NS ∷ PNAME_LN ∷ VAR ∷ STRING ∷ INTEGER ∷ DECIMAL ∷ TRUE ∷ FALSE ∷ BOUND ∷ SAMETERM ∷ ISIRI ∷ ISURI ∷ ISBLANK ∷ ISLITERAL ∷ ISNUMERIC ∷ STR ∷ LANG ∷ DATATYPE ∷ []; level = 1 }
-    ∷ record { empty = false; begin = GREATER ∷ []; follow = OPEN ∷ NOT ∷ IRIREF ∷ PNAME_NS ∷ PNAME_LN ∷ VAR ∷ STRING ∷ INTEGER ∷ DECIMAL ∷ TRUE ∷ FALSE ∷ BOUND ∷ SAMETERM ∷ ISIRI ∷ ISURI ∷ ISBLANK ∷ ISLITERAL ∷ ISNUMERIC ∷ STR ∷ LANG ∷ DATATYPE ∷ []; level = 1 }
-    ∷ record { empty = false; begin = LESS_EQUAL ∷ []; follow = OPEN ∷ NOT ∷ IRIREF ∷ PNAME_NS ∷ PNAME_LN ∷ VAR ∷ STRING ∷ INTEGER ∷ DECIMAL ∷ TRUE ∷ FALSE ∷ BOUND ∷ SAMETERM ∷ ISIRI ∷ ISURI ∷ ISBLANK ∷ ISLITERAL ∷ ISNUMERIC ∷ STR ∷ LANG ∷ DATATYPE ∷ []; level = 1 }
-    ∷ record { empty = false; begin = GREATER_EQUAL ∷ []; follow = OPEN ∷ NOT ∷ IRIREF ∷ PNAME_NS ∷ PNAME_LN ∷ VAR ∷ STRING ∷ INTEGER ∷ DECIMAL ∷ TRUE ∷ FALSE ∷ BOUND ∷ SAMETERM ∷ ISIRI ∷ ISURI ∷ ISBLANK ∷ ISLITERAL ∷ ISNUMERIC ∷ STR ∷ LANG ∷ DATATYPE ∷ []; level = 1 }
-    ∷ record { empty = false; begin = LESS_EQUAL ∷ GREATER_EQUAL ∷ []; follow = OPEN ∷ NOT ∷ IRIREF ∷ PNAME_NS ∷ PNAME_LN ∷ VAR ∷ STRING ∷ INTEGER ∷ DECIMAL ∷ TRUE ∷ FALSE ∷ BOUND ∷ SAMETERM ∷ ISIRI ∷ ISURI ∷ ISBLANK ∷ ISLITERAL ∷ ISNUMERIC ∷ STR ∷ LANG ∷ DATATYPE ∷ []; level = 2 }
-    ∷ record { empty = false; begin = GREATER ∷ LESS_EQUAL ∷ GREATER_EQUAL ∷ []; follow = OPEN ∷ NOT ∷ IRIREF ∷ PNAME_NS ∷ PNAME_LN ∷ VAR ∷ STRING ∷ INTEGER ∷ DECIMAL ∷ TRUE ∷ FALSE ∷ BOUND ∷ SAMETERM ∷ ISIRI ∷ ISURI ∷ ISBLANK ∷ ISLITERAL ∷ ISNUMERIC ∷ STR ∷ LANG ∷ DATATYPE ∷ []; level = 2 }
-    ∷ record { empty = false; begin = LESS ∷ GREATER ∷ LESS_EQUAL ∷ GREATER_EQUAL ∷ []; follow = OPEN ∷ NOT ∷ IRIREF ∷ PNAME_NS ∷ PNAME_LN ∷ VAR ∷ STRING ∷ INTEGER ∷ DECIMAL ∷ TRUE ∷ FALSE ∷ BOUND ∷ SAMETERM ∷ ISIRI ∷ ISURI ∷ ISBLANK ∷ ISLITERAL ∷ ISNUMERIC ∷ STR ∷ LANG ∷ DATATYPE ∷ []; level = 2 }
-    ∷ record { empty = false; begin = NOT_EQUAL ∷ LESS ∷ GREATER ∷ LESS_EQUAL ∷ GREATER_EQUAL ∷ []; follow = OPEN ∷ NOT ∷ IRIREF ∷ PNAME_NS ∷ PNAME_LN ∷ VAR ∷ STRING ∷ INTEGER ∷ DECIMAL ∷ TRUE ∷ FALSE ∷ BOUND ∷ SAMETERM ∷ ISIRI ∷ ISURI ∷ ISBLANK ∷ ISLITERAL ∷ ISNUMERIC ∷ STR ∷ LANG ∷ DATATYPE ∷ []; level = 2 }
+    ∷ record { empty = false; begin = IRIREF ∷ PNAME_NS ∷ PNAME_LN ∷ VAR ∷ STRING ∷ INTEGER ∷ DECIMAL ∷ TRUE ∷ FALSE ∷ BOUND ∷ SAMETERM ∷ ISIRI ∷ ISURI ∷ ISBLANK ∷ ISLITERAL ∷ ISNUMERIC ∷ STR ∷ LANG ∷ DATATYPE ∷ STRLEN ∷ STRSTARTS ∷ STRENDS ∷ CONTAINS ∷ []; follow = CLOSE ∷ COMMA ∷ EQUAL ∷ NOT_EQUAL ∷ LESS ∷ GREATER ∷ LESS_EQUAL ∷ GREATER_EQUAL ∷ AND ∷ OR ∷ []; level = 3 }
+    ∷ record { empty = false; begin = EQUAL ∷ NOT_EQUAL ∷ LESS ∷ GREATER ∷ LESS_EQUAL ∷ GREATER_EQUAL ∷ []; follow = OPEN ∷ NOT ∷ IRIREF ∷ PNAME_NS ∷ PNAME_LN ∷ VAR ∷ STRING ∷ INTEGER ∷ DECIMAL ∷ TRUE ∷ FALSE ∷ BOUND ∷ SAMETERM ∷ ISIRI ∷ ISURI ∷ ISBLANK ∷ ISLITERAL ∷ ISNUMERIC ∷ STR ∷ LANG ∷ DATATYPE ∷ STRLEN ∷ STRSTARTS ∷ STRENDS ∷ CONTAINS ∷ []; level = 2 }
+    ∷ record { empty = false; begin = EQUAL ∷ []; follow = OPEN ∷ NOT ∷ IRIREF ∷ PNAME_NS ∷ PNAME_LN ∷ VAR ∷ STRING ∷ INTEGER ∷ DECIMAL ∷ TRUE ∷ FALSE ∷ BOUND ∷ SAMETERM ∷ ISIRI ∷ ISURI ∷ ISBLANK ∷ ISLITERAL ∷ ISNUMERIC ∷ STR ∷ LANG ∷ DATATYPE ∷ STRLEN ∷ STRSTARTS ∷ STRENDS ∷ CONTAINS ∷ []; level = 1 }
+    ∷ record { empty = false; begin = NOT_EQUAL ∷ []; follow = OPEN ∷ NOT ∷ IRIREF ∷ PNAME_NS ∷ PNAME_LN ∷ VAR ∷ STRING ∷ INTEGER ∷ DECIMAL ∷ TRUE ∷ FALSE ∷ BOUND ∷ SAMETERM ∷ ISIRI ∷ ISURI ∷ ISBLANK ∷ ISLITERAL ∷ ISNUMERIC ∷ STR ∷ LANG ∷ DATATYPE ∷ STRLEN ∷ STRSTARTS ∷ STRENDS ∷ CONTAINS ∷ []; level = 1 }
+    ∷ record { empty = false; begin = LESS ∷ []; follow = OPEN ∷ NOT ∷ IRIREF ∷ PNAME_NS ∷ PNAME_LN ∷ VAR ∷ STRING ∷ INTEGER ∷ DECIMAL ∷ TRUE ∷ FALSE ∷ BOUND ∷ SAMETERM ∷ ISIRI ∷ ISURI ∷ ISBLANK ∷ ISLITERAL ∷ ISNUMERIC ∷ STR ∷ LANG ∷ DATATYPE ∷ STRLEN ∷ STRSTARTS ∷ STRENDS ∷ CONTAINS ∷ []; level = 1 }
+    ∷ record { empty = false; begin = GREATER ∷ []; follow = OPEN ∷ NOT ∷ IRIREF ∷ PNAME_NS ∷ PNAME_LN ∷ VAR ∷ STRING ∷ INTEGER ∷ DECIMAL ∷ TRUE ∷ FALSE ∷ BOUND ∷ SAMETERM ∷ ISIRI ∷ ISURI ∷ ISBLANK ∷ ISLITERAL ∷ ISNUMERIC ∷ STR ∷ LANG ∷ DATATYPE ∷ STRLEN ∷ STRSTARTS ∷ STRENDS ∷ CONTAINS ∷ []; level = 1 }
+    ∷ record { empty = false; begin = LESS_EQUAL ∷ []; follow = OPEN ∷ NOT ∷ IRIREF ∷ PNAME_NS ∷ PNAME_LN ∷ VAR ∷ STRING ∷ INTEGER ∷ DECIMAL ∷ TRUE ∷ FALSE ∷ BOUND ∷ SAMETERM ∷ ISIRI ∷ ISURI ∷ ISBLANK ∷ ISLITERAL ∷ ISNUMERIC ∷ STR ∷ LANG ∷ DATATYPE ∷ STRLEN ∷ STRSTARTS ∷ STRENDS ∷ CONTAINS ∷ []; level = 1 }
+    ∷ record { empty = false; begin = GREATER_EQUAL ∷ []; follow = OPEN ∷ NOT ∷ IRIREF ∷ PNAME_NS ∷ PNAME_LN ∷ VAR ∷ STRING ∷ INTEGER ∷ DECIMAL ∷ TRUE ∷ FALSE ∷ BOUND ∷ SAMETERM ∷ ISIRI ∷ ISURI ∷ ISBLANK ∷ ISLITERAL ∷ ISNUMERIC ∷ STR ∷ LANG ∷ DATATYPE ∷ STRLEN ∷ STRSTARTS ∷ STRENDS ∷ CONTAINS ∷ []; level = 1 }
+    ∷ record { empty = false; begin = LESS_EQUAL ∷ GREATER_EQUAL ∷ []; follow = OPEN ∷ NOT ∷ IRIREF ∷ PNAME_NS ∷ PNAME_LN ∷ VAR ∷ STRING ∷ INTEGER ∷ DECIMAL ∷ TRUE ∷ FALSE ∷ BOUND ∷ SAMETERM ∷ ISIRI ∷ ISURI ∷ ISBLANK ∷ ISLITERAL ∷ ISNUMERIC ∷ STR ∷ LANG ∷ DATATYPE ∷ STRLEN ∷ STRSTARTS ∷ STRENDS ∷ CONTAINS ∷ []; level = 2 }
+    ∷ record { empty = false; begin = GREATER ∷ LESS_EQUAL ∷ GREATER_EQUAL ∷ []; follow = OPEN ∷ NOT ∷ IRIREF ∷ PNAME_NS ∷ PNAME_LN ∷ VAR ∷ STRING ∷ INTEGER ∷ DECIMAL ∷ TRUE ∷ FALSE ∷ BOUND ∷ SAMETERM ∷ ISIRI ∷ ISURI ∷ ISBLANK ∷ ISLITERAL ∷ ISNUMERIC ∷ STR ∷ LANG ∷ DATATYPE ∷ STRLEN ∷ STRSTARTS ∷ STRENDS ∷ CONTAINS ∷ []; level = 2 }
+    ∷ record { empty = false; begin = LESS ∷ GREATER ∷ LESS_EQUAL ∷ GREATER_EQUAL ∷ []; follow = OPEN ∷ NOT ∷ IRIREF ∷ PNAME_NS ∷ PNAME_LN ∷ VAR ∷ STRING ∷ INTEGER ∷ DECIMAL ∷ TRUE ∷ FALSE ∷ BOUND ∷ SAMETERM ∷ ISIRI ∷ ISURI ∷ ISBLANK ∷ ISLITERAL ∷ ISNUMERIC ∷ STR ∷ LANG ∷ DATATYPE ∷ STRLEN ∷ STRSTARTS ∷ STRENDS ∷ CONTAINS ∷ []; level = 2 }
+    ∷ record { empty = false; begin = NOT_EQUAL ∷ LESS ∷ GREATER ∷ LESS_EQUAL ∷ GREATER_EQUAL ∷ []; follow = OPEN ∷ NOT ∷ IRIREF ∷ PNAME_NS ∷ PNAME_LN ∷ VAR ∷ STRING ∷ INTEGER ∷ DECIMAL ∷ TRUE ∷ FALSE ∷ BOUND ∷ SAMETERM ∷ ISIRI ∷ ISURI ∷ ISBLANK ∷ ISLITERAL ∷ ISNUMERIC ∷ STR ∷ LANG ∷ DATATYPE ∷ STRLEN ∷ STRSTARTS ∷ STRENDS ∷ CONTAINS ∷ []; level = 2 }
     ∷ record { empty = false; begin = EQUAL ∷ NOT_EQUAL ∷ LESS ∷ GREATER ∷ LESS_EQUAL ∷ GREATER_EQUAL ∷ []; follow = CLOSE ∷ COMMA ∷ AND ∷ OR ∷ []; level = 6 }
     ∷ record { empty = true; begin = EQUAL ∷ NOT_EQUAL ∷ LESS ∷ GREATER ∷ LESS_EQUAL ∷ GREATER_EQUAL ∷ []; follow = CLOSE ∷ COMMA ∷ AND ∷ OR ∷ []; level = 1 }
-    ∷ record { empty = false; begin = AND ∷ []; follow = OPEN ∷ NOT ∷ IRIREF ∷ PNAME_NS ∷ PNAME_LN ∷ VAR ∷ STRING ∷ INTEGER ∷ DECIMAL ∷ TRUE ∷ FALSE ∷ BOUND ∷ SAMETERM ∷ ISIRI ∷ ISURI ∷ ISBLANK ∷ ISLITERAL ∷ ISNUMERIC ∷ STR ∷ LANG ∷ DATATYPE ∷ []; level = 1 }
+    ∷ record { empty = false; begin = AND ∷ []; follow = OPEN ∷ NOT ∷ IRIREF ∷ PNAME_NS ∷ PNAME_LN ∷ VAR ∷ STRING ∷ INTEGER ∷ DECIMAL ∷ TRUE ∷ FALSE ∷ BOUND ∷ SAMETERM ∷ ISIRI ∷ ISURI ∷ ISBLANK ∷ ISLITERAL ∷ ISNUMERIC ∷ STR ∷ LANG ∷ DATATYPE ∷ STRLEN ∷ STRSTARTS ∷ STRENDS ∷ CONTAINS ∷ []; level = 1 }
     ∷ record { empty = false; begin = AND ∷ []; follow = CLOSE ∷ COMMA ∷ AND ∷ OR ∷ []; level = 7 }
     ∷ record { empty = true; begin = AND ∷ []; follow = CLOSE ∷ COMMA ∷ OR ∷ []; level = 1 }
-    ∷ record { empty = false; begin = OR ∷ []; follow = OPEN ∷ NOT ∷ IRIREF ∷ PNAME_NS ∷ PNAME_LN ∷ VAR ∷ STRING ∷ INTEGER ∷ DECIMAL ∷ TRUE ∷ FALSE ∷ BOUND ∷ SAMETERM ∷ ISIRI ∷ ISURI ∷ ISBLANK ∷ ISLITERAL ∷ ISNUMERIC ∷ STR ∷ LANG ∷ DATATYPE ∷ []; level = 1 }
+    ∷ record { empty = false; begin = OR ∷ []; follow = OPEN ∷ NOT ∷ IRIREF ∷ PNAME_NS ∷ PNAME_LN ∷ VAR ∷ STRING ∷ INTEGER ∷ DECIMAL ∷ TRUE ∷ FALSE ∷ BOUND ∷ SAMETERM ∷ ISIRI ∷ ISURI ∷ ISBLANK ∷ ISLITERAL ∷ ISNUMERIC ∷ STR ∷ LANG ∷ DATATYPE ∷ STRLEN ∷ STRSTARTS ∷ STRENDS ∷ CONTAINS ∷ []; level = 1 }
     ∷ record { empty = false; begin = OR ∷ []; follow = CLOSE ∷ COMMA ∷ OR ∷ []; level = 8 }
     ∷ record { empty = true; begin = OR ∷ []; follow = CLOSE ∷ COMMA ∷ []; level = 1 }
-    ∷ record { empty = false; begin = OPEN ∷ NOT ∷ IRIREF ∷ PNAME_NS ∷ PNAME_LN ∷ VAR ∷ STRING ∷ INTEGER ∷ DECIMAL ∷ TRUE ∷ FALSE ∷ BOUND ∷ SAMETERM ∷ ISIRI ∷ ISURI ∷ ISBLANK ∷ ISLITERAL ∷ ISNUMERIC ∷ STR ∷ LANG ∷ DATATYPE ∷ []; follow = OPEN_BRACE ∷ CLOSE_BRACE ∷ CLOSE ∷ OPEN_BRACKET ∷ DOT ∷ COMMA ∷ EQUAL ∷ NOT_EQUAL ∷ LESS ∷ GREATER ∷ LESS_EQUAL ∷ GREATER_EQUAL ∷ AND ∷ OR ∷ IRIREF ∷ PNAME_NS ∷ PNAME_LN ∷ BLANK ∷ VAR ∷ STRING ∷ INTEGER ∷ DECIMAL ∷ TRUE ∷ FALSE ∷ OPTIONAL ∷ GRAPH ∷ FILTER ∷ []; level = 9 }
+    ∷ record { empty = false; begin = OPEN ∷ NOT ∷ IRIREF ∷ PNAME_NS ∷ PNAME_LN ∷ VAR ∷ STRING ∷ INTEGER ∷ DECIMAL ∷ TRUE ∷ FALSE ∷ BOUND ∷ SAMETERM ∷ ISIRI ∷ ISURI ∷ ISBLANK ∷ ISLITERAL ∷ ISNUMERIC ∷ STR ∷ LANG ∷ DATATYPE ∷ STRLEN ∷ STRSTARTS ∷ STRENDS ∷ CONTAINS ∷ []; follow = OPEN_BRACE ∷ CLOSE_BRACE ∷ CLOSE ∷ OPEN_BRACKET ∷ DOT ∷ COMMA ∷ EQUAL ∷ NOT_EQUAL ∷ LESS ∷ GREATER ∷ LESS_EQUAL ∷ GREATER_EQUAL ∷ AND ∷ OR ∷ IRIREF ∷ PNAME_NS ∷ PNAME_LN ∷ BLANK ∷ VAR ∷ STRING ∷ INTEGER ∷ DECIMAL ∷ TRUE ∷ FALSE ∷ OPTIONAL ∷ GRAPH ∷ FILTER ∷ []; level = 9 }
     ∷ record { empty = false; begin = FILTER ∷ []; follow = OPEN_BRACE ∷ CLOSE_BRACE ∷ OPEN_BRACKET ∷ DOT ∷ IRIREF ∷ PNAME_NS ∷ PNAME_LN ∷ BLANK ∷ VAR ∷ STRING ∷ INTEGER ∷ DECIMAL ∷ TRUE ∷ FALSE ∷ OPTIONAL ∷ GRAPH ∷ FILTER ∷ []; level = 7 }
     ∷ record { empty = false; begin = UNION ∷ []; follow = OPEN_BRACE ∷ []; level = 1 }
     ∷ record { empty = false; begin = UNION ∷ []; follow = OPEN_BRACE ∷ CLOSE_BRACE ∷ OPEN_BRACKET ∷ DOT ∷ IRIREF ∷ PNAME_NS ∷ PNAME_LN ∷ BLANK ∷ VAR ∷ STRING ∷ INTEGER ∷ DECIMAL ∷ TRUE ∷ FALSE ∷ OPTIONAL ∷ GRAPH ∷ FILTER ∷ UNION ∷ []; level = 5 }

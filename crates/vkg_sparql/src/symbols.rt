@@ -291,7 +291,7 @@ pub const UNARY_1: usize = 95;
 /// `primary = bracketed | call | VAR | iri | literal`
 pub const PRIMARY: usize = 96;
 
-/// `call = BOUND "(" VAR ")" | SAMETERM "(" or "," or ")" | test bracketed`
+/// `call = BOUND "(" VAR ")" | two "(" or "," or ")" | test bracketed`
 pub const CALL: usize = 97;
 
 /// `BOUND`
@@ -309,197 +309,221 @@ pub const CALL_2: usize = 101;
 /// `BOUND "(" VAR ")"`
 pub const CALL_3: usize = 102;
 
+/// `two = SAMETERM | STRSTARTS | STRENDS | CONTAINS`
+pub const TWO: usize = 103;
+
 /// `SAMETERM`
-pub const TOKEN_SAMETERM: usize = 103;
+pub const TOKEN_SAMETERM: usize = 104;
+
+/// `STRSTARTS`
+pub const TOKEN_STRSTARTS: usize = 105;
+
+/// `STRENDS`
+pub const TOKEN_STRENDS: usize = 106;
+
+/// `CONTAINS`
+pub const TOKEN_CONTAINS: usize = 107;
+
+/// `STRENDS | CONTAINS`
+pub const TWO_FROM_3: usize = 108;
+
+/// `STRSTARTS | STRENDS | CONTAINS`
+pub const TWO_FROM_2: usize = 109;
 
 /// `or ")"`
-pub const CALL_4: usize = 104;
+pub const CALL_4: usize = 110;
 
 /// `"," or ")"`
-pub const CALL_5: usize = 105;
+pub const CALL_5: usize = 111;
 
 /// `or "," or ")"`
-pub const CALL_6: usize = 106;
+pub const CALL_6: usize = 112;
 
 /// `"(" or "," or ")"`
-pub const CALL_7: usize = 107;
+pub const CALL_7: usize = 113;
 
-/// `SAMETERM "(" or "," or ")"`
-pub const CALL_8: usize = 108;
+/// `two "(" or "," or ")"`
+pub const CALL_8: usize = 114;
 
-/// `test = ISIRI | ISURI | ISBLANK | ISLITERAL | ISNUMERIC | STR | LANG | DATATYPE`
-pub const TEST: usize = 109;
+/// `test = ISIRI | ISURI | ISBLANK | ISLITERAL | ISNUMERIC | STR | LANG | DATATYPE | STRLEN`
+pub const TEST: usize = 115;
 
 /// `ISIRI`
-pub const TOKEN_ISIRI: usize = 110;
+pub const TOKEN_ISIRI: usize = 116;
 
 /// `ISURI`
-pub const TOKEN_ISURI: usize = 111;
+pub const TOKEN_ISURI: usize = 117;
 
 /// `ISBLANK`
-pub const TOKEN_ISBLANK: usize = 112;
+pub const TOKEN_ISBLANK: usize = 118;
 
 /// `ISLITERAL`
-pub const TOKEN_ISLITERAL: usize = 113;
+pub const TOKEN_ISLITERAL: usize = 119;
 
 /// `ISNUMERIC`
-pub const TOKEN_ISNUMERIC: usize = 114;
+pub const TOKEN_ISNUMERIC: usize = 120;
 
 /// `STR`
-pub const TOKEN_STR: usize = 115;
+pub const TOKEN_STR: usize = 121;
 
 /// `LANG`
-pub const TOKEN_LANG: usize = 116;
+pub const TOKEN_LANG: usize = 122;
 
 /// `DATATYPE`
-pub const TOKEN_DATATYPE: usize = 117;
+pub const TOKEN_DATATYPE: usize = 123;
 
-/// `LANG | DATATYPE`
-pub const TEST_FROM_7: usize = 118;
+/// `STRLEN`
+pub const TOKEN_STRLEN: usize = 124;
 
-/// `STR | LANG | DATATYPE`
-pub const TEST_FROM_6: usize = 119;
+/// `DATATYPE | STRLEN`
+pub const TEST_FROM_8: usize = 125;
 
-/// `ISNUMERIC | STR | LANG | DATATYPE`
-pub const TEST_FROM_5: usize = 120;
+/// `LANG | DATATYPE | STRLEN`
+pub const TEST_FROM_7: usize = 126;
 
-/// `ISLITERAL | ISNUMERIC | STR | LANG | DATATYPE`
-pub const TEST_FROM_4: usize = 121;
+/// `STR | LANG | DATATYPE | STRLEN`
+pub const TEST_FROM_6: usize = 127;
 
-/// `ISBLANK | ISLITERAL | ISNUMERIC | STR | LANG | DATATYPE`
-pub const TEST_FROM_3: usize = 122;
+/// `ISNUMERIC | STR | LANG | DATATYPE | STRLEN`
+pub const TEST_FROM_5: usize = 128;
 
-/// `ISURI | ISBLANK | ISLITERAL | ISNUMERIC | STR | LANG | DATATYPE`
-pub const TEST_FROM_2: usize = 123;
+/// `ISLITERAL | ISNUMERIC | STR | LANG | DATATYPE | STRLEN`
+pub const TEST_FROM_4: usize = 129;
+
+/// `ISBLANK | ISLITERAL | ISNUMERIC | STR | LANG | DATATYPE | STRLEN`
+pub const TEST_FROM_3: usize = 130;
+
+/// `ISURI | ISBLANK | ISLITERAL | ISNUMERIC | STR | LANG | DATATYPE | STRLEN`
+pub const TEST_FROM_2: usize = 131;
 
 /// `test bracketed`
-pub const CALL_9: usize = 124;
+pub const CALL_9: usize = 132;
 
-/// `SAMETERM "(" or "," or ")" | test bracketed`
-pub const CALL_FROM_2: usize = 125;
+/// `two "(" or "," or ")" | test bracketed`
+pub const CALL_FROM_2: usize = 133;
 
 /// `iri | literal`
-pub const PRIMARY_FROM_4: usize = 126;
+pub const PRIMARY_FROM_4: usize = 134;
 
 /// `VAR | iri | literal`
-pub const PRIMARY_FROM_3: usize = 127;
+pub const PRIMARY_FROM_3: usize = 135;
 
 /// `call | VAR | iri | literal`
-pub const PRIMARY_FROM_2: usize = 128;
+pub const PRIMARY_FROM_2: usize = 136;
 
 /// `sign = "=" | "!=" | "<" | ">" | "<=" | ">="`
-pub const SIGN: usize = 129;
+pub const SIGN: usize = 137;
 
 /// `"="`
-pub const TOKEN_EQUAL: usize = 130;
+pub const TOKEN_EQUAL: usize = 138;
 
 /// `"!="`
-pub const TOKEN_NOT_EQUAL: usize = 131;
+pub const TOKEN_NOT_EQUAL: usize = 139;
 
 /// `"<"`
-pub const TOKEN_LESS: usize = 132;
+pub const TOKEN_LESS: usize = 140;
 
 /// `">"`
-pub const TOKEN_GREATER: usize = 133;
+pub const TOKEN_GREATER: usize = 141;
 
 /// `"<="`
-pub const TOKEN_LESS_EQUAL: usize = 134;
+pub const TOKEN_LESS_EQUAL: usize = 142;
 
 /// `">="`
-pub const TOKEN_GREATER_EQUAL: usize = 135;
+pub const TOKEN_GREATER_EQUAL: usize = 143;
 
 /// `"<=" | ">="`
-pub const SIGN_FROM_5: usize = 136;
+pub const SIGN_FROM_5: usize = 144;
 
 /// `">" | "<=" | ">="`
-pub const SIGN_FROM_4: usize = 137;
+pub const SIGN_FROM_4: usize = 145;
 
 /// `"<" | ">" | "<=" | ">="`
-pub const SIGN_FROM_3: usize = 138;
+pub const SIGN_FROM_3: usize = 146;
 
 /// `"!=" | "<" | ">" | "<=" | ">="`
-pub const SIGN_FROM_2: usize = 139;
+pub const SIGN_FROM_2: usize = 147;
 
 /// `sign unary`
-pub const REL_1: usize = 140;
+pub const REL_1: usize = 148;
 
 /// `[ sign unary ]`
-pub const REL_2: usize = 141;
+pub const REL_2: usize = 149;
 
 /// `"&&"`
-pub const TOKEN_AND: usize = 142;
+pub const TOKEN_AND: usize = 150;
 
 /// `"&&" rel`
-pub const AND_1: usize = 143;
+pub const AND_1: usize = 151;
 
 /// `{ "&&" rel }`
-pub const AND_2: usize = 144;
+pub const AND_2: usize = 152;
 
 /// `"||"`
-pub const TOKEN_OR: usize = 145;
+pub const TOKEN_OR: usize = 153;
 
 /// `"||" and`
-pub const OR_1: usize = 146;
+pub const OR_1: usize = 154;
 
 /// `{ "||" and }`
-pub const OR_2: usize = 147;
+pub const OR_2: usize = 155;
 
 /// `or ")"`
-pub const BRACKETED_1: usize = 148;
+pub const BRACKETED_1: usize = 156;
 
 /// `FILTER filter`
-pub const PART_4: usize = 149;
+pub const PART_4: usize = 157;
 
 /// `UNION`
-pub const TOKEN_UNION: usize = 150;
+pub const TOKEN_UNION: usize = 158;
 
 /// `UNION group`
-pub const PART_5: usize = 151;
+pub const PART_5: usize = 159;
 
 /// `{ UNION group }`
-pub const PART_6: usize = 152;
+pub const PART_6: usize = 160;
 
 /// `group { UNION group }`
-pub const PART_7: usize = 153;
+pub const PART_7: usize = 161;
 
 /// `FILTER filter | group { UNION group }`
-pub const PART_FROM_3: usize = 154;
+pub const PART_FROM_3: usize = 162;
 
 /// `GRAPH name group | FILTER filter | group { UNION group }`
-pub const PART_FROM_2: usize = 155;
+pub const PART_FROM_2: usize = 163;
 
 /// `[ "." ]`
-pub const GROUP_2: usize = 156;
+pub const GROUP_2: usize = 164;
 
 /// `[ "." ] [ block ]`
-pub const GROUP_3: usize = 157;
+pub const GROUP_3: usize = 165;
 
 /// `part [ "." ] [ block ]`
-pub const GROUP_4: usize = 158;
+pub const GROUP_4: usize = 166;
 
 /// `{ part [ "." ] [ block ] }`
-pub const GROUP_5: usize = 159;
+pub const GROUP_5: usize = 167;
 
 /// `"}"`
-pub const TOKEN_CLOSE_BRACE: usize = 160;
+pub const TOKEN_CLOSE_BRACE: usize = 168;
 
 /// `{ part [ "." ] [ block ] } "}"`
-pub const GROUP_6: usize = 161;
+pub const GROUP_6: usize = 169;
 
 /// `[ block ] { part [ "." ] [ block ] } "}"`
-pub const GROUP_7: usize = 162;
+pub const GROUP_7: usize = 170;
 
 /// `[ WHERE ] group`
-pub const QUERY_9: usize = 163;
+pub const QUERY_9: usize = 171;
 
 /// `selection [ WHERE ] group`
-pub const QUERY_10: usize = 164;
+pub const QUERY_10: usize = 172;
 
 /// `[ DISTINCT | REDUCED ] selection [ WHERE ] group`
-pub const QUERY_11: usize = 165;
+pub const QUERY_11: usize = 173;
 
 /// `SELECT [ DISTINCT | REDUCED ] selection [ WHERE ] group`
-pub const QUERY_12: usize = 166;
+pub const QUERY_12: usize = 174;
 
 /// How many symbols there are.
-pub const SYMBOL_COUNT: usize = 167;
+pub const SYMBOL_COUNT: usize = 175;

@@ -173,6 +173,7 @@ take_headed : (op : TermTake) (es : Exprs) → IsHead (Calls (take_text op) es)
 take_headed take.Str es = record { told = refl; letters = refl }
 take_headed take.Lang es = record { told = refl; letters = refl }
 take_headed take.Datatype es = record { told = refl; letters = refl }
+take_headed take.Length es = record { told = refl; letters = refl }
 
 compare_headed : (op : TermCompare) (es : Exprs) → IsHead (Calls (compare_text op) es)
 compare_headed cmp.Equal es = record { told = refl; letters = refl }
@@ -181,6 +182,9 @@ compare_headed cmp.Less es = record { told = refl; letters = refl }
 compare_headed cmp.Greater es = record { told = refl; letters = refl }
 compare_headed cmp.LessOrEqual es = record { told = refl; letters = refl }
 compare_headed cmp.GreaterOrEqual es = record { told = refl; letters = refl }
+compare_headed cmp.Starts es = record { told = refl; letters = refl }
+compare_headed cmp.Ends es = record { told = refl; letters = refl }
+compare_headed cmp.Contains es = record { told = refl; letters = refl }
 
 operator_headed : (op : Operator) (es : Exprs) → IsHead (Calls (operator_text op) es)
 operator_headed (Test op) es = test_headed op es
@@ -223,9 +227,13 @@ operator_back w =
     else if bytes_eq w (codes "GT") then Compare cmp.Greater
     else if bytes_eq w (codes "LE") then Compare cmp.LessOrEqual
     else if bytes_eq w (codes "GE") then Compare cmp.GreaterOrEqual
+    else if bytes_eq w (codes "STRSTARTS") then Compare cmp.Starts
+    else if bytes_eq w (codes "STRENDS") then Compare cmp.Ends
+    else if bytes_eq w (codes "CONTAINS") then Compare cmp.Contains
     else if bytes_eq w (codes "STR") then Take take.Str
     else if bytes_eq w (codes "LANG") then Take take.Lang
     else if bytes_eq w (codes "DATATYPE") then Take take.Datatype
+    else if bytes_eq w (codes "STRLEN") then Take take.Length
     else if bytes_eq w (codes "IS_IRI") then Test test.IsIri
     else if bytes_eq w (codes "IS_BLANK") then Test test.IsBlank
     else if bytes_eq w (codes "IS_LITERAL") then Test test.IsLiteral
@@ -300,6 +308,7 @@ take_back : (op : TermTake) (es : Exprs) → back (Calls (take_text op) es) ≡ 
 take_back take.Str es = refl
 take_back take.Lang es = refl
 take_back take.Datatype es = refl
+take_back take.Length es = refl
 
 compare_back : (op : TermCompare) (es : Exprs) → back (Calls (compare_text op) es) ≡ Sparql (Compare op) es
 compare_back cmp.Equal es = refl
@@ -308,6 +317,9 @@ compare_back cmp.Less es = refl
 compare_back cmp.Greater es = refl
 compare_back cmp.LessOrEqual es = refl
 compare_back cmp.GreaterOrEqual es = refl
+compare_back cmp.Starts es = refl
+compare_back cmp.Ends es = refl
+compare_back cmp.Contains es = refl
 
 operator_is_back : (op : Operator) (es : Exprs) → back (Calls (operator_text op) es) ≡ Sparql op es
 operator_is_back (Test op) es = test_back op es

@@ -61,11 +61,15 @@ compare_text cmp.Less = codes "LT"
 compare_text cmp.Greater = codes "GT"
 compare_text cmp.LessOrEqual = codes "LE"
 compare_text cmp.GreaterOrEqual = codes "GE"
+compare_text cmp.Starts = codes "STRSTARTS"
+compare_text cmp.Ends = codes "STRENDS"
+compare_text cmp.Contains = codes "CONTAINS"
 
 abbrev pub take_text : TermTake → List ℕ
 take_text take.Str = codes "STR"
 take_text take.Lang = codes "LANG"
 take_text take.Datatype = codes "DATATYPE"
+take_text take.Length = codes "STRLEN"
 
 abbrev pub test_text : TermTest → List ℕ
 test_text test.IsIri = codes "IS_IRI"

@@ -46,6 +46,9 @@ fn compare_name(compare: Compare) -> &'static str
         Compare::Greater => "GT",
         Compare::LessOrEqual => "LE",
         Compare::GreaterOrEqual => "GE",
+        Compare::Starts => "STRSTARTS",
+        Compare::Ends => "STRENDS",
+        Compare::Contains => "CONTAINS",
     }
 }
 
@@ -56,6 +59,7 @@ fn take_name(take: Take) -> &'static str
         Take::Str => "STR",
         Take::Lang => "LANG",
         Take::Datatype => "DATATYPE",
+        Take::Length => "STRLEN",
     }
 }
 

@@ -1,2 +1,4 @@
 pub mod Narrow
 pub mod Numbers
+pub mod Parts
+pub mod Widths

@@ -1,8 +1,9 @@
 -- A number of at most 38 digits has the same value whether there is a widest number or none.
 use Rattle.std.proofs.Common.{◌≡◌, Bool, true, false, refl, true≢false}
-use Rattle.std.specs.Prelude.{Option, None, not, ◌&&◌, ◌||◌, codes, nat_lt, if◌then◌else◌}
+use Rattle.std.specs.Prelude.{ℕ, ◌^◌, Option, None, IfSome, chars, decimal, length, not, ◌&&◌, ◌||◌, codes, nat_lt, if◌then◌else◌}
 use Rattle.std.specs.Str.{bytes_eq}
 use Rattle.std.specs.Bool.{then_some}
+use Rattle.std.proofs.lemmas.Bool.{ltb-true}
 use Rattle.vkg_terms.specs.declared.term.Term.{Term}
 use Rattle.vkg_terms.specs.declared.term.Term.TheVariants.{Iri, Blank, Lit}
 use Rattle.vkg_terms.specs.declared.term.Annotation.TheVariants.{Plain, Lang, Typed}
@@ -15,8 +16,12 @@ use Rattle.vkg_values.specs.declared.operator.Test.{Test}
 use Rattle.vkg_values.specs.declared.operator.Test.TheVariants as tests
 use Rattle.vkg_values.specs.declared.operator.Compare.{Compare}
 use Rattle.vkg_values.specs.declared.operator.Compare.TheVariants as asks
+use Rattle.vkg_values.specs.declared.operator.Take.{Take}
+use Rattle.vkg_values.specs.declared.operator.Take.TheVariants as takes
 use Rattle.vkg_values.specs.Known.{known, widest}
-use Rattle.vkg_values.specs.Operators.{ebv, test_value, compare_value}
+use Rattle.vkg_values.specs.Operators.{ebv, test_value, take_value, compare_value}
+use Rattle.vkg_values.specs.Strings.{count_term}
+use Rattle.vkg_values.proofs.Widths.{narrow_decimal}
 
 -- by the datatype, by the form, and by the digits
 narrow_typed : (integer decimal is_integer is_decimal other wide : Bool) (int dec : Cell) (rest : Option Cell) →
@@ -55,3 +60,37 @@ compare_narrow asks.Less s t h k = rw (narrow_known s h, narrow_known t k) refl
 compare_narrow asks.Greater s t h k = rw (narrow_known s h, narrow_known t k) refl
 compare_narrow asks.LessOrEqual s t h k = rw (narrow_known s h, narrow_known t k) refl
 compare_narrow asks.GreaterOrEqual s t h k = rw (narrow_known s h, narrow_known t k) refl
+compare_narrow asks.Starts s t h k = refl
+compare_narrow asks.Ends s t h k = refl
+compare_narrow asks.Contains s t h k = refl
+
+digits_narrow : (n : ℕ) → nat_lt n (10 ^ 38) ≡ true → is_wide_number (Lit (decimal n) (Typed (xsd (codes "integer")))) ≡ false
+digits_narrow n e = and_false (is_integer (decimal n)) (nat_lt 38 (width (decimal n))) (narrow_decimal n (ltb-true n (10 ^ 38) e))
+  where
+    and_false : (a b : Bool) → b ≡ false → (a && (true && b)) ≡ false
+    and_false true b e = e
+    and_false false b e = refl
+
+count_narrow : (n : ℕ) → IfSome (count_term n) (λ u. is_wide_number u ≡ false)
+count_narrow n = by (nat_lt n (10 ^ 38)) (digits_narrow n)
+  where
+    by : (b : Bool) → (b ≡ true → is_wide_number (Lit (decimal n) (Typed (xsd (codes "integer")))) ≡ false) → IfSome (then_some b (Lit (decimal n) (Typed (xsd (codes "integer"))))) (λ u. is_wide_number u ≡ false)
+    by true h = h refl
+    by false h = tt
+
+-- what is taken from a term is no number of more digits
+pub take_narrow : (f : Take) (t : Term) → IfSome (take_value f t) (λ u. is_wide_number u ≡ false)
+take_narrow takes.Str (Iri s) = refl
+take_narrow takes.Str (Blank s) = tt
+take_narrow takes.Str (Lit s k) = refl
+take_narrow takes.Lang (Iri s) = tt
+take_narrow takes.Lang (Blank s) = tt
+take_narrow takes.Lang (Lit s k) = refl
+take_narrow takes.Datatype (Iri s) = tt
+take_narrow takes.Datatype (Blank s) = tt
+take_narrow takes.Datatype (Lit s k) = refl
+take_narrow takes.Length (Iri s) = tt
+take_narrow takes.Length (Blank s) = tt
+take_narrow takes.Length (Lit s Plain) = count_narrow (length (chars s))
+take_narrow takes.Length (Lit s (Lang tag)) = count_narrow (length (chars s))
+take_narrow takes.Length (Lit s (Typed datatype)) = tt

@@ -1,3 +1,4 @@
 pub mod Known
 pub mod Logic
 pub mod Operators
+pub mod Strings

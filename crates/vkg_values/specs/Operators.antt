@@ -1,5 +1,6 @@
 -- The operators on terms, in this project's profile of SPARQL 1.1 Query, 17; none is an error.
-use Rattle.std.specs.Prelude.{ℕ, Bool, true, false, not, ◌&&◌, List, [], ◌∷◌, Option, Some, None, option_map, codes, if◌then◌else◌}
+use Rattle.std.specs.Prelude.{ℕ, Bool, true, false, not, ◌&&◌, List, [], ◌∷◌, Option, Some, None, option_map, codes, nat_eq, if◌then◌else◌}
+use Rattle.std.specs.List.{ends_with, starts_with}
 use Rattle.std.specs.Str.{bytes_eq}
 use Rattle.std.specs.declared.cmp.Ordering.{Ordering}
 use Rattle.std.specs.Ordering.{is_eq, is_ge, is_gt, is_le, is_lt}
@@ -22,6 +23,7 @@ use Rattle.vkg_values.specs.declared.operator.Test.{Test}
 use Rattle.vkg_values.specs.declared.operator.Test.TheVariants as tests
 use Rattle.vkg_values.specs.Known.{known}
 use Rattle.vkg_values.specs.Logic.{not3}
+use Rattle.vkg_values.specs.Strings.{has_part, length_of, on_strings}
 
 -- the values that have an order among them: two texts, numbers, truths, dates or moments
 abbrev pub is_one_sort : Cell → Cell → Bool
@@ -59,7 +61,7 @@ equal_where a b None = term_equal a b
 abbrev pub equal : Option ℕ → Term → Term → Option Bool
 equal most a b = equal_where a b (compared most a b)
 
--- SPARQL 1.1 Query, 17.3
+-- SPARQL 1.1 Query, 17.3, and 17.4.3.6 to 17.4.3.8, STRSTARTS, STRENDS and CONTAINS
 abbrev pub compare_value : Option ℕ → Compare → Term → Term → Option Bool
 compare_value most asks.Equal a b = equal most a b
 compare_value most asks.NotEqual a b = not3 (equal most a b)
@@ -67,6 +69,9 @@ compare_value most asks.Less a b = option_map is_lt (compared most a b)
 compare_value most asks.Greater a b = option_map is_gt (compared most a b)
 compare_value most asks.LessOrEqual a b = option_map is_le (compared most a b)
 compare_value most asks.GreaterOrEqual a b = option_map is_ge (compared most a b)
+compare_value most asks.Starts a b = on_strings (starts_with nat_eq) a b
+compare_value most asks.Ends a b = on_strings (ends_with nat_eq) a b
+compare_value most asks.Contains a b = on_strings has_part a b
 
 abbrev pub is_some_text : List ℕ → Bool
 is_some_text [] = false
@@ -131,13 +136,14 @@ datatype_of Plain = xsd_string
 datatype_of (Lang tag) = rdf_lang_string
 datatype_of (Typed datatype) = datatype
 
--- SPARQL 1.1 Query, 17.4.2.5 to 17.4.2.7
+-- SPARQL 1.1 Query, 17.4.2.5 to 17.4.2.7 and 17.4.3.2
 abbrev pub take_value : Take → Term → Option Term
 take_value takes.Str t = str_of t
 take_value takes.Lang (Lit text annotation) = Some (Lit (tag_of annotation) Plain)
 take_value takes.Lang t = None
 take_value takes.Datatype (Lit text annotation) = Some (Iri (datatype_of annotation))
 take_value takes.Datatype t = None
+take_value takes.Length t = length_of t
 
 -- a test of two terms, of which either may be an error: an error in either is one
 abbrev pub on_two : (Term → Term → Option Bool) → Option Term → Option Term → Option Bool

@@ -7,6 +7,7 @@ ghost use Rattle.vkg_values.specs.Operators.{compare_value, compared, compared_v
 use crate::known::known_value;
 use crate::logic::negation;
 use crate::operator::Compare;
+use crate::strings::{contains, ends, starts};
 use std::alloc::Global;
 use std::cmp::Ordering;
 use std::mem;
@@ -14,7 +15,7 @@ use vkg_base::Memory;
 use vkg_cells::{Cell, order};
 use vkg_terms::Term;
 
-/// What a comparison of two terms gives (SPARQL 1.1 Query, 17.3); `None` is an error.
+/// What a comparison of two terms gives (SPARQL 1.1 Query, 17.3), or STRSTARTS, STRENDS or CONTAINS of them (17.4.3); `None` is an error.
 pub fn compare_terms(
     alloc: Global,
     operator: Compare,
@@ -23,14 +24,16 @@ pub fn compare_terms(
 ) -> Result<Option<bool>, Memory>
     ensures { IfOk result (λ o. o ≡ compare_value widest operator a.now b.now) }
 {
-    let by_value = order_terms(alloc, a, b)?;
     match operator {
-        Compare::Equal => Ok(equal_terms(a, b, by_value)),
-        Compare::NotEqual => Ok(negation(equal_terms(a, b, by_value))),
-        Compare::Less => Ok(by_value.map(|o| o.is_lt())),
-        Compare::Greater => Ok(by_value.map(|o| o.is_gt())),
-        Compare::LessOrEqual => Ok(by_value.map(|o| o.is_le())),
-        Compare::GreaterOrEqual => Ok(by_value.map(|o| o.is_ge())),
+        Compare::Equal => Ok(equal_terms(a, b, order_terms(alloc, a, b)?)),
+        Compare::NotEqual => Ok(negation(equal_terms(a, b, order_terms(alloc, a, b)?))),
+        Compare::Less => Ok(order_terms(alloc, a, b)?.map(|o| o.is_lt())),
+        Compare::Greater => Ok(order_terms(alloc, a, b)?.map(|o| o.is_gt())),
+        Compare::LessOrEqual => Ok(order_terms(alloc, a, b)?.map(|o| o.is_le())),
+        Compare::GreaterOrEqual => Ok(order_terms(alloc, a, b)?.map(|o| o.is_ge())),
+        Compare::Starts => Ok(starts(a, b)),
+        Compare::Ends => Ok(ends(a, b)),
+        Compare::Contains => Ok(contains(a, b)),
     }
 }
 

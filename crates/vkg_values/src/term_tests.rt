@@ -5,6 +5,7 @@ ghost use Rattle.vkg_values.specs.Operators.{datatype_of as datatype_name, is_nu
 use crate::compare::is_literal;
 use crate::known::known_value;
 use crate::operator::{Take, Test};
+use crate::strings::length_of;
 use std::alloc::Global;
 use vkg_base::{Memory, Text};
 use vkg_cells::Cell;
@@ -31,7 +32,7 @@ fn is_number(value: &Option<Cell>) -> bool
     }
 }
 
-/// The term that is taken from a term (SPARQL 1.1 Query, 17.4.2.5 to 17.4.2.7); `None` is an error.
+/// The term that is taken from a term (SPARQL 1.1 Query, 17.4.2.5 to 17.4.2.7 and 17.4.3.2); `None` is an error.
 pub fn take_of(alloc: Global, take: Take, term: &Term) -> Result<Option<Term>, Memory>
     ensures { IfOk result (λ o. o ≡ take_value take term.now) }
 {
@@ -43,6 +44,7 @@ pub fn take_of(alloc: Global, take: Take, term: &Term) -> Result<Option<Term>, M
             alloc, annotation,
         )?))),
         (Take::Datatype, _) => Ok(None),
+        (Take::Length, term) => length_of(alloc, term),
     }
 }
 
