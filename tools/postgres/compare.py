@@ -186,7 +186,9 @@ def random_operator(chance, kinds):
     """An operator of SPARQL on random terms."""
     if chance.happens(0.6):
         return call(chance.choice(["EQ", "NE", "LT", "GT", "LE", "GE"]), random_term(chance, kinds), random_term(chance, kinds))
-    return call(chance.choice(["EBV", "STR", "LANG", "DATATYPE", "IS_IRI", "IS_BLANK", "IS_LITERAL", "IS_NUMERIC"]), random_term(chance, kinds))
+    if chance.happens(0.3):
+        return call(chance.choice(["STRSTARTS", "STRENDS", "CONTAINS"]), random_term(chance, kinds), random_term(chance, kinds))
+    return call(chance.choice(["EBV", "STR", "LANG", "DATATYPE", "STRLEN", "IS_IRI", "IS_BLANK", "IS_LITERAL", "IS_NUMERIC"]), random_term(chance, kinds))
 
 
 def compare_plans(tables, seed, folder):

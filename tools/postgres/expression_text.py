@@ -148,7 +148,7 @@ FUNCTIONS = {
     "NOT": negation,
     "IS_NULL": lambda value: truth(f"({value.text} IS NULL)"),
 }
-RESULTS = {"IRI_OF": "string"} | dict.fromkeys(("IRI", "BLANK", "STR", "LANG", "DATATYPE"), "term")
+RESULTS = {"IRI_OF": "string"} | dict.fromkeys(("IRI", "BLANK", "STR", "LANG", "DATATYPE", "STRLEN"), "term")
 
 
 def value_of(expression, row):

@@ -24,8 +24,8 @@ KINDS = {name: kind for kind, name in KIND_NAMES.items()}
 # The functions with what they take, where each argument is of one kind.
 TAKEN = {
     **dict.fromkeys(("IRI", "BLANK", "SAFE"), ["string"]),
-    **dict.fromkeys(("STR", "LANG", "DATATYPE", "EBV", "IS_IRI", "IS_BLANK", "IS_LITERAL", "IS_NUMERIC"), ["term"]),
-    **dict.fromkeys(("EQ", "NE", "LT", "GT", "LE", "GE"), ["term", "term"]),
+    **dict.fromkeys(("STR", "LANG", "DATATYPE", "STRLEN", "EBV", "IS_IRI", "IS_BLANK", "IS_LITERAL", "IS_NUMERIC"), ["term"]),
+    **dict.fromkeys(("EQ", "NE", "LT", "GT", "LE", "GE", "STRSTARTS", "STRENDS", "CONTAINS"), ["term", "term"]),
     "NOT": ["boolean"],
 }
 

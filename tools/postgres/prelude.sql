@@ -196,6 +196,25 @@ $$
     WHEN '@' THEN '<http://www.w3.org/1999/02/22-rdf-syntax-ns#langString>' ELSE substr(vkg.annotation(t), 3) END END
 $$;
 
+-- 17.4.3.1: a string is a plain literal or one with a tag; two are compatible where the second is plain, or both have one tag
+CREATE OR REPLACE FUNCTION vkg.is_string(t text) RETURNS boolean LANGUAGE sql IMMUTABLE PARALLEL SAFE AS
+$$ SELECT t LIKE '"%' AND vkg.annotation(t) NOT LIKE '^%' $$;
+
+CREATE OR REPLACE FUNCTION vkg.are_compatible(a text, b text) RETURNS boolean LANGUAGE sql IMMUTABLE PARALLEL SAFE AS
+$$ SELECT vkg.is_string(a) AND vkg.is_string(b) AND vkg.annotation(b) IN ('', vkg.annotation(a)) $$;
+
+CREATE OR REPLACE FUNCTION vkg.strlen(t text) RETURNS text LANGUAGE sql IMMUTABLE PARALLEL SAFE AS
+$$ SELECT CASE WHEN vkg.is_string(t) THEN '"' || length(vkg.form(t)) || '"^^<http://www.w3.org/2001/XMLSchema#integer>' END $$;
+
+CREATE OR REPLACE FUNCTION vkg.strstarts(a text, b text) RETURNS boolean LANGUAGE sql IMMUTABLE PARALLEL SAFE AS
+$$ SELECT CASE WHEN vkg.are_compatible(a, b) THEN starts_with(vkg.form(a), vkg.form(b)) END $$;
+
+CREATE OR REPLACE FUNCTION vkg.strends(a text, b text) RETURNS boolean LANGUAGE sql IMMUTABLE PARALLEL SAFE AS
+$$ SELECT CASE WHEN vkg.are_compatible(a, b) THEN right(vkg.form(a), length(vkg.form(b))) = vkg.form(b) END $$;
+
+CREATE OR REPLACE FUNCTION vkg.contains(a text, b text) RETURNS boolean LANGUAGE sql IMMUTABLE PARALLEL SAFE AS
+$$ SELECT CASE WHEN vkg.are_compatible(a, b) THEN strpos(vkg.form(a), vkg.form(b)) > 0 END $$;
+
 -- 17.2.2, effective boolean value; that of an ill-typed boolean or number is false, that of a number of more than 38 digits an error
 CREATE OR REPLACE FUNCTION vkg.ebv(t text) RETURNS boolean LANGUAGE plpgsql IMMUTABLE PARALLEL SAFE AS
 $$

@@ -13,10 +13,10 @@ use Rattle.vkg_sparql.specs.declared.pattern.Node.{Node}
 use Rattle.vkg_sparql.specs.declared.pattern.Node.TheVariants as node
 use Rattle.vkg_sparql.specs.declared.symbols.TheConstants.{SELECTION, TOKEN_VAR, SELECTION_1, GROUP, BLOCK, SAME, ITEM, PLIST, VERB, OLIST, OBJECT, TOKEN_OPEN_BRACKET, OBJECT_1, OLIST_2, PLIST_2, PLIST_4, SAME_5, GROUP_1, PART, NAME, PART_3, FILTER, BRACKETED, OR, AND, REL, UNARY, PRIMARY, CALL, CALL_3, CALL_7, PRIMARY_FROM_3, REL_2, AND_2, OR_2, PART_6, PART_7, PART_FROM_2, GROUP_5, QUERY_12}
 use Rattle.vkg_sparql.specs.declared.query.Part.{Part as PartValue}
-use Rattle.vkg_sparql.specs.Conditions.{or_joined, and_joined, negated, bound_value, operand_value, or_value, or_more, and_value, and_more, rel_value, rel_more, unary_value, primary_value, bracketed, call_value, same_value as same_term_value, filter_value}
+use Rattle.vkg_sparql.specs.Conditions.{or_joined, and_joined, negated, bound_value, operand_value, or_value, or_more, and_value, and_more, rel_value, rel_more, unary_value, primary_value, bracketed, call_value, two_value, filter_value}
 use Rattle.vkg_sparql.specs.Groups.{patterns_of, block_parts, no_part, group_value, parts_value, part_value, other_value, graph_value, union_value, groups_value, numbers_value, selection_value, query_value}
 use Rattle.vkg_sparql.specs.Lawful.{condition_nodes, patterns_nodes, name_node, part_nodes, group_nodes, unions_nodes, selected_nodes, query_nodes}
-use Rattle.vkg_sparql.specs.Meanings.{first_token, meaning_at, node_of, number_of, operand_of, compare_of, applied, name_of}
+use Rattle.vkg_sparql.specs.Meanings.{first_token, meaning_at, node_of, number_of, operand_of, compare_of, applied, applied_to_two, name_of}
 use Rattle.vkg_sparql.specs.declared.query.Part.TheVariants as part
 use Rattle.vkg_sparql.specs.Query.{Condition, And, Or, Part}
 use Rattle.vkg_sparql.specs.Seen.{condition_seen, group_seen, part_seen, unions_seen, query_seen}
@@ -93,6 +93,10 @@ module _ (keys : List (List ℕ)) where
   good_applied (meaning.Take op) c h = by_seen _ (seen-Take op c) h
   good_applied m c h = by_seen _ (seen-Not c) h
 
+  good_applied_to_two : (m : Meaning) (c d : ConditionValue) → GoodCondition c → GoodCondition d → GoodCondition (applied_to_two m c d)
+  good_applied_to_two (meaning.Compare op) c d h k = by_seen _ (seen-Compare op c d) (recursion_append (Fits keys) (condition_nodes (condition_seen c)) (condition_nodes (condition_seen d)) h k)
+  good_applied_to_two m c d h k = by_seen _ (seen-SameTerm c d) (recursion_append (Fits keys) (condition_nodes (condition_seen c)) (condition_nodes (condition_seen d)) h k)
+
   module _ (ks : List ℕ) (start : ℕ) (ms : List Meaning)
       (node_at : (i k : ℕ) → IsToken SPARQL ks start k i → is_node_kind k ≡ true → IsNode keys (meaning_at ms i))
       (operand_at : (i k : ℕ) → IsToken SPARQL ks start k i → is_operand_kind k ≡ true → IsOperand keys (meaning_at ms i))
@@ -168,17 +172,16 @@ module _ (keys : List (List ℕ)) where
 
       good_call : (t : Tree) → Of t CALL → GoodCondition (call_value ms t)
       good_call (first t) h = good_bound t h
-      good_call (second (first (pair word t))) h = good_same_term t h.1
+      good_call (second (first (pair word t))) h = good_two (first_token word) t h.1
       good_call (second (second (pair word t))) h = good_applied (meaning_at ms (first_token word)) (bracketed ms t) (good_bracketed t h.1)
       good_call t h = absurd (h)
 
-      good_same_term : (t : Tree) → Of t CALL_7 → GoodCondition (same_term_value ms t)
-      good_same_term (pair left (pair a (pair comma (pair b right)))) h =
-          by_seen _ (seen-SameTerm (or_value ms a) (or_value ms b)) (recursion_append (Fits keys) (condition_nodes (condition_seen (or_value ms a))) (condition_nodes (condition_seen (or_value ms b))) (good_or_value a h.1.0) (good_or_value b h.1.1.1.0))
-      good_same_term (pair left (pair a (pair comma t))) h = absurd (h.1.1.1)
-      good_same_term (pair left (pair a t)) h = absurd (h.1.1)
-      good_same_term (pair left t) h = absurd (h.1)
-      good_same_term t h = absurd (h)
+      good_two : (word : ℕ) (t : Tree) → Of t CALL_7 → GoodCondition (two_value ms word t)
+      good_two word (pair left (pair a (pair comma (pair b right)))) h = good_applied_to_two (meaning_at ms word) (or_value ms a) (or_value ms b) (good_or_value a h.1.0) (good_or_value b h.1.1.1.0)
+      good_two word (pair left (pair a (pair comma t))) h = absurd (h.1.1.1)
+      good_two word (pair left (pair a t)) h = absurd (h.1.1)
+      good_two word (pair left t) h = absurd (h.1)
+      good_two word t h = absurd (h)
 
     good_filter : (t : Tree) → Of t FILTER → GoodCondition (filter_value ms t)
     good_filter (first t) h = good_bracketed t h

@@ -8,7 +8,7 @@ use Rattle.vkg_terms.specs.declared.term.Term.TheVariants.{Lit}
 use Rattle.vkg_terms.specs.declared.term.Annotation.TheVariants.{Typed}
 use Rattle.vkg_terms.specs.Iri.{is_absolute}
 use Rattle.vkg_terms.specs.Vocabulary.{xsd}
-use Rattle.vkg_tokens.specs.declared.sparql_kinds.TheConstants.{OPEN_BRACE, CLOSE_BRACE, EQUAL, OR, BLANK, STRING, INTEGER, DECIMAL, OPTIONAL, DATATYPE}
+use Rattle.vkg_tokens.specs.declared.sparql_kinds.TheConstants.{OPEN_BRACE, CLOSE_BRACE, EQUAL, OR, BLANK, STRING, INTEGER, DECIMAL, OPTIONAL, DATATYPE, STRLEN, CONTAINS}
 use Rattle.vkg_turtle.specs.declared.lexeme.Word.{Word}
 use Rattle.vkg_turtle.specs.declared.lexeme.Word.TheVariants.{Name, Label}
 use Rattle.vkg_sparql.specs.declared.checks.Check.{Check}
@@ -79,9 +79,9 @@ abbrev pub label_again : List Lexeme → Option ℕ
 label_again xs = (fold block_step (record { labels = []; braces = []; brace = 0; again = None }) xs).again
 
 -- own: the nodes that are counted: a group's `{`, OPTIONAL, GRAPH, FILTER, UNION, the signs of operators, the words of calls. Among the kinds
--- the signs stand together from `=` to `||`, and the words from OPTIONAL to DATATYPE
+-- the signs stand together from `=` to `||`, and the words from OPTIONAL to DATATYPE and from STRLEN to CONTAINS
 abbrev pub is_node : ℕ → Bool
-is_node kind = (kind == OPEN_BRACE) || (nat_le EQUAL kind && nat_le kind OR) || (nat_le OPTIONAL kind && nat_le kind DATATYPE)
+is_node kind = (kind == OPEN_BRACE) || (nat_le EQUAL kind && nat_le kind OR) || (nat_le OPTIONAL kind && nat_le kind DATATYPE) || (nat_le STRLEN kind && nat_le kind CONTAINS)
 
 abbrev pub node_places : List Lexeme → List ℕ
 node_places xs = map (λ x. x.at) (filter (λ x. is_node x.kind) xs)

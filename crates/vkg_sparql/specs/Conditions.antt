@@ -1,11 +1,11 @@
 -- SPARQL 1.1, 19.8, [69] and [110] to [121]: the expression of a filter, off its tree. `||` and `&&` join from the left; a comparison
 -- has two sides.
-use Rattle.std.specs.Prelude.{Bool, true, false, List, [], ◌∷◌}
+use Rattle.std.specs.Prelude.{ℕ, Bool, true, false, List, [], ◌∷◌}
 use Rattle.vkg_grammar.specs.Trees.{Tree, pair, first, second, present}
 use Rattle.vkg_sparql.specs.declared.condition.Condition.{Condition}
-use Rattle.vkg_sparql.specs.declared.condition.Condition.TheVariants.{Variable, Bound, Compare, SameTerm, Not, And, Or}
+use Rattle.vkg_sparql.specs.declared.condition.Condition.TheVariants.{Variable, Bound, Compare, Not, And, Or}
 use Rattle.vkg_sparql.specs.declared.meaning.Meaning.{Meaning}
-use Rattle.vkg_sparql.specs.Meanings.{first_token, meaning_at, number_of, operand_of, compare_of, applied}
+use Rattle.vkg_sparql.specs.Meanings.{first_token, meaning_at, number_of, operand_of, compare_of, applied, applied_to_two}
 
 abbrev pub or_joined : Condition → List Condition → Condition
 or_joined c [] = c
@@ -77,17 +77,17 @@ abbrev mutual
   bracketed ms (pair left (pair a right)) = or_value ms a
   bracketed ms t = no_condition
 
-  -- call = BOUND "(" VAR ")" | SAMETERM "(" or "," or ")" | test bracketed
+  -- call = BOUND "(" VAR ")" | two "(" or "," or ")" | test bracketed
   pub call_value : List Meaning → Tree → Condition
   call_value ms (first t) = bound_value ms t
-  call_value ms (second (first (pair word t))) = same_value ms t
+  call_value ms (second (first (pair word t))) = two_value ms (first_token word) t
   call_value ms (second (second (pair word t))) = applied (meaning_at ms (first_token word)) (bracketed ms t)
   call_value ms t = no_condition
 
   -- "(" or "," or ")"
-  pub same_value : List Meaning → Tree → Condition
-  same_value ms (pair left (pair a (pair comma (pair b right)))) = SameTerm (or_value ms a) (or_value ms b)
-  same_value ms t = no_condition
+  pub two_value : List Meaning → ℕ → Tree → Condition
+  two_value ms word (pair left (pair a (pair comma (pair b right)))) = applied_to_two (meaning_at ms word) (or_value ms a) (or_value ms b)
+  two_value ms word t = no_condition
 
 -- filter = bracketed | call
 abbrev pub filter_value : List Meaning → Tree → Condition

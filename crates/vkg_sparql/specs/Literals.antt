@@ -6,13 +6,13 @@ use Rattle.vkg_terms.specs.declared.term.Term.TheVariants.{Iri, Lit}
 use Rattle.vkg_terms.specs.declared.term.Annotation.{Annotation}
 use Rattle.vkg_terms.specs.declared.term.Annotation.TheVariants.{Plain, Lang}
 use Rattle.vkg_terms.specs.Vocabulary.{rdf_type}
-use Rattle.vkg_tokens.specs.declared.sparql_kinds.TheConstants.{OPEN_BRACKET, EQUAL, NOT_EQUAL, LESS, GREATER, LESS_EQUAL, GREATER_EQUAL, CARETS, IRIREF, PNAME_NS, PNAME_LN, BLANK, VAR, STRING, INTEGER, DECIMAL, IS_A, TRUE, FALSE, ISIRI, ISURI, ISBLANK, ISLITERAL, ISNUMERIC, STR, LANG, DATATYPE}
+use Rattle.vkg_tokens.specs.declared.sparql_kinds.TheConstants.{OPEN_BRACKET, EQUAL, NOT_EQUAL, LESS, GREATER, LESS_EQUAL, GREATER_EQUAL, CARETS, IRIREF, PNAME_NS, PNAME_LN, BLANK, VAR, STRING, INTEGER, DECIMAL, IS_A, TRUE, FALSE, ISIRI, ISURI, ISBLANK, ISLITERAL, ISNUMERIC, STR, LANG, DATATYPE, STRLEN, STRSTARTS, STRENDS, CONTAINS}
 use Rattle.vkg_turtle.specs.declared.lexeme.Word.{Word}
 use Rattle.vkg_turtle.specs.declared.lexeme.Word.TheVariants.{Quoted, Tag, Integer, Decimal, Boolean, IsA}
 use Rattle.vkg_turtle.specs.Document.{annotation_of_type, typed}
 use Rattle.vkg_values.specs.declared.operator.Test.TheVariants.{IsIri, IsBlank, IsLiteral, IsNumeric}
 use Rattle.vkg_values.specs.declared.operator.Take.TheVariants as take
-use Rattle.vkg_values.specs.declared.operator.Compare.TheVariants.{Equal, NotEqual, Less, Greater, LessOrEqual, GreaterOrEqual}
+use Rattle.vkg_values.specs.declared.operator.Compare.TheVariants as compare
 use Rattle.vkg_sparql.specs.declared.environment.Environment.{Environment}
 use Rattle.vkg_sparql.specs.declared.lexeme.Lexeme.{Lexeme}
 use Rattle.vkg_sparql.specs.declared.meaning.Meaning.{Meaning}
@@ -43,15 +43,15 @@ term_of e (Boolean text) xs = typed (str_to_ascii_lowercase text) (codes "boolea
 term_of e IsA xs = Iri rdf_type
 term_of e word xs = Iri (iri_text e word)
 
--- 17.3, 17.4: by the kinds of the signs = != < > <= >= and the words isIRI .. DATATYPE
+-- 17.3, 17.4: by the kinds of the signs = != < > <= >= and the words isIRI .. DATATYPE and STRLEN .. CONTAINS
 abbrev pub operator_of : ℕ → Meaning
 operator_of kind =
-    if kind == EQUAL then Compare Equal
-    else if kind == NOT_EQUAL then Compare NotEqual
-    else if kind == LESS then Compare Less
-    else if kind == GREATER then Compare Greater
-    else if kind == LESS_EQUAL then Compare LessOrEqual
-    else if kind == GREATER_EQUAL then Compare GreaterOrEqual
+    if kind == EQUAL then Compare compare.Equal
+    else if kind == NOT_EQUAL then Compare compare.NotEqual
+    else if kind == LESS then Compare compare.Less
+    else if kind == GREATER then Compare compare.Greater
+    else if kind == LESS_EQUAL then Compare compare.LessOrEqual
+    else if kind == GREATER_EQUAL then Compare compare.GreaterOrEqual
     else if (kind == ISIRI) || (kind == ISURI) then Test IsIri
     else if kind == ISBLANK then Test IsBlank
     else if kind == ISLITERAL then Test IsLiteral
@@ -59,6 +59,10 @@ operator_of kind =
     else if kind == STR then Take take.Str
     else if kind == LANG then Take take.Lang
     else if kind == DATATYPE then Take take.Datatype
+    else if kind == STRLEN then Take take.Length
+    else if kind == STRSTARTS then Compare compare.Starts
+    else if kind == STRENDS then Compare compare.Ends
+    else if kind == CONTAINS then Compare compare.Contains
     else Mark
 
 -- IRIREF, PNAME_NS, PNAME_LN, a string, INTEGER, DECIMAL, `a`, `true`, `false`

@@ -47,11 +47,15 @@ abbrev pub compare_of : Meaning → CompareOp
 compare_of (Compare op) = op
 compare_of m = Equal
 
--- the call of a word
+-- the call of a word that takes one argument, and of one that takes two
 abbrev pub applied : Meaning → Condition → Condition
 applied (Test op) c = condition.Test op c
 applied (Take op) c = condition.Take op c
 applied m c = condition.Not c
+
+abbrev pub applied_to_two : Meaning → Condition → Condition → Condition
+applied_to_two (Compare op) c d = condition.Compare op c d
+applied_to_two m c d = condition.SameTerm c d
 
 abbrev pub pattern_of : List Meaning → TripleTokens → TriplePattern
 pattern_of ms t = record {

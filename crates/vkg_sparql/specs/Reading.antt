@@ -11,7 +11,7 @@ use Rattle.vkg_tokens.specs.declared.cutting.Token.{Token}
 use Rattle.vkg_tokens.specs.declared.lang.Lang.TheVariants.{Sparql}
 use Rattle.vkg_tokens.specs.Cut.{tokens_of}
 use Rattle.vkg_tokens.specs.Mark.{without_mark}
-use Rattle.vkg_tokens.specs.declared.sparql_kinds.TheConstants.{OPEN_BRACE, CLOSE_BRACE, OPEN, CLOSE, OPEN_BRACKET, CLOSE_BRACKET, STAR, CARET, PLUS_SIGN, QUESTION, DOUBLE, SELECT, OUTSIDE, STRLEN, STRSTARTS, STRENDS, CONTAINS, MINUS, BIND, AS, VALUES, ORDER, LIMIT, OFFSET, ASK, CONSTRUCT, KIND_COUNT}
+use Rattle.vkg_tokens.specs.declared.sparql_kinds.TheConstants.{OPEN_BRACE, CLOSE_BRACE, OPEN, CLOSE, OPEN_BRACKET, CLOSE_BRACKET, STAR, CARET, PLUS_SIGN, QUESTION, DOUBLE, SELECT, OUTSIDE, MINUS, BIND, AS, VALUES, ORDER, LIMIT, OFFSET, ASK, CONSTRUCT, KIND_COUNT}
 use Rattle.vkg_turtle.specs.Lexical.{IsFirstBad}
 use Rattle.vkg_sparql.specs.declared.checks.Check.TheVariants.{Unknown, Relative, Float, Wide}
 use Rattle.vkg_sparql.specs.declared.environment.Environment.{Environment}
@@ -48,12 +48,11 @@ kind_at ts i = slice_index_or (kinds_of ts) i 0
 abbrev pub fault : ℕ → ℕ → QueryFault
 fault check at = record { check = check; at = at }
 
--- own: the words of SPARQL 1.1 that are told as left out of the profile: those of the kind OUTSIDE, and of those with kinds of their own all
+-- own: the words of SPARQL 1.1 that are told as left out of the profile: those of the kind OUTSIDE, and of those that are to come all
 -- but UNDEF, BY, ASC and DESC
 unfoldable pub is_outside_word : ℕ → Bool
 is_outside_word kind =
-    (kind == OUTSIDE) || (kind == STRLEN) || (kind == STRSTARTS) || (kind == STRENDS) || (kind == CONTAINS) || (kind == MINUS) || (kind == BIND)
-    || (kind == AS) || (kind == VALUES) || (kind == ORDER) || (kind == LIMIT) || (kind == OFFSET) || (kind == ASK) || (kind == CONSTRUCT)
+    (kind == OUTSIDE) || (kind == MINUS) || (kind == BIND) || (kind == AS) || (kind == VALUES) || (kind == ORDER) || (kind == LIMIT) || (kind == OFFSET) || (kind == ASK) || (kind == CONSTRUCT)
 
 -- own: the tokens that are told so: these words, `(` `*` `/` `|` `^` `+` `-` `?`, a number with an exponent, and SELECT within a query. Among
 -- the kinds `*` to `^` stand together, and `+` to `?`

@@ -129,6 +129,7 @@ fn is_node(kind: usize) -> bool
     kind == kinds::OPEN_BRACE
         || (kinds::EQUAL <= kind && kind <= kinds::OR)
         || (kinds::OPTIONAL <= kind && kind <= kinds::DATATYPE)
+        || (kinds::STRLEN <= kind && kind <= kinds::CONTAINS)
 }
 
 fn node_places(alloc: Global, lexemes: &[Lexeme]) -> Result<Vec<usize>, Memory>

@@ -1,10 +1,12 @@
 ghost use Rattle.std.specs.Prelude.{◌≡◌, ◌<◌, ◌++◌, IfOk, OnOk};
 ghost use Rattle.vkg_grammar.specs.Forest.{tree, node_count};
 ghost use Rattle.vkg_sparql.specs.Meanings.{operand_of, meaning_at};
-ghost use Rattle.vkg_sparql.specs.Conditions.{or_joined, and_joined, negated, no_condition, bound_value, operand_value, or_value, or_more, and_value, and_more, rel_value, rel_more, unary_value, primary_value, bracketed, call_value, same_value, filter_value};
+ghost use Rattle.vkg_sparql.specs.Conditions.{or_joined, and_joined, negated, no_condition, bound_value, operand_value, or_value, or_more, and_value, and_more, rel_value, rel_more, unary_value, primary_value, bracketed, call_value, two_value, filter_value};
 
 use crate::condition::Condition;
-use crate::meaning::{Meaning, applied, compare_of, first_token, number_of, operand_of};
+use crate::meaning::{
+    Meaning, applied, applied_to_two, compare_of, first_token, number_of, operand_of,
+};
 use std::alloc::Global;
 use vkg_base::{Box, Items, Memory};
 use vkg_grammar::{Forest, Node};
@@ -252,7 +254,7 @@ fn read_bracketed(
     read_or(alloc, meanings, forest, a)
 }
 
-// call = BOUND "(" VAR ")" | SAMETERM "(" or "," or ")" | test bracketed
+// call = BOUND "(" VAR ")" | two "(" or "," or ")" | test bracketed
 #[cycle(condition)]
 fn read_call(
     alloc: Global,
@@ -267,7 +269,10 @@ fn read_call(
         Node::First(t) => Ok(read_bound(meanings, forest, t)),
         Node::Second(t) => match forest.node(t) {
             Node::First(t) => match forest.node(t) {
-                Node::Pair(_, t) => read_same(alloc, meanings, forest, t),
+                Node::Pair(word, t) => {
+                    let token = first_token(forest, word);
+                    read_two(alloc, meanings, forest, token, t)
+                }
                 _ => no_condition(),
             },
             Node::Second(t) => match forest.node(t) {
@@ -286,14 +291,15 @@ fn read_call(
 
 // "(" or "," or ")"
 #[cycle(condition)]
-fn read_same(
+fn read_two(
     alloc: Global,
     meanings: &[Meaning],
     forest: &Forest,
+    word: usize,
     at: usize,
 ) -> Result<Condition, Memory>
     requires { at < node_count forest.now }
-    ensures { IfOk result (λ c. c ≡ same_value meanings.now (tree forest.now at)) }
+    ensures { IfOk result (λ c. c ≡ two_value meanings.now word (tree forest.now at)) }
 {
     let Node::Pair(_, rest) = forest.node(at) else {
         return no_condition();
@@ -309,7 +315,7 @@ fn read_same(
     };
     let c = Box::new(alloc, read_or(alloc, meanings, forest, a)?)?;
     let d = Box::new(alloc, read_or(alloc, meanings, forest, b)?)?;
-    Ok(Condition::SameTerm(c, d))
+    Ok(applied_to_two(meanings, word, c, d))
 }
 
 /// The expression of a filter: filter = bracketed | call.

@@ -105,6 +105,10 @@ fn operator_of(kind: usize) -> Meaning
         kinds::STR => Meaning::Take(Take::Str),
         kinds::LANG => Meaning::Take(Take::Lang),
         kinds::DATATYPE => Meaning::Take(Take::Datatype),
+        kinds::STRLEN => Meaning::Take(Take::Length),
+        kinds::STRSTARTS => Meaning::Compare(Compare::Starts),
+        kinds::STRENDS => Meaning::Compare(Compare::Ends),
+        kinds::CONTAINS => Meaning::Compare(Compare::Contains),
         _ => Meaning::Mark,
     }
 }

@@ -1,6 +1,6 @@
 ghost use Rattle.std.specs.Prelude.{◌≡◌, ◌<◌, IfOk, unwrap_or};
 ghost use Rattle.vkg_grammar.specs.Forest.{tree, node_count};
-ghost use Rattle.vkg_sparql.specs.Meanings.{first_token, meaning_at, node_of, number_of, operand_of, compare_of, applied, pattern_of, name_of};
+ghost use Rattle.vkg_sparql.specs.Meanings.{first_token, meaning_at, node_of, number_of, operand_of, compare_of, applied, applied_to_two, pattern_of, name_of};
 
 use crate::condition::Condition;
 use crate::pattern::{GraphName, Node, TriplePattern};
@@ -94,7 +94,7 @@ pub fn compare_of(meanings: &[Meaning], token: usize) -> Compare
     }
 }
 
-/// The call of a word.
+/// The call of a word that takes one argument.
 pub fn applied(meanings: &[Meaning], token: usize, argument: Box<Condition>) -> Condition
     ensures { result ≡ applied (meaning_at meanings.now token) argument }
 {
@@ -102,6 +102,21 @@ pub fn applied(meanings: &[Meaning], token: usize, argument: Box<Condition>) -> 
         Some(Meaning::Test(test)) => Condition::Test(*test, argument),
         Some(Meaning::Take(take)) => Condition::Take(*take, argument),
         _ => Condition::Not(argument),
+    }
+}
+
+/// The call of a word that takes two: STRSTARTS, STRENDS or CONTAINS, or else sameTerm.
+pub fn applied_to_two(
+    meanings: &[Meaning],
+    token: usize,
+    a: Box<Condition>,
+    b: Box<Condition>,
+) -> Condition
+    ensures { result ≡ applied_to_two (meaning_at meanings.now token) a b }
+{
+    match at(meanings, token) {
+        Some(Meaning::Compare(compare)) => Condition::Compare(*compare, a, b),
+        _ => Condition::SameTerm(a, b),
     }
 }
 

@@ -67,10 +67,6 @@ fn is_outside_word(kind: usize) -> bool
     ensures { result ≡ is_outside_word kind }
 {
     kind == kinds::OUTSIDE
-        || kind == kinds::STRLEN
-        || kind == kinds::STRSTARTS
-        || kind == kinds::STRENDS
-        || kind == kinds::CONTAINS
         || kind == kinds::MINUS
         || kind == kinds::BIND
         || kind == kinds::AS

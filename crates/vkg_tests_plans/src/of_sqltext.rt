@@ -10,7 +10,7 @@ use vkg_plan::{CheckedPlan, Plan, well_typed};
 use vkg_schema::{Schema, read_schema};
 use vkg_sqltext::sql_text;
 use vkg_terms::{Annotation, Term};
-use vkg_values::Compare;
+use vkg_values::{Compare, Take};
 
 const COMPANY: &str =
     "CREATE TABLE dept (id INTEGER PRIMARY KEY, title VARCHAR(20)); CREATE TABLE emp (id INTEGER PRIMARY KEY, name VARCHAR(20), dept INTEGER REFERENCES dept); CREATE TABLE \"a\"\"b\" (id INTEGER);";
@@ -57,6 +57,8 @@ fn of_columns(alloc: Global, form: &str, count: usize) -> MadeExpr {
         "And" => Expr::And(es),
         "Or" => Expr::Or(es),
         "Coalesce" => Expr::Coalesce(es),
+        "Length" => Expr::Sparql(Operator::Take(Take::Length), es),
+        "Contains" => Expr::Sparql(Operator::Compare(Compare::Contains), es),
         _ => Expr::Sparql(Operator::Compare(Compare::LessOrEqual), es),
     };
     Box::new(alloc, e)
@@ -77,13 +79,14 @@ fn made_expr(alloc: Global, form: &str) -> MadeExpr {
         "Same" => same(alloc, 0, 1),
         "And" => of_columns(alloc, form, 0),
         "Or" => of_columns(alloc, form, 1),
+        "Length" => of_columns(alloc, form, 1),
         "Coalesce" => of_columns(alloc, form, 3),
         _ => of_columns(alloc, form, 2),
     }
 }
 
 // Forms of expressions, a kind that all columns have, and their texts.
-const TEXTS_OF_FORMS: [(&str, SqlType, &str); 15] = [
+const TEXTS_OF_FORMS: [(&str, SqlType, &str); 17] = [
     ("Col", SqlType::Int, "c10"),
     ("NULL", SqlType::Int, "CAST(NULL AS BIN)"),
     ("truth", SqlType::Int, "TRUE"),
@@ -99,6 +102,8 @@ const TEXTS_OF_FORMS: [(&str, SqlType, &str); 15] = [
     ("Or", SqlType::Bool, "OR(c1)"),
     ("Coalesce", SqlType::Int, "COALESCE(c1, c2, c3)"),
     ("Sparql", SqlType::Term, "LE(c1, c2)"),
+    ("Length", SqlType::Term, "STRLEN(c1)"),
+    ("Contains", SqlType::Term, "CONTAINS(c1, c2)"),
 ];
 
 // The plan of an expression over no rows, of ten columns of a kind.

@@ -158,6 +158,65 @@ fn nothing_is_taken_from_a_blank_node(rt: HostRuntime) -> Result<(), Fail> {
     Ok(())
 }
 
+// A string, plain where the tag is empty, or with the tag.
+fn string(alloc: Global, text: &str, tag: &str) -> Result<Term, Memory> {
+    if tag.is_empty() {
+        typed(alloc, "string", text)
+    } else {
+        tagged(alloc, text, tag)
+    }
+}
+
+// Two strings, each with its tag, and the answers of STRSTARTS, STRENDS and CONTAINS.
+const STRINGS: [(&str, &str, &str, &str, Option<bool>, Option<bool>, Option<bool>); 8] = [
+    ("abc", "", "ab", "", Some(true), Some(false), Some(true)),
+    ("abc", "", "bc", "", Some(false), Some(true), Some(true)),
+    ("abc", "en", "", "", Some(true), Some(true), Some(true)),
+    ("a\u{fc}b", "", "\u{fc}", "", Some(false), Some(false), Some(true)),
+    ("a", "", "ab", "", Some(false), Some(false), Some(false)),
+    ("a", "en", "a", "en", Some(true), Some(true), Some(true)),
+    ("a", "en", "a", "fr", None, None, None),
+    ("a", "", "a", "en", None, None, None),
+];
+
+// SPARQL 1.1 Query, 17.4.3.6 to 17.4.3.8.
+#[test]
+fn strings_are_parts_of_strings(rt: HostRuntime) -> Result<(), Fail> {
+    for (text, tag, part, other, starts, ends, contains) in STRINGS {
+        let text = string(rt.alloc(), text, tag)?;
+        let part = string(rt.alloc(), part, other)?;
+        assert_eq!(rt; compare_terms(rt.alloc(), Compare::Starts, &text, &part)?, starts);
+        assert_eq!(rt; compare_terms(rt.alloc(), Compare::Ends, &text, &part)?, ends);
+        assert_eq!(rt; compare_terms(rt.alloc(), Compare::Contains, &text, &part)?, contains);
+    }
+    Ok(())
+}
+
+// Whether STRLEN of a term is the number of this text.
+fn is_long(alloc: Global, term: &Term, number: &str) -> Result<bool, Memory> {
+    let Some(length) = take_of(alloc, Take::Length, term)? else {
+        return Ok(false);
+    };
+    Ok(length.same(&typed(alloc, "integer", number)?))
+}
+
+// SPARQL 1.1 Query, 17.4.3.2.
+#[test]
+fn characters_are_counted(rt: HostRuntime) -> Result<(), Fail> {
+    for (text, tag, number) in [
+        ("", "", "0"),
+        ("a\u{fc}b", "", "3"),
+        ("\u{1f600}", "en", "1"),
+        ("abcdefghijkl", "", "12"),
+    ] {
+        let term = string(rt.alloc(), text, tag)?;
+        assert!(rt; is_long(rt.alloc(), &term, number)?);
+    }
+    let number = typed(rt.alloc(), "integer", "1")?;
+    assert!(rt; take_of(rt.alloc(), Take::Length, &number)?.is_none());
+    Ok(())
+}
+
 // SPARQL 1.1 Query, 17.2: an error beside a truth.
 #[test]
 fn errors_are_a_third_value(rt: HostRuntime) -> Result<(), Fail> {

@@ -68,12 +68,28 @@ fn each_fault_is_named(rt: HostRuntime) -> Result<(), Fail> {
     Ok(())
 }
 
+// STRLEN takes one argument, STRSTARTS, STRENDS and CONTAINS take two, and they stand in conditions alone.
+#[test]
+fn string_functions_have_their_arguments(rt: HostRuntime) -> Result<(), Fail> {
+    let rows = [
+        ("SELECT * { FILTER(STRLEN('a', 'b')) }", "Q02 28"),
+        ("SELECT * { FILTER(CONTAINS('a')) }", "Q02 30"),
+        ("SELECT * { FILTER strends('a') }", "Q02 29"),
+        ("SELECT * { FILTER(STRSTARTS('a', 'b', 'c')) }", "Q02 36"),
+        ("SELECT * { ?s STRLEN ?o }", "Q02 14"),
+        ("SELECT CONTAINS {}", "Q02 7"),
+    ];
+    for (text, want) in rows.iter() {
+        let found = shown(&rt, text.as_bytes())?;
+        assert_eq!(rt; found.as_str(), *want, "at {text}");
+    }
+    Ok(())
+}
+
 // Each is told where it stands: as left out, or as a word that no query goes on with.
 #[test]
 fn words_to_come_are_refused(rt: HostRuntime) -> Result<(), Fail> {
     let rows = [
-        ("SELECT * { FILTER(STRLEN(?x)) }", "Q07 18"),
-        ("SELECT * { FILTER(contains(?x)) }", "Q07 18"),
         ("SELECT * { MINUS {} }", "Q07 11"),
         ("SELECT * { BIND(1 AS ?x) }", "Q07 11"),
         ("SELECT * { VALUES ?x { UNDEF } }", "Q07 11"),

@@ -6,7 +6,7 @@ use vkg_algebra::translate;
 use vkg_sparql::{Query, read_query};
 
 // Queries and their algebra by the rules of SPARQL 1.1, 18.2.2.
-const ROWS: [(&str, &str); 11] = [
+const ROWS: [(&str, &str); 12] = [
     ("SELECT * {}", "Bgp"),
     (
         "SELECT ?n ?d { ?e <name> ?n OPTIONAL { ?e <ref-dept> ?d } }",
@@ -47,6 +47,10 @@ const ROWS: [(&str, &str); 11] = [
     (
         "SELECT ?s { ?s <d> 01 FILTER(?s != <a> && isIRI(?s) && (LANG(?s) = \"en\" || sameTerm(?s, ?s))) FILTER(?s) }",
         "Filter(And(And(NotEqual(?s, <http://e/a>), IsIri ?s, Or(Equal(Lang ?s, \"en\"), SameTerm(?s, ?s))), ?s), Bgp[?s <http://e/d> \"01\"^^<http://www.w3.org/2001/XMLSchema#integer>])",
+    ),
+    (
+        "SELECT * { ?s <q> ?o FILTER(STRLEN(?o) > 1 && STRSTARTS(?o, \"a\") && (STRENDS(?o, \"b\") || contains(?o, \"c\"))) }",
+        "Filter(And(Greater(Length ?o, \"1\"^^<http://www.w3.org/2001/XMLSchema#integer>), Starts(?o, \"a\"), Or(Ends(?o, \"b\"), Contains(?o, \"c\"))), Bgp[?s <http://e/q> ?o])",
     ),
 ];
 

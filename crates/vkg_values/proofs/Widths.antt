@@ -1,5 +1,5 @@
 -- A number has no more digits that count than its text has bytes.
-use Rattle.std.proofs.Common.{◌≡◌, ℕ, ◌+◌, ◌≤◌, ◌<◌, ◌^◌, suc, Bool, true, false, cond, List, [], ◌∷◌, take, drop, length, nat_lt, arith, min}
+use Rattle.std.proofs.Common.{◌≡◌, ℕ, ◌+◌, ◌≤◌, ◌<◌, ◌^◌, suc, Bool, true, false, cond, List, [], ◌∷◌, take, drop, length, nat_lt, arith, min, lit≤}
 use Rattle.std.specs.Prelude.{decimal, ◌==◌, ◌||◌}
 use Rattle.std.specs.List.{after_first, before_first, position_or_len}
 use Rattle.std.proofs.lemmas.Bool.{le-ltb, lt-ltb}

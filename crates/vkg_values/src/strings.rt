@@ -1,5 +1,5 @@
 // The functions on strings (SPARQL 1.1 Query, 17.4.3); `None` is an error.
-ghost use Rattle.std.specs.Prelude.{◌≡◌, IfOk, nat_eq};
+ghost use Rattle.std.specs.Prelude.{◌≡◌, IfOk, chars, length, nat_eq};
 ghost use Rattle.std.specs.List.{ends_with, starts_with};
 ghost use Rattle.vkg_values.specs.Strings.{are_compatible as compatible, count_term, has_part as has_part_in, is_string as is_string_literal, length_of as length_of_term, on_strings};
 
@@ -15,12 +15,18 @@ pub(crate) fn length_of(alloc: Global, term: &Term) -> Result<Option<Term>, Memo
 {
     match term {
         Term::Lit(text, annotation) => if is_string(annotation) {
-            count_of(alloc, text.as_str().chars().count())
+            count_of(alloc, character_count(text.as_str()))
         } else {
             Ok(None)
         },
         _ => Ok(None),
     }
+}
+
+fn character_count(text: &str) -> usize
+    ensures { result ≡ length (chars text.now) }
+{
+    text.chars().count()
 }
 
 fn is_string(annotation: &Annotation) -> bool

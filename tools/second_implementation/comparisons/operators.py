@@ -13,9 +13,11 @@ BLANK = "q"
 OF_TWO = [f"?a {sign} ?b" for sign in ("=", "!=", "<", ">", "<=", ">=", "&&", "||")]
 OF_TWO += [f"!(?a {sign} ?b)" for sign in ("=", "!=", "<", "&&", "||")]
 OF_TWO += ["sameTerm(?a, ?b)", "STR(?a) = STR(?b)", "DATATYPE(?a) != DATATYPE(?b)", "LANG(?a) < LANG(?b)"]
-OF_TWO += ["(?a < ?b) = (?b > ?a)", "(?a = ?b) < ?b"]
+OF_TWO += ["(?a < ?b) = (?b > ?a)", "(?a = ?b) < ?b", "STRLEN(?a) = ?b"]
+OF_TWO += [f"{sign}{name}(?a, ?b)" for name in ("STRSTARTS", "STRENDS", "CONTAINS") for sign in ("", "!")]
 OF_ONE = ["?a", "!?a"]
-OF_ONE += [f"{name}(?a)" for name in "isIRI isURI isBlank isLiteral isNumeric STR LANG DATATYPE".split()]
+OF_ONE += [f"{name}(?a)" for name in "isIRI isURI isBlank isLiteral isNumeric STR LANG DATATYPE STRLEN".split()]
+OF_ONE += ["!STRLEN(?a)", "STRLEN(?a) = 1"]
 
 
 def the_case():

@@ -5,9 +5,9 @@ answers have solutions.
 """
 from random_inputs.terms import IRIS, LITERALS, can_be_written
 from reference.evaluation import extension
-from reference.queries import (ACCESSORS, COMPARISONS, TESTS, Call, FilterElement, GraphElement, OptionalElement, Query,
-                               TriplesBlock, UnionElement, Var)
-from reference.rdf import DEFAULT_GRAPH, RDF_TYPE, Term, dataset_of, iri
+from reference.queries import (ACCESSORS, COMPARISONS, STRING_TESTS, TESTS, Call, FilterElement, GraphElement, OptionalElement,
+                               Query, TriplesBlock, UnionElement, Var)
+from reference.rdf import DEFAULT_GRAPH, RDF_TYPE, XSD, Term, dataset_of, iri, literal
 
 NAMES = ["s", "p", "o", "x", "y", "é", "n_1", "1", "Name", "g"]
 # How often a subject, a predicate or an object becomes a variable, and a blank node.
@@ -133,7 +133,19 @@ class QueryMaker:
         known = [(term, variable) for term, variable in self.variables.items() if can_be_written(term)]
         if known and self.chance.happens(0.4):
             return Call(sign, tuple(self.chance.sample(self.chance.choice(known), 2)))
+        if self.chance.happens(0.1):
+            return Call(sign, (Call("STRLEN", (self.operand(depth),)), literal(str(self.chance.randrange(8)), datatype=XSD + "integer")))
         return Call(sign, (self.operand(depth), self.operand(depth)))
+
+    def string_test(self, depth):
+        """A test of two strings; in some cases of a variable and a part of a literal that stands in its place in the dataset."""
+        name = self.chance.choice(STRING_TESTS)
+        known = [(term, variable) for term, variable in self.variables.items() if term.kind == "literal" and can_be_written(term)]
+        if known and self.chance.happens(0.6):
+            term, variable = self.chance.choice(known)
+            start, end = sorted(self.chance.randrange(len(term.text) + 1) for _ in range(2))
+            return Call(name, (variable, literal(term.text[start:end], self.chance.choice(["", term.language]))))
+        return Call(name, (self.operand(depth), self.operand(depth)))
 
     def expression(self, depth):
         """An expression; that of a filter is asked for its truth."""
@@ -148,7 +160,9 @@ class QueryMaker:
             return Call("SAMETERM", (self.operand(depth), self.operand(depth)))
         if roll < 0.7:
             return Call(self.chance.choice(TESTS), (self.operand(depth),))
-        return self.operand(depth) if roll < 0.75 else self.comparison(depth)
+        if roll < 0.78:
+            return self.string_test(depth)
+        return self.operand(depth) if roll < 0.82 else self.comparison(depth)
 
     # ---- groups ----
 

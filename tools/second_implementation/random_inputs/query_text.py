@@ -2,8 +2,8 @@
 from collections import Counter
 
 from random_inputs.spelling import TermWriter, joined
-from reference.queries import (ACCESSORS, COMPARISONS, TESTS, Call, FilterElement, GraphElement, OptionalElement, TriplesBlock,
-                               UnionElement, Var)
+from reference.queries import (ACCESSORS, COMPARISONS, STRING_TESTS, TESTS, Call, FilterElement, GraphElement, OptionalElement,
+                               TriplesBlock, UnionElement, Var)
 from reference.rdf import RDF, RDF_TYPE, XSD
 
 BASES = [None, None, None, "http://e/", "http://other.org/a/b?c"]
@@ -140,7 +140,7 @@ class QueryWriter:
 
     def constraint(self, expression):
         """The tokens of a filter's constraint: a call, or an expression in brackets."""
-        is_call = isinstance(expression, Call) and expression.name in ("BOUND", "SAMETERM", *TESTS, *ACCESSORS)
+        is_call = isinstance(expression, Call) and expression.name in ("BOUND", "SAMETERM", *TESTS, *ACCESSORS, *STRING_TESTS)
         return self.expression(expression) if is_call and self.chance.happens(0.5) else ["(", *self.expression(expression), ")"]
 
     def expression(self, expression):

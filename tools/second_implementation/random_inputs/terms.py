@@ -24,7 +24,7 @@ TEXTS = {
     "nonNegativeInteger": ["0"],
 }
 LITERALS = [literal(text, datatype=XSD + sort) for sort, texts in TEXTS.items() for text in texts]
-LITERALS += [literal(text, tag) for text, tag in [("a", "en"), ("A", "en-GB"), ("a", "fr"), ("", "en"), ("b", "en")]]
+LITERALS += [literal(text, tag) for text, tag in [("a", "en"), ("A", "en-GB"), ("a", "fr"), ("", "en"), ("b", "en"), ("aé", "en")]]
 LITERALS += [literal(text, datatype="urn:d:t") for text in "xy"]
 IRIS = [iri(text) for text in ("http://e/none", "http://e/x/1", "urn:a:b", RDF + "langString")]
 IRIS += [iri(XSD + sort) for sort in ("integer", "decimal", "string", "date")]

@@ -7,7 +7,7 @@ import re
 from decimal import Decimal
 
 from reference.datatypes import NUMBERS, is_well_typed
-from reference.queries import COMPARISONS, Call, Var
+from reference.queries import ACCESSORS, COMPARISONS, STRING_TESTS, Call, Var
 from reference.rdf import RDF, XSD, Term, iri, literal
 
 
@@ -75,13 +75,29 @@ def test(name, term):
     return term.kind == {"ISBLANK": "blank", "ISLITERAL": "literal"}.get(name, "iri")
 
 
+def is_string(term):
+    """Whether a term is a string: a plain literal, or one with a tag (17.4.3.1.1)."""
+    return term.kind == "literal" and not term.datatype
+
+
 def access(name, term):
-    """The accessors STR, LANG and DATATYPE (17.4.2.5 to 17.4.2.7)."""
+    """The accessors STR, LANG and DATATYPE (17.4.2.5 to 17.4.2.7), and STRLEN, which counts code points (17.4.3.2)."""
+    if name == "STRLEN":
+        if not is_string(term):
+            raise ExpressionError
+        return literal(str(len(term.text)), datatype=XSD + "integer")
     if term.kind == "blank" or name != "STR" and term.kind != "literal":
         raise ExpressionError
     if name == "DATATYPE":
         return iri(RDF + "langString" if term.language else term.datatype or XSD + "string")
     return literal(term.text if name == "STR" else term.language)
+
+
+def test_strings(name, text, part):
+    """STRSTARTS, STRENDS and CONTAINS (17.4.3.6 to 17.4.3.8), of strings that are compatible: the second is plain, or both have one tag."""
+    if not (is_string(text) and is_string(part) and part.language in ("", text.language)):
+        raise ExpressionError
+    return {"STRSTARTS": text.text.startswith, "STRENDS": text.text.endswith, "CONTAINS": text.text.__contains__}[name](part.text)
 
 
 def three_valued(sign, truths):
@@ -109,7 +125,7 @@ def value_of(expression, solution):
             if name not in solution:
                 raise ExpressionError
             return solution[name]
-        case Call("STR" | "LANG" | "DATATYPE" as name, (argument,)):
+        case Call(name, (argument,)) if name in ACCESSORS:
             return access(name, value_of(argument, solution))
     truth = truth_of_call(expression, solution)
     if truth is None:
@@ -130,4 +146,6 @@ def truth_of_call(call, solution):
     terms = [value_of(argument, solution) for argument in call.arguments]
     if call.name == "SAMETERM":
         return terms[0] == terms[1]
+    if call.name in STRING_TESTS:
+        return test_strings(call.name, *terms)
     return compare(call.name, *terms) if call.name in COMPARISONS else test(call.name, terms[0])

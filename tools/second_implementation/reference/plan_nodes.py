@@ -10,7 +10,7 @@ KIND_NAMES = {"integer": "INT", "decimal": "DEC", "boolean": "BOOL", "string": "
               "hexBinary": "BIN", "time": "TIME", "term": "TERM"}
 
 # The functions that give terms, and those that give texts; COALESCE gives what its arguments are, every other one a boolean.
-TERM_FUNCTIONS = ("IRI", "BLANK", "LIT", "STR", "LANG", "DATATYPE")
+TERM_FUNCTIONS = ("IRI", "BLANK", "LIT", "STR", "LANG", "DATATYPE", "STRLEN")
 TEXT_FUNCTIONS = ("IRI_OF", "LEX", "SAFE", "CONCAT")
 
 

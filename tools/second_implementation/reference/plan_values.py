@@ -5,6 +5,7 @@ numbers have one form for one value, so a cell need not tell its kind.
 """
 from reference import expressions as sparql
 from reference.iris import iri_safe, is_absolute
+from reference.queries import STRING_TESTS
 from reference.rdf import blank, iri, literal
 
 COMPARISONS = {"EQ": "=", "NE": "!=", "LT": "<", "GT": ">", "LE": "<=", "GE": ">="}
@@ -39,6 +40,8 @@ def strict_value(name, arguments):
             return STRICT[name](*arguments)
         if name in COMPARISONS:
             return sparql.compare(COMPARISONS[name], *arguments)
+        if name in STRING_TESTS:
+            return sparql.test_strings(name, *arguments)
         return sparql.test(TESTS[name], *arguments) if name in TESTS else sparql.access(name, *arguments)
     except sparql.ExpressionError:
         return None

@@ -5,7 +5,8 @@ from dataclasses import dataclass
 # An expression is a variable, a term, or a call: `name` is `||`, `&&`, `!`, BOUND, SAMETERM or one of these, in capitals.
 COMPARISONS = ("=", "!=", "<", ">", "<=", ">=")
 TESTS = ("ISIRI", "ISURI", "ISBLANK", "ISLITERAL", "ISNUMERIC")
-ACCESSORS = ("STR", "LANG", "DATATYPE")
+ACCESSORS = ("STR", "LANG", "DATATYPE", "STRLEN")
+STRING_TESTS = ("STRSTARTS", "STRENDS", "CONTAINS")
 
 Var = namedtuple("Var", "name")
 Call = namedtuple("Call", "name arguments")

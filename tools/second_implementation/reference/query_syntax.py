@@ -3,8 +3,8 @@
 The limits of Q09 are not looked at: no random query comes near them.
 """
 from reference.datatypes import is_wide_number
-from reference.queries import (ACCESSORS, COMPARISONS, TESTS, Call, FilterElement, GraphElement, OptionalElement, Query,
-                               TriplesBlock, UnionElement, Var)
+from reference.queries import (ACCESSORS, COMPARISONS, STRING_TESTS, TESTS, Call, FilterElement, GraphElement, OptionalElement,
+                               Query, TriplesBlock, UnionElement, Var)
 from reference.rdf import RDF_TYPE, XSD, Term
 from reference.refusal import Refused, refuse_first
 from reference.tokens import Token, check_depth, cut_bytes
@@ -14,12 +14,13 @@ SIGNS = [
     ("SIGN", r"\^\^|!=|<=|>=|&&|\|\||[{}()\[\].;,=<>!*/|^+?-]"),
     ("VAR", f"[?$][{BASE_CHARS}_0-9][{BASE_CHARS}_0-9\u00b7\u0300-\u036f\u203f-\u2040]*"),
 ]
-WORDS = [*"BASE PREFIX SELECT DISTINCT REDUCED WHERE OPTIONAL GRAPH FILTER UNION BOUND SAMETERM".split(), *TESTS, *ACCESSORS]
+WORDS = [*"BASE PREFIX SELECT DISTINCT REDUCED WHERE OPTIONAL GRAPH FILTER UNION BOUND SAMETERM".split(), *TESTS, *ACCESSORS,
+         *STRING_TESTS]
 
 # The words and signs of Q07; some (SELECT, `*`, `(`) are outside the profile in other places than those where they are taken.
 OUTSIDE_WORDS = (
     "ASK CONSTRUCT DESCRIBE SELECT FROM SERVICE MINUS VALUES BIND AS ORDER LIMIT OFFSET GROUP HAVING COUNT SUM MIN MAX AVG "
-    "SAMPLE GROUP_CONCAT EXISTS NOT IN REGEX IF COALESCE LANGMATCHES STRLEN STRSTARTS STRENDS CONTAINS INSERT DELETE LOAD CLEAR"
+    "SAMPLE GROUP_CONCAT EXISTS NOT IN REGEX IF COALESCE LANGMATCHES INSERT DELETE LOAD CLEAR"
 ).split()
 OUTSIDE_SIGNS = "( / | ^ * + - ?".split()
 
@@ -209,10 +210,10 @@ class QueryCursor(TriplesCursor):
 
     def call(self):
         """Reads a BuiltInCall."""
-        name = self.expect("BOUND", "SAMETERM", *TESTS, *ACCESSORS).text
+        name = self.expect("BOUND", "SAMETERM", *TESTS, *ACCESSORS, *STRING_TESTS).text
         self.expect("(")
         arguments = [Var(self.take("VAR").text[1:]) if name == "BOUND" else self.expression()]
-        if name == "SAMETERM":
+        if name in ("SAMETERM", *STRING_TESTS):
             self.expect(",")
             arguments.append(self.expression())
         self.expect(")")

@@ -8,7 +8,7 @@ from reference import plan_nodes
 from reference.algebra import BasicGraphPattern, Filter, Graph, Join, LeftJoin, Union, algebra_of
 from reference.plan_nodes import (TRUE, Column, Distinct, Empty, Left, Project, Scan, Select, Unit, UnionAll, call, conjunction,
                                   disjunction, null, term_constant, text_constant)
-from reference.queries import ACCESSORS, Call, Var
+from reference.queries import ACCESSORS, STRING_TESTS, Call, Var
 from reference.rdf import DEFAULT_GRAPH, XSD, Term
 
 DEFAULT, EACH = "default", "each"
@@ -16,7 +16,7 @@ HIDDEN = Var(None)  # the name of the graph's column
 
 FUNCTIONS = {"=": "EQ", "!=": "NE", "<": "LT", ">": "GT", "<=": "LE", ">=": "GE", "ISIRI": "IS_IRI", "ISURI": "IS_IRI",
              "ISBLANK": "IS_BLANK", "ISLITERAL": "IS_LITERAL", "ISNUMERIC": "IS_NUMERIC", "SAMETERM": "SAME",
-             "STR": "STR", "LANG": "LANG", "DATATYPE": "DATATYPE"}
+             **{name: name for name in (*ACCESSORS, *STRING_TESTS)}}
 CONNECTIVES = {"||": "OR", "&&": "AND", "!": "NOT"}
 
 

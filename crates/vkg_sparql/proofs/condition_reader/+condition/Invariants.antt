@@ -33,8 +33,8 @@ decreases-read_bracketed l = l.at
 abbrev pub decreases-read_call : goal.decreases-read_call
 decreases-read_call l = l.at
 
-abbrev pub decreases-read_same : goal.decreases-read_same
-decreases-read_same l = l.at
+abbrev pub decreases-read_two : goal.decreases-read_two
+decreases-read_two l = l.at
 
 abbrev pub invariant-read_or_more-loop-step : goal.invariant-read_or_more-loop-step
 invariant-read_or_more-loop-step l = record {
