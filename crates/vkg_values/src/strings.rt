@@ -23,6 +23,7 @@ pub(crate) fn length_of(alloc: Global, term: &Term) -> Result<Option<Term>, Memo
     }
 }
 
+#[tactic(auto, using(std::proofs::lemmas::Str::chars_from_encodes))]
 fn character_count(text: &str) -> usize
     ensures { result ≡ length (chars text.now) }
 {
@@ -40,7 +41,7 @@ fn is_string(annotation: &Annotation) -> bool
 
 /// The literal of a count.
 #[tactic(auto, using(crate::proofs::Widths::fits))]
-fn count_of(alloc: Global, count: usize) -> Result<Option<Term>, Memory>
+pub(crate) fn count_of(alloc: Global, count: usize) -> Result<Option<Term>, Memory>
     ensures { IfOk result (λ o. o ≡ count_term count) }
 {
     let mut buffer = Buffer::new();
