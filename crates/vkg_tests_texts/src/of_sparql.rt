@@ -86,6 +86,19 @@ fn string_functions_have_their_arguments(rt: HostRuntime) -> Result<(), Fail> {
     Ok(())
 }
 
+// The word of a call is a node, as the sign behind it is: the last one here is the 1,025th.
+#[test]
+fn words_of_calls_are_counted(rt: HostRuntime) -> Result<(), Fail> {
+    let mut text = String::from_str(rt.alloc(), "SELECT * { FILTER(")?;
+    for _ in 0..511 {
+        text.push_str("STRLEN('')||")?;
+    }
+    text.push_str("STRLEN('')) }")?;
+    let found = shown(&rt, text.as_bytes())?;
+    assert_eq!(rt; found.as_str(), "Q09 6150");
+    Ok(())
+}
+
 // Each is told where it stands: as left out, or as a word that no query goes on with.
 #[test]
 fn words_to_come_are_refused(rt: HostRuntime) -> Result<(), Fail> {
