@@ -168,26 +168,66 @@ fn string(alloc: Global, text: &str, tag: &str) -> Result<Term, Memory> {
 }
 
 // Two strings, each with its tag, and the answers of STRSTARTS, STRENDS and CONTAINS.
-const STRINGS: [(&str, &str, &str, &str, Option<bool>, Option<bool>, Option<bool>); 8] = [
-    ("abc", "", "ab", "", Some(true), Some(false), Some(true)),
-    ("abc", "", "bc", "", Some(false), Some(true), Some(true)),
-    ("abc", "en", "", "", Some(true), Some(true), Some(true)),
-    ("a\u{fc}b", "", "\u{fc}", "", Some(false), Some(false), Some(true)),
-    ("a", "", "ab", "", Some(false), Some(false), Some(false)),
-    ("a", "en", "a", "en", Some(true), Some(true), Some(true)),
-    ("a", "en", "a", "fr", None, None, None),
-    ("a", "", "a", "en", None, None, None),
+const STRINGS: [((&str, &str), (&str, &str), [Option<bool>; 3]); 8] = [
+    (
+        ("abc", ""),
+        ("ab", ""),
+        [Some(true), Some(false), Some(true)],
+    ),
+    (
+        ("abc", ""),
+        ("bc", ""),
+        [Some(false), Some(true), Some(true)],
+    ),
+    (
+        ("abc", "en"),
+        ("", ""),
+        [Some(true), Some(true), Some(true)],
+    ),
+    (
+        ("a\u{fc}b", ""),
+        ("\u{fc}", ""),
+        [Some(false), Some(false), Some(true)],
+    ),
+    (
+        ("a", ""),
+        ("ab", ""),
+        [Some(false), Some(false), Some(false)],
+    ),
+    (
+        ("a", "en"),
+        ("a", "en"),
+        [Some(true), Some(true), Some(true)],
+    ),
+    (("a", "en"), ("a", "fr"), [None, None, None]),
+    (("a", ""), ("a", "en"), [None, None, None]),
 ];
+
+// What is answered of two strings, each with its tag.
+fn of_strings(
+    alloc: Global,
+    compare: Compare,
+    a: (&str, &str),
+    b: (&str, &str),
+) -> Result<Option<bool>, Memory> {
+    let a = string(alloc, a.0, a.1)?;
+    let b = string(alloc, b.0, b.1)?;
+    compare_terms(alloc, compare, &a, &b)
+}
 
 // SPARQL 1.1 Query, 17.4.3.6 to 17.4.3.8.
 #[test]
 fn strings_are_parts_of_strings(rt: HostRuntime) -> Result<(), Fail> {
-    for (text, tag, part, other, starts, ends, contains) in STRINGS {
-        let text = string(rt.alloc(), text, tag)?;
-        let part = string(rt.alloc(), part, other)?;
-        assert_eq!(rt; compare_terms(rt.alloc(), Compare::Starts, &text, &part)?, starts);
-        assert_eq!(rt; compare_terms(rt.alloc(), Compare::Ends, &text, &part)?, ends);
-        assert_eq!(rt; compare_terms(rt.alloc(), Compare::Contains, &text, &part)?, contains);
+    for (text, part, [starts, ends, contains]) in STRINGS {
+        assert_eq!(rt;
+            of_strings(rt.alloc(), Compare::Starts, text, part)?,
+            starts
+        );
+        assert_eq!(rt; of_strings(rt.alloc(), Compare::Ends, text, part)?, ends);
+        assert_eq!(rt;
+            of_strings(rt.alloc(), Compare::Contains, text, part)?,
+            contains
+        );
     }
     Ok(())
 }
