@@ -72,6 +72,16 @@ fn graphs_have_their_own_solutions(rt: HostRuntime) -> Result<(), Fail> {
 }
 
 #[test]
+fn texts_are_filtered_by_their_characters(rt: HostRuntime) -> Result<(), Fail> {
+    let text = answer_to(
+        rt.alloc(),
+        "SELECT ?n { ?x <name> ?n FILTER(STRLEN(?n) = 2 || CONTAINS(?n, \"x\"@en)) }",
+    )?;
+    assert_eq!(rt; text.as_str(), "?n\n\"Bo\"\n");
+    Ok(())
+}
+
+#[test]
 fn each_is_kept_once(rt: HostRuntime) -> Result<(), Fail> {
     let text = answer_to(
         rt.alloc(),
