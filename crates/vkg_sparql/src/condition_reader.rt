@@ -1,6 +1,6 @@
 ghost use Rattle.std.specs.Prelude.{◌≡◌, ◌<◌, ◌++◌, IfOk, OnOk};
 ghost use Rattle.vkg_grammar.specs.Forest.{tree, node_count};
-ghost use Rattle.vkg_sparql.specs.Meanings.{operand_of, meaning_at};
+ghost use Rattle.vkg_sparql.specs.Meanings.{first_token, operand_of, meaning_at};
 ghost use Rattle.vkg_sparql.specs.Conditions.{or_joined, and_joined, negated, no_condition, bound_value, operand_value, or_value, or_more, and_value, and_more, rel_value, rel_more, unary_value, primary_value, bracketed, call_value, two_value, filter_value};
 
 use crate::condition::Condition;
@@ -269,10 +269,7 @@ fn read_call(
         Node::First(t) => Ok(read_bound(meanings, forest, t)),
         Node::Second(t) => match forest.node(t) {
             Node::First(t) => match forest.node(t) {
-                Node::Pair(word, t) => {
-                    let token = first_token(forest, word);
-                    read_two(alloc, meanings, forest, token, t)
-                }
+                Node::Pair(word, t) => read_two(alloc, meanings, forest, word, t),
                 _ => no_condition(),
             },
             Node::Second(t) => match forest.node(t) {
@@ -298,8 +295,9 @@ fn read_two(
     word: usize,
     at: usize,
 ) -> Result<Condition, Memory>
-    requires { at < node_count forest.now }
-    ensures { IfOk result (λ c. c ≡ two_value meanings.now word (tree forest.now at)) }
+    requires word { word < node_count forest.now }
+    requires at { at < node_count forest.now }
+    ensures { IfOk result (λ c. c ≡ two_value meanings.now (first_token (tree forest.now word)) (tree forest.now at)) }
 {
     let Node::Pair(_, rest) = forest.node(at) else {
         return no_condition();
@@ -315,7 +313,8 @@ fn read_two(
     };
     let c = Box::new(alloc, read_or(alloc, meanings, forest, a)?)?;
     let d = Box::new(alloc, read_or(alloc, meanings, forest, b)?)?;
-    Ok(applied_to_two(meanings, word, c, d))
+    let token = first_token(forest, word);
+    Ok(applied_to_two(meanings, token, c, d))
 }
 
 /// The expression of a filter: filter = bracketed | call.

@@ -1,4 +1,4 @@
-use Rattle.std.proofs.Common.{◌∙◌, refl, sym, arith}
+use Rattle.std.proofs.Common.{◌∙◌, refl, arith}
 use Rattle.vkg_sparql.specs.Conditions.{and_value, or_more, rel_value, and_more}
 use Rattle.vkg_sparql.proofs.Steps.{chain_step}
 use Rattle.vkg_sparql.proofs.condition_reader.+condition.Goals as goal
@@ -21,7 +21,7 @@ pub read_bracketed-returns : goal.read_bracketed-returns
 read_bracketed-returns t c = rw (c.in-Pair.ensures.made, c.in-Pair-node.ensures.made) c.read_or.ensures
 
 pub read_call-returns-in-Pair : goal.read_call-returns-in-Pair
-read_call-returns-in-Pair t c = rw (c.in-Second.ensures.made, c.in-First-node.ensures.made, c.in-Pair.ensures.made, sym c.first_token-token.ensures) c.read_two.ensures
+read_call-returns-in-Pair t c = rw (c.in-Second.ensures.made, c.in-First-node.ensures.made, c.in-Pair.ensures.made) c.read_two.ensures
 
 pub read_call-returns-in_ok-new-in-Pair-node : goal.read_call-returns-in_ok-new-in-Pair-node
 read_call-returns-in_ok-new-in-Pair-node t c = rw (c.in-Second.ensures.made, c.in-Second-node.ensures.made, c.in-Pair-node.ensures.made, c.applied.ensures, c.in_ok-new-in-Pair-node.ensures, c.in_ok-c-in-Pair-node.ensures, c.first_token-token.ensures)
@@ -33,4 +33,4 @@ pub read_rel_more-returns : goal.read_rel_more-returns
 read_rel_more-returns t c = rw (c.in-First.ensures.made, c.in-Pair.ensures.made, c.in_ok-left.ensures, c.in_ok-right.ensures, c.in_ok-read_unary.ensures, c.compare_of-compare.ensures, c.first_token.ensures)
 
 pub read_two-returns : goal.read_two-returns
-read_two-returns t c = rw (c.in-Pair.ensures.made, c.in-Pair-node.ensures.made, c.in-Pair-node-2.ensures.made, c.in-Pair-node-3.ensures.made, c.in_ok-c.ensures, c.in_ok-read_or.ensures, c.applied_to_two.ensures, c.in_ok-d.ensures, c.in_ok-read_or-2.ensures)
+read_two-returns t c = rw (c.in-Pair.ensures.made, c.in-Pair-node.ensures.made, c.in-Pair-node-2.ensures.made, c.in-Pair-node-3.ensures.made, c.applied_to_two.ensures, c.first_token-token.ensures, c.in_ok-c.ensures, c.in_ok-read_or.ensures, c.in_ok-d.ensures, c.in_ok-read_or-2.ensures)
