@@ -1,5 +1,5 @@
 -- What a list in order gives of each line once, and that it gives the same without some elements.
-use Rattle.std.proofs.Common.{◌≡◌, ℕ, ◌+◌, ◌≤◌, Bool, true, false, not, cond, List, [], ◌∷◌, ◌++◌, map, length, take, refl, sym, ap, subst, ◌∙◌, arith, Ordering, Less, Equal, Greater, is_lt, length-append}
+use Rattle.std.proofs.Common.{◌≡◌, ℕ, ◌+◌, ◌≤◌, inl, inr, Bool, true, false, not, cond, List, [], ◌∷◌, ◌++◌, map, length, take, refl, sym, ap, subst, ◌∙◌, arith, Ordering, Less, Equal, Greater, is_lt, length-append}
 use Rattle.std.specs.Ordering.{ordering_reverse}
 use Rattle.std.specs.Cmp.{IsTotalOrder}
 use Rattle.std.specs.List.{AllByRecursion, Contains, filter, list_any}
@@ -76,24 +76,24 @@ module _ {A : Type 0} {cmp : A → A → Ordering} (o : IsTotalOrder cmp) (line 
   -- by lines, the element stands between those up to it and those above it
   shape : (x : A) (ys : List A) → Rises cmp ys → map line (put_in cmp x ys) ≡ map line (filter (is_upto cmp x) ys ++ x ∷ filter (is_above x) ys)
   shape x [] h = refl
-  shape x (y ∷ ys) h = by (cmp y x) (cmp x y) (o.antisymm x y) refl refl
+  shape x (y ∷ ys) h = by (shape x ys h.1) (cmp y x) (cmp x y) (o.antisymm x y) refl refl
     where
-      by : (r s : Ordering) → s ≡ ordering_reverse r → cmp y x ≡ r → cmp x y ≡ s → map line (put_in cmp x (y ∷ ys)) ≡ map line (filter (is_upto cmp x) (y ∷ ys) ++ x ∷ filter (is_above x) (y ∷ ys))
-      by Less s t p q = rw (p, q ∙ t) (ap (λ l. line y ∷ l) (shape x ys h.1))
-      by Equal s t p q =
+      by : map line (put_in cmp x ys) ≡ map line (filter (is_upto cmp x) ys ++ x ∷ filter (is_above x) ys) → (r s : Ordering) → s ≡ ordering_reverse r → cmp y x ≡ r → cmp x y ≡ s → map line (put_in cmp x (y ∷ ys)) ≡ map line (filter (is_upto cmp x) (y ∷ ys) ++ x ∷ filter (is_above x) (y ∷ ys))
+      by rest Less s t p q = rw (p, q ∙ t) (ap (λ l. line y ∷ l) rest)
+      by rest Equal s t p q =
           let first : put_in cmp x ys ≡ x ∷ ys = put-first o x ys (recursion_weaken (λ z. is_lt (cmp z y) ≡ false) (λ z. is_lt (cmp z x) ≡ false) ys (λ z k. ap is_lt (sym (alike_right o y x z p)) ∙ k) h.0) in
-          rw (p, q ∙ t) ((λ i. alike x y (q ∙ t) i ∷ alike y x p i ∷ map line ys) ∙ ap (λ l. line y ∷ l) (sym (ap (map line) first) ∙ shape x ys h.1))
-      by Greater s t p q =
+          rw (p, q ∙ t) ((λ i. alike x y (q ∙ t) i ∷ alike y x p i ∷ map line ys) ∙ ap (λ l. line y ∷ l) (sym (ap (map line) first) ∙ rest))
+      by rest Greater s t p q =
           let e = all_above x ys (later_above x y ys (ap is_lt (q ∙ t)) h.0) in
           rw (p, q ∙ t, e.0, e.1) refl
 
   split : (x : A) (ys : List A) → Rises cmp ys → filter (is_upto cmp x) ys ++ filter (is_above x) ys ≡ ys
   split x [] h = refl
-  split x (y ∷ ys) h = by (is_lt (cmp x y)) refl
+  split x (y ∷ ys) h = by (split x ys h.1) (is_lt (cmp x y)) refl
     where
-      by : (b : Bool) → is_lt (cmp x y) ≡ b → filter (is_upto cmp x) (y ∷ ys) ++ filter (is_above x) (y ∷ ys) ≡ y ∷ ys
-      by true e = let f = all_above x ys (later_above x y ys e h.0) in rw (e, f.0, f.1) refl
-      by false e = rw e (ap (λ l. y ∷ l) (split x ys h.1))
+      by : filter (is_upto cmp x) ys ++ filter (is_above x) ys ≡ ys → (b : Bool) → is_lt (cmp x y) ≡ b → filter (is_upto cmp x) (y ∷ ys) ++ filter (is_above x) (y ∷ ys) ≡ y ∷ ys
+      by rest true e = let f = all_above x ys (later_above x y ys e h.0) in rw (e, f.0, f.1) refl
+      by rest false e = rw e (ap (λ l. y ∷ l) rest)
 
   lines_of : List A → List (List ℕ)
   lines_of xs = map line (ascending_by cmp xs)
@@ -128,12 +128,12 @@ module _ {A : Type 0} {cmp : A → A → Ordering} (o : IsTotalOrder cmp) (line 
     room-drop b n gs rs p h long =
         let upto = is_upto cmp x in
         let bag : IsPermutation front (gs ++ filter upto rs) =
-            subst (IsPermutation front) (filter-append upto gs rs ∙ ap (λ l. l ++ filter upto rs) (filter_keeps upto gs (λ g c. ap not (h g c))))
-            (bag_filter upto (IsPermutation-trans _ _ _ (IsPermutation-sym _ _ (ascending-bag o xs)) p)) in
+        subst (IsPermutation front) (filter-append upto gs rs ∙ ap (λ l. l ++ filter upto rs) (filter_keeps upto gs (λ g c. ap not (h g c))))
+        (bag_filter upto (IsPermutation-trans _ _ _ (IsPermutation-sym _ _ (ascending-bag o xs)) p)) in
         let same_length = once-bag b (map line front) (map line (gs ++ filter upto rs)) (IsPermutation-map line front (gs ++ filter upto rs) bag) in
         let head = once-front b (map line gs) (map line (filter upto rs)) in
         let fits : n ≤ length (once b (map line front)) =
-            omega (arith, same_length, ap (λ l. length (once b l)) (map-append line gs (filter upto rs)), ap length head.1, length-append (once b (map line gs)) head.0, long) in
+        omega (arith, same_length, ap (λ l. length (once b l)) (map-append line gs (filter upto rs)), ap length head.1, length-append (once b (map line gs)) head.0, long) in
         let more = once-front b (map line front) (line x ∷ map line back) in
         let less = once-front b (map line front) (map line back) in
         ap (λ l. take n (once b l)) with_one ∙ ap (take n) more.1 ∙ take-append-le n (once b (map line front)) more.0 fits

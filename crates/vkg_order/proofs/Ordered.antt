@@ -1,15 +1,17 @@
 -- Lists in the order of a total preorder, whose elements may tie.
-use Rattle.std.proofs.Common.{◌≡◌, ℕ, zero, suc, ◌+◌, ◌<◌, ◌≤◌, Bool, true, false, not, cond, ⊎_elim, List, [], ◌∷◌, ◌++◌, map, length, get_or, refl, sym, ap, subst, ◌∙◌, arith, Ordering, Less, Equal, Greater, is_lt}
+use Rattle.std.proofs.Common.{◌≡◌, ℕ, zero, suc, ◌+◌, ◌<◌, ◌≤◌, inl, inr, Bool, true, false, not, cond, ⊎_elim, List, [], ◌∷◌, ◌++◌, map, length, get_or, refl, sym, ap, subst, ◌∙◌, arith, Ordering, Less, Equal, Greater, is_lt}
 use Rattle.std.specs.Prelude.{⊤}
 use Rattle.std.specs.Ordering.{ordering_reverse}
 use Rattle.std.specs.Cmp.{IsTotalOrder}
 use Rattle.std.specs.List.{AllByRecursion, Contains, filter}
-use Rattle.std.specs.List.Sorted.{IsPermutation, IsSorted}
+use Rattle.std.specs.List.Sorted.{IsPartitionedBy, IsPermutation, IsSorted}
 use Rattle.std.proofs.lemmas.Cmp.{alike_right, tied_back, tied_itself}
 use Rattle.std.proofs.lemmas.List.Sorted.{IsPermutation-cons, IsPermutation-refl, IsPermutation-trans, ranks_by, sorted_far}
+use Rattle.std.proofs.lemmas.Bool.{cases_order}
 use Rattle.vkg_lists.specs.Ascending.{ascending_by, put_in}
 use Rattle.vkg_lists.proofs.Bags.{IsPermutation-induction, bag_exchange}
 use Rattle.vkg_lists.proofs.Each.{recursion_weaken}
+use Rattle.vkg_lists.proofs.Members.{recursion_at}
 use Rattle.vkg_order.specs.Kept.{Rises}
 
 module _ {A : Type 0} (cmp : A → A → Ordering) where
@@ -75,11 +77,11 @@ module _ {A : Type 0} {cmp : A → A → Ordering} (o : IsTotalOrder cmp) where
   Tied-put x [] [] t = (tied_itself o x, tt)
   Tied-put x [] (y ∷ ys) t = absurd t
   Tied-put x (y ∷ ys) [] t = absurd t
-  Tied-put x (y ∷ ys) (z ∷ zs) t = rw (o.congr y z x t.0) (by (is_lt (cmp z x)))
+  Tied-put x (y ∷ ys) (z ∷ zs) t = rw (o.congr y z x t.0) (by (Tied-put x ys zs t.1) (is_lt (cmp z x)))
     where
-      by : (b : Bool) → Tied cmp (cond b (y ∷ put_in cmp x ys) (x ∷ y ∷ ys)) (cond b (z ∷ put_in cmp x zs) (x ∷ z ∷ zs))
-      by true = (t.0, Tied-put x ys zs t.1)
-      by false = (tied_itself o x, t)
+      by : Tied cmp (put_in cmp x ys) (put_in cmp x zs) → (b : Bool) → Tied cmp (cond b (y ∷ put_in cmp x ys) (x ∷ y ∷ ys)) (cond b (z ∷ put_in cmp x zs) (x ∷ z ∷ zs))
+      by rest true = (t.0, rest)
+      by rest false = (tied_itself o x, t)
 
   same_tied : (xs ys zs : List A) → xs ≡ zs → ys ≡ zs → Tied cmp xs ys
   same_tied xs ys zs e f = subst (λ l. Tied cmp l ys) (sym e) (subst (λ l. Tied cmp zs l) (sym f) (Tied-refl zs))
@@ -97,20 +99,20 @@ module _ {A : Type 0} {cmp : A → A → Ordering} (o : IsTotalOrder cmp) where
   -- two elements are put in, in either order
   pub put_put : (x y : A) (zs : List A) → Tied cmp (put_in cmp x (put_in cmp y zs)) (put_in cmp y (put_in cmp x zs))
   put_put x y [] = both_front x y [] refl refl
-  put_put x y (z ∷ zs) = by (is_lt (cmp z x)) (is_lt (cmp z y)) refl refl
+  put_put x y (z ∷ zs) = by (put_put x y zs) (is_lt (cmp z x)) (is_lt (cmp z y)) refl refl
     where
-      by : (a b : Bool) → is_lt (cmp z x) ≡ a → is_lt (cmp z y) ≡ b → Tied cmp (put_in cmp x (put_in cmp y (z ∷ zs))) (put_in cmp y (put_in cmp x (z ∷ zs)))
-      by true true p q =
+      by : Tied cmp (put_in cmp x (put_in cmp y zs)) (put_in cmp y (put_in cmp x zs)) → (a b : Bool) → is_lt (cmp z x) ≡ a → is_lt (cmp z y) ≡ b → Tied cmp (put_in cmp x (put_in cmp y (z ∷ zs))) (put_in cmp y (put_in cmp x (z ∷ zs)))
+      by rest true true p q =
           subst (λ l. Tied cmp l (put_in cmp y (put_in cmp x (z ∷ zs)))) (sym (ap (put_in cmp x) (put_below y z zs q) ∙ put_below x z (put_in cmp y zs) p))
           (subst (λ l. Tied cmp (z ∷ put_in cmp x (put_in cmp y zs)) l) (sym (ap (put_in cmp y) (put_below x z zs p) ∙ put_below y z (put_in cmp x zs) q))
-          (tied_itself o z, put_put x y zs))
-      by true false p q = same_tied _ _ (y ∷ z ∷ put_in cmp x zs)
+          (tied_itself o z, rest))
+      by rest true false p q = same_tied _ _ (y ∷ z ∷ put_in cmp x zs)
           (ap (put_in cmp x) (put_here y z zs q) ∙ put_below x y (z ∷ zs) (below x y z q p) ∙ ap (λ l. y ∷ l) (put_below x z zs p))
           (ap (put_in cmp y) (put_below x z zs p) ∙ put_here y z (put_in cmp x zs) q)
-      by false true p q = same_tied _ _ (x ∷ z ∷ put_in cmp y zs)
+      by rest false true p q = same_tied _ _ (x ∷ z ∷ put_in cmp y zs)
           (ap (put_in cmp x) (put_below y z zs q) ∙ put_here x z (put_in cmp y zs) p)
           (ap (put_in cmp y) (put_here x z zs p) ∙ put_below y x (z ∷ zs) (below y x z p q) ∙ ap (λ l. x ∷ l) (put_below y z zs q))
-      by false false p q =
+      by rest false false p q =
           subst (λ l. Tied cmp l (put_in cmp y (put_in cmp x (z ∷ zs)))) (ap (put_in cmp x) (sym (put_here y z zs q)))
           (subst (λ l. Tied cmp (put_in cmp x (y ∷ z ∷ zs)) l) (ap (put_in cmp y) (sym (put_here x z zs p)))
           (both_front x y (z ∷ zs) (put_here x z zs p) (put_here y z zs q)))
@@ -143,11 +145,11 @@ module _ {A : Type 0} {cmp : A → A → Ordering} (o : IsTotalOrder cmp) where
 
   pub put-rises : (x : A) (ys : List A) → Rises cmp ys → Rises cmp (put_in cmp x ys)
   put-rises x [] h = (tt, tt)
-  put-rises x (y ∷ ys) h = by (is_lt (cmp y x)) refl
+  put-rises x (y ∷ ys) h = by (put-rises x ys h.1) (is_lt (cmp y x)) refl
     where
-      by : (b : Bool) → is_lt (cmp y x) ≡ b → Rises cmp (put_in cmp x (y ∷ ys))
-      by true e = rw e (all-put (λ z. is_lt (cmp z y) ≡ false) x ys (one_way y x e) h.0, put-rises x ys h.1)
-      by false e = rw e ((e, recursion_weaken (λ z. is_lt (cmp z y) ≡ false) (λ z. is_lt (cmp z x) ≡ false) ys (λ z l. up x y z e l) h.0), h)
+      by : Rises cmp (put_in cmp x ys) → (b : Bool) → is_lt (cmp y x) ≡ b → Rises cmp (put_in cmp x (y ∷ ys))
+      by rest true e = rw e (all-put (λ z. is_lt (cmp z y) ≡ false) x ys (one_way y x e) h.0, rest)
+      by rest false e = rw e ((e, recursion_weaken (λ z. is_lt (cmp z y) ≡ false) (λ z. is_lt (cmp z x) ≡ false) ys (λ z l. up x y z e l) h.0), h)
 
   pub ascending-rises : (xs : List A) → Rises cmp (ascending_by cmp xs)
   ascending-rises [] = tt
@@ -179,3 +181,18 @@ module _ {A : Type 0} {cmp : A → A → Ordering} (o : IsTotalOrder cmp) where
   pub rises-from_sorted : (xs : List A) → IsSorted cmp xs → Rises cmp xs
   rises-from_sorted [] s = tt
   rises-from_sorted (x ∷ xs) s = (heads x xs s, rises-from_sorted xs (IsSorted-tail x xs s))
+
+  -- an element is not below one that stands before it
+  rises-far : (xs : List A) → Rises cmp xs → (i j : ℕ) (d : A) → i < j → j < length xs → is_lt (cmp (get_or xs j d) (get_or xs i d)) ≡ false
+  rises-far [] h i j d l n = absurd (omega arith)
+  rises-far (x ∷ xs) h i zero d l n = absurd (omega arith)
+  rises-far (x ∷ xs) h zero (suc j) d l n = recursion_at (λ y. is_lt (cmp y x) ≡ false) xs j d h.0 (omega arith)
+  rises-far (x ∷ xs) h (suc i) (suc j) d l n = rises-far xs h.1 i j d (omega arith) (omega arith)
+
+  -- what is below an element stands before what is not
+  pub rises-partitioned : (x : A) (xs : List A) → Rises cmp xs → IsPartitionedBy (λ y. is_lt (cmp y x)) xs
+  rises-partitioned x xs h i j d l n e = elim (cases_order i j) [
+    | inl same ↦ ap (λ k. is_lt (cmp (get_or xs k d) x)) same ∙ e
+    | inr (inl less) ↦ below x (get_or xs i d) (get_or xs j d) (rises-far xs h i j d less n) e
+    | inr (inr more) ↦ absurd (omega arith)
+  ]

@@ -1,5 +1,5 @@
 -- What a keeper is seen as, and what it may leave out.
-use Rattle.std.specs.Prelude.{◌≡◌, ℕ, ◌+◌, ◌-◌, ⊤, Bool, true, false, List, [], ◌∷◌, ◌++◌, map, length, Option, Some, None, nat_lt, if◌then◌else◌}
+use Rattle.std.specs.Prelude.{◌≡◌, ℕ, ◌+◌, ⊤, Bool, true, false, List, [], ◌∷◌, ◌++◌, map, length, Option, Some, None, nat_le, nat_lt, if◌then◌else◌}
 use Rattle.std.specs.Ordering.{is_lt, ordering_then}
 use Rattle.std.specs.declared.cmp.Ordering.{Ordering}
 use Rattle.std.specs.List.{AllByRecursion, IsDistinct}
@@ -37,6 +37,14 @@ has_room slice count = below slice.offset count slice.limit
     below offset count None = true
     below offset count (Some n) = nat_lt count (offset + n)
 
+-- so many entries can have lines in the slice
+abbrev pub is_within : Slice → ℕ → Bool
+is_within slice count = upto slice.offset count slice.limit
+  where
+    upto : ℕ → ℕ → Option ℕ → Bool
+    upto offset count None = true
+    upto offset count (Some n) = nat_le count (offset + n)
+
 -- the entries stand in the asked order, and if each line is asked once, there is one entry of each line
 pub record IsReady (m : Modifiers) (held : List Entry) : Type 0 where
   pub rises : Rises (entry_cmp m.directions) held
@@ -65,6 +73,6 @@ abbrev pub once_behind : Bool → List ℕ → List Entry → List Entry
 once_behind true line behind = without_line line behind
 once_behind false line behind = behind
 
--- without the last, if there was no room for it
+-- without the last, if the slice can't reach it
 abbrev pub within_slice : Slice → List Entry → List Entry
-within_slice slice held = if has_room slice (length held - 1) then held else without_last held
+within_slice slice held = if is_within slice (length held) then held else without_last held

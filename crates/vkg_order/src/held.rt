@@ -1,5 +1,5 @@
 // The entries that a keeper holds.
-ghost use Rattle.std.specs.Prelude.{◌≡◌, ◌+◌, ◌<◌, ◌≤◌, ◌∷◌, ◌++◌, [], List, length, map, OnOk, OnErr, IsPermutation, IsSorted, take, drop, MatchOption, option_map};
+ghost use Rattle.std.specs.Prelude.{◌≡◌, ◌+◌, ◌<◌, ◌≤◌, ◌∷◌, ◌++◌, [], true, false, List, length, map, OnOk, OnErr, IsPermutation, IsSorted, take, drop, MatchOption, option_map};
 ghost use Rattle.std.specs.List.{dedup, list_any, position};
 ghost use Rattle.std.specs.List.Sorted.{IsPartitionPoint};
 ghost use Rattle.std.specs.Ordering.{is_lt};
@@ -8,7 +8,7 @@ ghost use Rattle.vkg_order.specs.Entries.{Entry, entry_cmp};
 ghost use Rattle.vkg_order.specs.Kept.{IsReady, Rises, StandFor, have_one_line, line_first_cmp, once_behind, within_slice, without_line};
 ghost use Rattle.vkg_order.specs.Listed.{IsWithin};
 
-use crate::modifiers::{Direction, Modifiers};
+use crate::modifiers::{Direction, Modifiers, Slice};
 use crate::offer::Offer;
 use std::mem;
 use vkg_base::Memory;
@@ -45,13 +45,18 @@ fn sort_by_line(directions: &[Direction], held: &mut Vec<Offer>)
 
 /// Keeps the first of entries of one line that stand together.
 fn drop_repeats(held: &mut Vec<Offer>)
-    ensures { held.new.items ≡ dedup have_one_line held.old.items }
+    ensures value { held.new.items ≡ dedup have_one_line held.old.items }
+    ensures fewer { length held.new.items ≤ length held.old.items }
 {
     held.dedup_by(|a, b| a.line() == b.line());
 }
 
 /// Puts an entry in its place among entries in order, and drops one that can't have a line any more.
-pub(crate) fn enter(modifiers: &Modifiers, held: &mut Vec<Offer>, offer: Offer) -> Result<(), Memory>
+pub(crate) fn enter(
+    modifiers: &Modifiers,
+    held: &mut Vec<Offer>,
+    offer: Offer,
+) -> Result<(), Memory>
     requires ready { IsReady modifiers.now held.old.items }
     requires within { IsWithin modifiers.now.slice (length held.old.items) }
     ensures ok { OnOk result (StandFor modifiers.now held.new.items (held.old.items ++ offer ∷ [])) }
@@ -78,11 +83,25 @@ fn drop_excess(modifiers: &Modifiers, held: &mut Vec<Offer>, place: usize)
     requires { place < length held.old.items }
     ensures { (front : List Entry) (e : Entry) (rest : List Entry) → held.old.items ≡ front ++ e ∷ rest → length front ≡ place → held.new.items ≡ within_slice modifiers.now.slice (front ++ e ∷ once_behind modifiers.now.distinct e.line rest) }
 {
-    if modifiers.distinct {
-        drop_repeat(held, place);
+    drop_repeat_if(modifiers.distinct, held, place);
+    drop_last(modifiers.slice, held);
+}
+
+/// Drops the last entry, if the slice can't reach its line.
+fn drop_last(slice: Slice, held: &mut Vec<Offer>)
+    ensures { held.new.items ≡ within_slice slice held.old.items }
+{
+    if !slice.is_within(held.len()) {
+        held.truncate(held.len() - 1);
     }
-    if !modifiers.slice.has_room(held.len() - 1) {
-        mem::drop(held.pop());
+}
+
+fn drop_repeat_if(distinct: bool, held: &mut Vec<Offer>, place: usize)
+    requires { place < length held.old.items }
+    ensures { (front : List Entry) (e : Entry) (rest : List Entry) → held.old.items ≡ front ++ e ∷ rest → length front ≡ place → held.new.items ≡ front ++ e ∷ once_behind distinct e.line rest }
+{
+    if distinct {
+        drop_repeat(held, place);
     }
 }
 
@@ -106,7 +125,7 @@ fn find_line(held: &[Offer], line: &str) -> Option<usize>
 /// How many entries are below the offer.
 fn place_of(directions: &[Direction], held: &[Offer], offer: &Offer) -> usize
     requires { Rises (entry_cmp directions.now) held.now }
-    ensures { IsPartitionPoint (λ e. is_lt (entry_cmp directions.now e offer.now) ≡ true) (λ e. is_lt (entry_cmp directions.now e offer.now) ≡ false) held.now result }
+    ensures parts { IsPartitionPoint (λ e. is_lt (entry_cmp directions.now e offer.now) ≡ true) (λ e. is_lt (entry_cmp directions.now e offer.now) ≡ false) held.now result }
     ensures within { result ≤ length held.now }
 {
     held.partition_point(|other| other.order(offer, directions).is_lt())

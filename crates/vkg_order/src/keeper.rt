@@ -1,7 +1,7 @@
 ghost use Rattle.std.specs.Prelude.{◌≡◌, ◌∷◌, ◌++◌, [], IfOk, OnOk, OnErr, length, map, string_bytes};
 ghost use Rattle.vkg_order.specs.Entries.{entry_of};
 ghost use Rattle.vkg_order.specs.Kept.{StandFor};
-ghost use Rattle.vkg_order.specs.Listed.{IsWithin, listed, sliced};
+ghost use Rattle.vkg_order.specs.Listed.{IsWithin, at_most, listed, sliced};
 
 use crate::held::{enter, settle};
 use crate::modifiers::{Modifiers, Slice};
@@ -92,10 +92,17 @@ fn sliced_lines(alloc: Global, slice: Slice, held: Vec<Offer>) -> Result<Lines, 
     let mut held = held;
     let start = held.len().min(slice.offset as usize);
     let mut asked = held.split_off(start)?;
-    if let Some(limit) = slice.limit {
-        asked.truncate(limit as usize);
-    }
+    cut(slice.limit, &mut asked);
     lines_of(alloc, asked)
+}
+
+/// Keeps as many entries as the limit is, if there is one.
+fn cut(limit: Option<u32>, held: &mut Vec<Offer>)
+    ensures { map (λ e. e.line) held.new.items ≡ at_most limit (map (λ e. e.line) held.old.items) }
+{
+    if let Some(limit) = limit {
+        held.truncate(limit as usize);
+    }
 }
 
 fn lines_of(alloc: Global, held: Vec<Offer>) -> Result<Lines, Memory>

@@ -1,5 +1,5 @@
 ghost use Rattle.std.specs.Prelude.{◌≡◌};
-ghost use Rattle.vkg_order.specs.Kept.{has_room as has_room_of};
+ghost use Rattle.vkg_order.specs.Kept.{has_room as has_room_of, is_within as is_within_of};
 
 use vkg_base::Items;
 
@@ -25,6 +25,16 @@ impl Slice {
         match self.limit {
             None => true,
             Some(limit) => (count as u64) < self.offset as u64 + limit as u64,
+        }
+    }
+
+    /// Whether so many entries can have lines in the slice.
+    pub(crate) fn is_within(&self, count: usize) -> bool
+        ensures { result ≡ is_within_of self.now count }
+    {
+        match self.limit {
+            None => true,
+            Some(limit) => count as u64 <= self.offset as u64 + limit as u64,
         }
     }
 }

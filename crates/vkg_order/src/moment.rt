@@ -3,7 +3,7 @@ ghost use Rattle.std.specs.Prelude.{◌≡◌, ◌<◌, ◌≤◌, ◌+◌, ◌+
 ghost use Rattle.std.specs.Bool.{then_some};
 ghost use Rattle.std.specs.Char.{is_ascii_digit};
 ghost use Rattle.std.specs.List.{list_all};
-ghost use Rattle.vkg_cells.specs.Moment.{is_clock as is_clock_text, is_date, two_digits_at};
+ghost use Rattle.vkg_cells.specs.Moment.{cut, form_at, is_clock as is_clock_text, is_date, two_digits_at};
 ghost use Rattle.vkg_cells.specs.Number.{after_point, is_digits as is_digits_text, without_trailing_zeros};
 ghost use Rattle.vkg_values.specs.Known.{moment_of};
 ghost use Rattle.vkg_order.specs.Marks.{EndsInFraction};
@@ -15,11 +15,40 @@ use vkg_terms::vocabulary::XSD_DATE;
 pub(crate) fn moment_form(text: &str) -> Option<&[u8]>
     ensures { option_map (λ form. Cell.Stamp form.now) result ≡ moment_of text.now }
 {
-    let (day, rest) = text.split_once('T')?;
-    match rest.split_once('.') {
-        None => whole_form(text, is_day(day) && is_clock(rest.as_bytes())),
-        Some((clock, fraction)) => fraction_form(text, fraction, is_day(day) && is_clock(clock.as_bytes())),
+    let Some((day, clock)) = around_t(text) else {
+        return None;
+    };
+    form_of_parts(text, day, clock)
+}
+
+/// What stands round the `T`.
+fn around_t(text: &str) -> Option<(&str, &str)>
+    ensures { option_map (λ p. (p.0.now, p.1.now)) result ≡ cut 84 text.now }
+{
+    text.split_once('T')
+}
+
+/// What stands round the point.
+fn around_point(text: &str) -> Option<(&str, &str)>
+    ensures { option_map (λ p. (p.0.now, p.1.now)) result ≡ cut 46 text.now }
+{
+    text.split_once('.')
+}
+
+fn form_of_parts<'a>(text: &'a str, day: &str, time: &str) -> Option<&'a [u8]>
+    requires { text.now ≡ day.now ++ 84 ∷ time.now }
+    ensures { option_map (λ form. Cell.Stamp form.now) result ≡ option_map Cell.Stamp (form_at day.now time.now (cut 46 time.now)) }
+{
+    match around_point(time) {
+        None => whole_form(text, is_moment(day, time)),
+        Some((clock, fraction)) => fraction_form(text, fraction, is_moment(day, clock)),
     }
+}
+
+fn is_moment(day: &str, clock: &str) -> bool
+    ensures { result ≡ (is_date day.now && is_clock_text clock.now) }
+{
+    is_day(day) && is_clock(clock.as_bytes())
 }
 
 /// The form with a fraction: without its last zeros, and without the point where no digit is left.
@@ -38,11 +67,14 @@ fn fraction_form<'a>(text: &'a str, fraction: &str, is_moment: bool) -> Option<&
 fn whole_form(text: &str, is_moment: bool) -> Option<&[u8]>
     ensures { option_map (λ form. Cell.Stamp form.now) result ≡ then_some is_moment (Cell.Stamp text.now) }
 {
-    if is_moment { Some(text.as_bytes()) } else { None }
+    if is_moment {
+        Some(text.as_bytes())
+    } else {
+        None
+    }
 }
 
 /// Whether the text is a day's, without a zone.
-#[tactic(auto, unfolding(vkg_cells::specs::Moment::day_of_text))]
 pub(crate) fn is_day(text: &str) -> bool
     ensures { result ≡ is_date text.now }
 {
@@ -57,7 +89,11 @@ fn is_clock(text: &[u8]) -> bool
     if !(text.len() == 8 && text[2] == b':' && text[5] == b':') {
         return false;
     }
-    match (two_digits(text, 0), two_digits(text, 3), two_digits(text, 6)) {
+    match (
+        two_digits(text, 0),
+        two_digits(text, 3),
+        two_digits(text, 6),
+    ) {
         (Some(hour), Some(minute), Some(second)) => hour <= 23 && minute <= 59 && second <= 59,
         _ => false,
     }

@@ -53,14 +53,20 @@ impl Offer {
     pub(crate) fn order(&self, other: &Offer, directions: &[Direction]) -> Ordering
         ensures { result ≡ entry_cmp directions.now self.now other.now }
     {
-        order_cells(directions, self.keys.as_slice(), other.keys.as_slice()).then(self.line().cmp(other.line()))
+        order_cells(directions, self.keys.as_slice(), other.keys.as_slice()).then(
+            self.line().cmp(other.line()),
+        )
     }
 
     /// The order of two entries by their lines, and last by their keys.
     pub(crate) fn order_by_line(&self, other: &Offer, directions: &[Direction]) -> Ordering
         ensures { result ≡ line_first_cmp directions.now self.now other.now }
     {
-        self.line().cmp(other.line()).then(order_cells(directions, self.keys.as_slice(), other.keys.as_slice()))
+        self.line().cmp(other.line()).then(order_cells(
+            directions,
+            self.keys.as_slice(),
+            other.keys.as_slice(),
+        ))
     }
 }
 
@@ -69,7 +75,9 @@ fn order_cells(directions: &[Direction], a: &[Cell], b: &[Cell]) -> Ordering
 {
     match directions {
         [] => Ordering::Equal,
-        [direction, directions @ ..] => order_directed(*direction, first(a), first(b)).then(order_cells(directions, others(a), others(b))),
+        [direction, directions @ ..] => order_directed(*direction, first(a), first(b)).then(
+            order_cells(directions, others(a), others(b)),
+        ),
     }
 }
 
