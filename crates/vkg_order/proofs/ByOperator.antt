@@ -38,8 +38,8 @@ module _ (text : List ℕ) where
   of_moment true None = tt
   of_moment false form = tt
 
-  of_truth : (yes no : Bool) → IfSome (if yes then Some (cell.Bool true) else then_some no (cell.Bool false)) (HasValueOf text)
-  of_truth true no = tt
+  of_truth : (is_true is_false : Bool) → IfSome (if is_true then Some (cell.Bool true) else then_some is_false (cell.Bool false)) (HasValueOf text)
+  of_truth true other = tt
   of_truth false true = tt
   of_truth false false = tt
 

@@ -10,6 +10,7 @@ use Rattle.vkg_lists.proofs.Each.{recursion_fails}
 use Rattle.vkg_lists.proofs.Members.{each_from_recursion, recursion_from_each}
 use Rattle.vkg_lists.proofs.Positions.{any_at, first_found, first_here, first_later, get_member, place_none, place_some, place_within}
 use Rattle.vkg_lists.proofs.Texts.{bytes_test}
+use Rattle.vkg_order.specs.declared.modifiers.Direction.{Direction}
 use Rattle.vkg_order.specs.declared.modifiers.Modifiers.{Modifiers}
 use Rattle.vkg_order.specs.Entries.{Entry, entry_cmp}
 use Rattle.vkg_order.specs.Kept.{IsReady, StandFor, has_room, once_behind, within_slice, without_line}
@@ -35,7 +36,10 @@ without-first line (e ∷ es) h = by (without-first line es) (bytes_eq e.line li
   where
     by : (position_or_len (has_line line) es < length es → without_line line es ≡ remove es (position_or_len (has_line line) es)) → (b : Bool) → bytes_eq e.line line ≡ b → without_line line (e ∷ es) ≡ remove (e ∷ es) (position_or_len (has_line line) (e ∷ es))
     by rest true q = rw q refl
-    by rest false q = let l = first_later (has_line line) e es q in rw (q, l) (ap (λ l. e ∷ l) (rest (omega (arith, l, h))))
+    by rest false q =
+        let l = first_later (has_line line) e es q in
+        let u : without_line line (e ∷ es) ≡ e ∷ without_line line es = rw q refl in
+        u ∙ ap (λ l. e ∷ l) (rest (omega (arith, l, h))) ∙ sym (ap (remove (e ∷ es)) l)
 
 without-none : (line : List ℕ) (es : List Entry) → ((f : Entry) → Contains es f → bytes_eq f.line line ≡ false) → without_line line es ≡ es
 without-none line es n = by es (recursion_from_each (λ f. bytes_eq f.line line ≡ false) es n)
@@ -67,6 +71,12 @@ repeat-none held front e rest place h l p =
     h ∙ ap (λ es. front ++ e ∷ es) (sym (without-none e.line rest (line-lacks e.line rest (ap is_some q))))
 
 -- ---- one entry more
+
+abbrev Parts : List Direction → Entry → List Entry → ℕ → Type 0
+Parts directions x es n = IsPartitionPoint (λ e. is_lt (entry_cmp directions e x) ≡ true) (λ e. is_lt (entry_cmp directions e x) ≡ false) es n
+
+pub parts-moved : (ds directions : List Direction) (x : Entry) (es held : List Entry) (n : ℕ) → ds ≡ directions → es ≡ held → Parts ds x es n → Parts directions x held n
+parts-moved ds directions x es held n d e p = subst (λ l. Parts directions x l n) e (subst (λ l. Parts l x es n) d p)
 
 module _ (m : Modifiers) (x : Entry) (held : List Entry) (place : ℕ) (fits : place ≤ length held)
     (parts : IsPartitionPoint (λ e. is_lt (entry_cmp m.directions e x) ≡ true) (λ e. is_lt (entry_cmp m.directions e x) ≡ false) held place)

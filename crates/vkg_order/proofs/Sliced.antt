@@ -2,15 +2,17 @@
 use Rattle.std.proofs.Common.{◌≡◌, ℕ, ◌≤◌, ◌+◌, inl, inr, append-nil, nat_le, Bool, true, false, not, List, [], map, length, take, drop, Option, Some, None, refl, sym, ap, subst, ◌∙◌, arith, nat_lt}
 use Rattle.std.proofs.lemmas.Bool.{cases_Bool}
 use Rattle.std.proofs.lemmas.Bool.Decides.{nat_tests}
+use Rattle.std.proofs.lemmas.List.{drop-map}
 use Rattle.std.proofs.Math.ListN.{drop_of_length-le}
 use Rattle.std.proofs.Math.Seq.{drop-length}
 use Rattle.std.specs.Prelude.{min}
 use Rattle.vkg_lists.proofs.Distinct.{IsDistinct-nil}
 use Rattle.std.specs.Str.{bytes_eq}
 use Rattle.vkg_order.specs.declared.modifiers.Modifiers.{Modifiers}
+use Rattle.vkg_order.specs.declared.modifiers.Slice.{Slice}
 use Rattle.vkg_order.specs.Entries.{Entry}
 use Rattle.vkg_order.specs.Kept.{IsReady, IsSound, StandFor, has_room}
-use Rattle.vkg_order.specs.Listed.{IsWithin, listed, sliced}
+use Rattle.vkg_order.specs.Listed.{IsWithin, at_most, listed, sliced}
 use Rattle.vkg_order.proofs.Standing.{listed-ready}
 use Rattle.vkg_order.proofs.Steps.{line_of, once-itself}
 
@@ -61,3 +63,8 @@ drop-upto xs n = elim (cases_Bool (nat_le n (length xs))) [
   | inl e ↦ ap (λ k. drop k xs) (let h : n ≤ length xs = grind (arith, nat_tests) in let g : min (length xs) n ≡ n = omega arith in g)
   | inr e ↦ let h : length xs ≤ n = grind (arith, nat_tests) in let g : min (length xs) n ≡ length xs = omega arith in ap (λ k. drop k xs) g ∙ drop-length xs ∙ sym (drop_of_length-le xs h)
 ]
+
+-- what is left behind the first entries, as many as are asked
+pub slice-is : (slice : Slice) (held asked cut : List Entry) → map line_of cut ≡ at_most slice.limit (map line_of asked) → asked ≡ drop (min (length held) slice.offset) held → map line_of cut ≡ sliced slice (map line_of held)
+slice-is slice held asked cut e a =
+    e ∙ ap (λ l. at_most slice.limit (map line_of l)) (a ∙ drop-upto held slice.offset) ∙ ap (at_most slice.limit) (sym (drop-map line_of slice.offset held))

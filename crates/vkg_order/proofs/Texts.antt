@@ -202,4 +202,6 @@ bracketed-order (x ∷ a) (y ∷ b) = by (bracketed-order a b) (x == y) refl
         ap (λ o. ordering_then o (bytes_cmp (a ++ 62 ∷ []) (b ++ 62 ∷ []))) (same_is x y (eqb-true x y e)) ∙ rest
         ∙ rw e (ap (ordering_then (nat_cmp (bracketed_mark (slice_get a (common_length a b))) (bracketed_mark (slice_get b (common_length a b))))) (sym (suc-cmp (length a) (length b))))
     by rest false e =
-        decided x y _ _ (λ s. let g = eq-eqb x y s in cc) ∙ rw e refl
+        let z : common_length (x ∷ a) (y ∷ b) ≡ 0 = rw e refl in
+        decided x y (bytes_cmp (a ++ 62 ∷ []) (b ++ 62 ∷ [])) (nat_cmp (length (x ∷ a)) (length (y ∷ b))) (λ s. let g = eq-eqb x y s in cc)
+        ∙ sym (ap (λ n. ordering_then (nat_cmp (bracketed_mark (slice_get (x ∷ a) n)) (bracketed_mark (slice_get (y ∷ b) n))) (nat_cmp (length (x ∷ a)) (length (y ∷ b)))) z)

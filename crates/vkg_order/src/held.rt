@@ -1,5 +1,5 @@
 // The entries that a keeper holds.
-ghost use Rattle.std.specs.Prelude.{◌≡◌, ◌+◌, ◌<◌, ◌≤◌, ◌∷◌, ◌++◌, [], true, false, List, length, map, OnOk, OnErr, IsPermutation, IsSorted, take, drop, MatchOption, option_map};
+ghost use Rattle.std.specs.Prelude.{◌≡◌, ◌&&◌, ◌+◌, ◌<◌, ◌≤◌, ◌∷◌, ◌++◌, [], true, false, List, length, map, OnOk, OnErr, IsPermutation, IsSorted, take, drop, is_some};
 ghost use Rattle.std.specs.List.{dedup, list_any, position};
 ghost use Rattle.std.specs.List.Sorted.{IsPartitionPoint};
 ghost use Rattle.std.specs.Ordering.{is_lt};
@@ -69,13 +69,20 @@ pub(crate) fn enter(
         mem::drop(offer);
         return Ok(());
     }
-    if modifiers.distinct && find_line(&held[..place], offer.line()).is_some() {
+    if is_repeat(modifiers.distinct, &held[..place], &offer) {
         mem::drop(offer);
         return Ok(());
     }
     held.insert(place, offer)?;
     drop_excess(modifiers, held, place);
     Ok(())
+}
+
+/// Whether each line is asked once, and one of these entries has that of the offer.
+fn is_repeat(distinct: bool, held: &[Offer], offer: &Offer) -> bool
+    ensures { result ≡ (distinct && is_some (position (λ e. bytes_eq e.line offer.now.line) held.now)) }
+{
+    distinct && find_line(held, offer.line()).is_some()
 }
 
 /// Drops what one entry more, at this place, leaves without a line.

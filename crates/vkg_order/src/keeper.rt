@@ -78,12 +78,19 @@ impl Keeper {
     {
         let Keeper {
             modifiers,
-            mut held,
+            held,
             is_sorted: _,
         } = self;
-        settle(&modifiers, &mut held);
-        sliced_lines(alloc, modifiers.slice, held)
+        listed_lines(alloc, &modifiers, held)
     }
+}
+
+fn listed_lines(alloc: Global, modifiers: &Modifiers, held: Vec<Offer>) -> Result<Lines, Memory>
+    ensures { IfOk result (λ lines. lines ≡ listed modifiers.now held.items) }
+{
+    let mut held = held;
+    settle(modifiers, &mut held);
+    sliced_lines(alloc, modifiers.slice, held)
 }
 
 fn sliced_lines(alloc: Global, slice: Slice, held: Vec<Offer>) -> Result<Lines, Memory>
