@@ -117,7 +117,8 @@ fn drop_repeat(held: &mut Vec<Offer>, place: usize)
     requires { place < length held.old.items }
     ensures { (front : List Entry) (e : Entry) (rest : List Entry) → held.old.items ≡ front ++ e ∷ rest → length front ≡ place → held.new.items ≡ front ++ e ∷ without_line e.line rest }
 {
-    if let Some(behind) = find_line(&held[place + 1..], held[place].line()) {
+    let line = held[place].line();
+    if let Some(behind) = find_line(&held[place + 1..], line) {
         mem::drop(held.remove(place + 1 + behind));
     }
 }

@@ -10,8 +10,8 @@ returns-in-Some c = λ front e rest h l.
     let held = c.args.held.now.items in
     let place = c.args.place in
     let i : c.index.result.now ≡ e = c.index.ensures ∙ (λ j. get_or (h j) (sym l j) c.index.result.now) ∙ get_or-append_seam front e rest c.index.result.now in
-    let line : c.line.result.now ≡ e.line = c.line.ensures ∙ ap (λ f. f.line) i in
-    let p : position (has_line e.line) (drop (place + 1) held) ≡ Some c.in-Some.behind = sym (λ j. position (has_line (line j)) (drop (place + 1) (c.deref.ensures.value j))) ∙ sym c.in-Some.ensures in
+    let line : c.line-line.result.now ≡ e.line = c.line-line.ensures ∙ ap (λ f. f.line) i in
+    let p : position (has_line e.line) (drop (place + 1) held) ≡ Some c.in-Some.behind = sym (λ j. position (has_line (line j)) (drop (place + 1) (c.deref.ensures.value j))) ∙ sym c.find_line.ensures ∙ c.in-Some.is in
     c.remove.ensures.items ∙ repeat-found held front e rest place c.in-Some.behind h l p
 
 pub returns-in_default : goal.returns-in_default
@@ -19,6 +19,6 @@ returns-in_default c = λ front e rest h l.
     let held = c.args.held.now.items in
     let place = c.args.place in
     let i : c.index.result.now ≡ e = c.index.ensures ∙ (λ j. get_or (h j) (sym l j) c.index.result.now) ∙ get_or-append_seam front e rest c.index.result.now in
-    let line : c.line.result.now ≡ e.line = c.line.ensures ∙ ap (λ f. f.line) i in
-    let p : position (has_line e.line) (drop (place + 1) held) ≡ None = sym (λ j. position (has_line (line j)) (drop (place + 1) (c.deref.ensures.value j))) ∙ sym c.in_default.ensures in
+    let line : c.line-line.result.now ≡ e.line = c.line-line.ensures ∙ ap (λ f. f.line) i in
+    let p : position (has_line e.line) (drop (place + 1) held) ≡ None = sym (λ j. position (has_line (line j)) (drop (place + 1) (c.deref.ensures.value j))) ∙ sym c.find_line.ensures ∙ c.in_default.is in
     repeat-none held front e rest place h l p
