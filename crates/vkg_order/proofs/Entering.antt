@@ -5,7 +5,7 @@ use Rattle.std.specs.List.{AllByRecursion, Contains, IsDistinct, list_any, posit
 use Rattle.std.specs.List.Sorted.{IsPartitionPoint}
 use Rattle.std.specs.Str.{bytes_eq}
 use Rattle.std.proofs.lemmas.List.{length-take-le, take-append-drop}
-use Rattle.std.proofs.Math.Seq.{drop-append-add}
+use Rattle.std.proofs.lemmas.List.Prefix.{front_rest}
 use Rattle.vkg_lists.proofs.Each.{recursion_fails}
 use Rattle.vkg_lists.proofs.Members.{each_from_recursion, recursion_from_each}
 use Rattle.vkg_lists.proofs.Positions.{any_at, first_found, first_here, first_later, get_member, place_none, place_some, place_within}
@@ -13,7 +13,7 @@ use Rattle.vkg_lists.proofs.Texts.{bytes_test}
 use Rattle.vkg_order.specs.declared.modifiers.Direction.{Direction}
 use Rattle.vkg_order.specs.declared.modifiers.Modifiers.{Modifiers}
 use Rattle.vkg_order.specs.Entries.{Entry, entry_cmp}
-use Rattle.vkg_order.specs.Kept.{IsReady, StandFor, has_room, once_behind, within_slice, without_line}
+use Rattle.vkg_order.specs.Kept.{IsReady, StandFor, has_room, once_behind, repeat_place, within_slice, without_line}
 use Rattle.vkg_order.specs.Listed.{IsWithin}
 use Rattle.vkg_order.proofs.Steps.{Stepped, all-back, all-front, step-no_room, step-repeat, step-within}
 
@@ -53,22 +53,18 @@ remove-behind [] e rest k n h = ap (remove (e ∷ rest)) (let q : n ≡ suc k = 
 remove-behind (f ∷ front) e rest k n h =
     ap (remove (f ∷ (front ++ e ∷ rest))) (let q : n ≡ suc (length front + suc k) = omega (arith, h) in q) ∙ ap (λ l. f ∷ l) (remove-behind front e rest k (length front + suc k) refl)
 
-behind-is : (held front : List Entry) (e : Entry) (rest : List Entry) (place : ℕ) → held ≡ front ++ e ∷ rest → length front ≡ place → drop (place + 1) held ≡ rest
-behind-is held front e rest place h l = (λ i. drop (sym l i + 1) (h i)) ∙ drop-append-add front (e ∷ rest) 1
+pub repeat-here : (held front : List Entry) (e : Entry) (rest : List Entry) (place : ℕ) → held ≡ front ++ e ∷ rest → length front ≡ place → repeat_place (drop place held) ≡ position (has_line e.line) rest
+repeat-here held front e rest place h l = ap repeat_place (ap (λ n. drop n held) (sym l) ∙ front_rest held front (e ∷ rest) h)
 
-pub repeat-found : (held front : List Entry) (e : Entry) (rest : List Entry) (place behind : ℕ) → held ≡ front ++ e ∷ rest → length front ≡ place → position (has_line e.line) (drop (place + 1) held) ≡ Some behind
+pub repeat-found : (held front : List Entry) (e : Entry) (rest : List Entry) (place behind : ℕ) → held ≡ front ++ e ∷ rest → length front ≡ place → position (has_line e.line) rest ≡ Some behind
     → remove held (place + 1 + behind) ≡ front ++ e ∷ without_line e.line rest
-repeat-found held front e rest place behind h l p =
-    let q : position (has_line e.line) rest ≡ Some behind = ap (position (has_line e.line)) (sym (behind-is held front e rest place h l)) ∙ p in
+repeat-found held front e rest place behind h l q =
     let k = place_some (has_line e.line) rest behind q in
     ap (λ es. remove es (place + 1 + behind)) h ∙ remove-behind front e rest behind (place + 1 + behind) (omega (arith, l))
     ∙ ap (λ es. front ++ e ∷ es) (ap (remove rest) k ∙ sym (without-first e.line rest (let w = place_within (has_line e.line) rest behind q in omega (arith, w, k))))
 
-pub repeat-none : (held front : List Entry) (e : Entry) (rest : List Entry) (place : ℕ) → held ≡ front ++ e ∷ rest → length front ≡ place → position (has_line e.line) (drop (place + 1) held) ≡ None
-    → held ≡ front ++ e ∷ without_line e.line rest
-repeat-none held front e rest place h l p =
-    let q : position (has_line e.line) rest ≡ None = ap (position (has_line e.line)) (sym (behind-is held front e rest place h l)) ∙ p in
-    h ∙ ap (λ es. front ++ e ∷ es) (sym (without-none e.line rest (line-lacks e.line rest (ap is_some q))))
+pub repeat-none : (held front : List Entry) (e : Entry) (rest : List Entry) → held ≡ front ++ e ∷ rest → position (has_line e.line) rest ≡ None → held ≡ front ++ e ∷ without_line e.line rest
+repeat-none held front e rest h q = h ∙ ap (λ es. front ++ e ∷ es) (sym (without-none e.line rest (line-lacks e.line rest (ap is_some q))))
 
 -- ---- one entry more
 

@@ -2,7 +2,7 @@
 use Rattle.std.specs.Prelude.{◌≡◌, ℕ, ◌+◌, ⊤, Bool, true, false, List, [], ◌∷◌, ◌++◌, map, length, Option, Some, None, nat_le, nat_lt, if◌then◌else◌}
 use Rattle.std.specs.Ordering.{is_lt, ordering_then}
 use Rattle.std.specs.declared.cmp.Ordering.{Ordering}
-use Rattle.std.specs.List.{AllByRecursion, IsDistinct}
+use Rattle.std.specs.List.{AllByRecursion, IsDistinct, position}
 use Rattle.std.specs.Str.{bytes_eq}
 use Rattle.vkg_lists.specs.Lists.{without_last}
 use Rattle.vkg_lists.specs.Texts.{bytes_cmp}
@@ -62,6 +62,11 @@ line_first_cmp directions e f = ordering_then (bytes_cmp e.line f.line) (keys_cm
 
 abbrev pub have_one_line : Entry → Entry → Bool
 have_one_line e f = bytes_eq e.line f.line
+
+-- behind the first entry the place of the next that has its line
+abbrev pub repeat_place : List Entry → Option ℕ
+repeat_place [] = None
+repeat_place (e ∷ es) = position (λ f. bytes_eq f.line e.line) es
 
 -- without the first entry of a line
 abbrev pub without_line : List ℕ → List Entry → List Entry

@@ -1,11 +1,11 @@
 // The entries that a keeper holds.
-ghost use Rattle.std.specs.Prelude.{◌≡◌, ◌&&◌, ◌+◌, ◌<◌, ◌≤◌, ◌∷◌, ◌++◌, [], true, false, List, length, map, OnOk, OnErr, IsPermutation, IsSorted, take, drop, is_some};
+ghost use Rattle.std.specs.Prelude.{◌≡◌, ◌&&◌, IfSome, ◌+◌, ◌<◌, ◌≤◌, ◌∷◌, ◌++◌, [], true, false, List, length, map, OnOk, OnErr, IsPermutation, IsSorted, take, drop, is_some};
 ghost use Rattle.std.specs.List.{dedup, list_any, position};
 ghost use Rattle.std.specs.List.Sorted.{IsPartitionPoint};
 ghost use Rattle.std.specs.Ordering.{is_lt};
 ghost use Rattle.std.specs.Str.{bytes_eq};
 ghost use Rattle.vkg_order.specs.Entries.{Entry, entry_cmp};
-ghost use Rattle.vkg_order.specs.Kept.{IsReady, Rises, StandFor, have_one_line, line_first_cmp, once_behind, within_slice, without_line};
+ghost use Rattle.vkg_order.specs.Kept.{IsReady, Rises, StandFor, have_one_line, line_first_cmp, once_behind, repeat_place as repeat_place_of, within_slice, without_line};
 ghost use Rattle.vkg_order.specs.Listed.{IsWithin};
 
 use crate::modifiers::{Direction, Modifiers, Slice};
@@ -117,9 +117,20 @@ fn drop_repeat(held: &mut Vec<Offer>, place: usize)
     requires { place < length held.old.items }
     ensures { (front : List Entry) (e : Entry) (rest : List Entry) → held.old.items ≡ front ++ e ∷ rest → length front ≡ place → held.new.items ≡ front ++ e ∷ without_line e.line rest }
 {
-    let line = held[place].line();
-    if let Some(behind) = find_line(&held[place + 1..], line) {
+    if let Some(behind) = repeat_place(&held[place..]) {
         mem::drop(held.remove(place + 1 + behind));
+    }
+}
+
+/// The place, behind the first of these entries, of the next that has its line.
+#[tactic(auto, using(vkg_lists::proofs::Positions::place_within))]
+fn repeat_place(held: &[Offer]) -> Option<usize>
+    ensures place { result ≡ repeat_place_of held.now }
+    ensures within { IfSome result (λ k. k + 1 < length held.now) }
+{
+    match held {
+        [] => None,
+        [first, behind @ ..] => find_line(behind, first.line()),
     }
 }
 
