@@ -1,6 +1,6 @@
 -- The steps of a keeper, over the entries that it holds and the place of one more.
 use Rattle.std.proofs.Common.{◌≡◌, ℕ, suc, ◌+◌, ◌<◌, ◌≤◌, Bool, true, false, List, [], ◌∷◌, ◌++◌, length, take, drop, Option, Some, None, refl, sym, ap, subst, ◌∙◌, arith, is_lt, Ordering}
-use Rattle.std.specs.Prelude.{is_some, nat_eq}
+use Rattle.std.specs.Prelude.{IfSome, is_some}
 use Rattle.std.specs.List.{AllByRecursion, Contains, IsDistinct, list_any, position, position_or_len, remove}
 use Rattle.std.specs.List.Sorted.{IsPartitionPoint}
 use Rattle.std.specs.Str.{bytes_eq}
@@ -65,6 +65,10 @@ repeat-found held front e rest place behind h l q =
 
 pub repeat-none : (held front : List Entry) (e : Entry) (rest : List Entry) → held ≡ front ++ e ∷ rest → position (has_line e.line) rest ≡ None → held ≡ front ++ e ∷ without_line e.line rest
 repeat-none held front e rest h q = h ∙ ap (λ es. front ++ e ∷ es) (sym (without-none e.line rest (line-lacks e.line rest (ap is_some q))))
+
+pub repeat-within : (line : List ℕ) (e : Entry) (es held : List Entry) (r : Option ℕ) → held ≡ e ∷ es → r ≡ position (has_line line) es → IfSome r (λ k. k + 1 < length held)
+repeat-within line e es held None h q = tt
+repeat-within line e es held (Some k) h q = let w = place_within (has_line line) es k (sym q) in omega (arith, w, ap length h)
 
 -- ---- one entry more
 

@@ -123,14 +123,13 @@ fn drop_repeat(held: &mut Vec<Offer>, place: usize)
 }
 
 /// The place, behind the first of these entries, of the next that has its line.
-#[tactic(auto, using(vkg_lists::proofs::Positions::place_within))]
 fn repeat_place(held: &[Offer]) -> Option<usize>
     ensures place { result ≡ repeat_place_of held.now }
     ensures within { IfSome result (λ k. k + 1 < length held.now) }
 {
-    match held {
-        [] => None,
-        [first, behind @ ..] => find_line(behind, first.line()),
+    match held.split_first() {
+        None => None,
+        Some((first, behind)) => find_line(behind, first.line()),
     }
 }
 
