@@ -1,26 +1,23 @@
 -- Where `<` has an answer for two terms, their order is that of `<`.
-use Rattle.std.proofs.Common.{◌≡◌, ℕ, Bool, true, false, not, ◌&&◌, List, Option, Some, None, refl, sym, ap, subst, ◌∙◌, if◌then◌else◌, Ordering, Equal, nat_lt}
+use Rattle.std.proofs.Common.{◌≡◌, ℕ, Bool, true, false, not, ◌&&◌, List, Option, Some, None, refl, ◌∙◌, if◌then◌else◌, Ordering, Equal, nat_lt}
 use Rattle.std.specs.Prelude.{IfSome, Ok, option_map}
 use Rattle.std.specs.Bool.{then_some}
-use Rattle.std.specs.List.{list_any}
 use Rattle.std.proofs.lemmas.Cmp.{alike_right}
-use Rattle.vkg_lists.proofs.Bools.{and_parts}
-use Rattle.vkg_terms.specs.declared.term.Term.{Term}
 use Rattle.vkg_terms.specs.declared.term.Term.TheVariants.{Iri, Blank, Lit}
 use Rattle.vkg_terms.specs.declared.term.Annotation.{Annotation}
 use Rattle.vkg_terms.specs.declared.term.Annotation.TheVariants.{Plain, Lang, Typed}
 use Rattle.vkg_cells.specs.declared.cell.Cell.{Cell}
 use Rattle.vkg_cells.specs.declared.cell.Cell.TheVariants as cell
 use Rattle.vkg_cells.specs.declared.cell.SqlType.TheVariants as kind
-use Rattle.vkg_cells.specs.Field.{is_one_text, where_number}
+use Rattle.vkg_cells.specs.Field.{where_number}
 use Rattle.vkg_cells.specs.Laws.{HasValueOf}
 use Rattle.vkg_cells.specs.Moment.{is_date, stamp_form}
 use Rattle.vkg_cells.specs.Number.{canonical, is_decimal, is_integer, number_cmp, width}
 use Rattle.vkg_cells.specs.Order.{order}
 use Rattle.vkg_cells.proofs.LawLemmas.{values}
 use Rattle.vkg_cells.proofs.OrderLemmas.{number-total}
-use Rattle.vkg_values.specs.Known.{known, literal_value, moment_of, truth_of, widest}
-use Rattle.vkg_values.specs.Operators.{compared, compared_values, is_one_sort}
+use Rattle.vkg_values.specs.Known.{literal_value, moment_of, truth_of, widest}
+use Rattle.vkg_values.specs.Operators.{compared_values, is_one_sort}
 use Rattle.vkg_order.specs.Values.{IsByOperator, key_cmp, known_key, value_cmp}
 
 field_ok : (fine wide : Bool) (text : List ℕ) (c : Cell) → nat_lt 38 (width text) ≡ wide → fine && not wide ≡ true → where_number fine text c ≡ Ok c

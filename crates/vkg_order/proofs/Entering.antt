@@ -1,14 +1,14 @@
 -- The steps of a keeper, over the entries that it holds and the place of one more.
-use Rattle.std.proofs.Common.{◌≡◌, ℕ, suc, ◌+◌, ◌<◌, ◌≤◌, Bool, true, false, List, [], ◌∷◌, ◌++◌, length, take, drop, Option, Some, None, refl, sym, ap, subst, ◌∙◌, arith, is_lt, Ordering}
+use Rattle.std.proofs.Common.{◌≡◌, ℕ, suc, ◌+◌, ◌<◌, ◌≤◌, Bool, true, false, List, [], ◌∷◌, ◌++◌, length, take, drop, Option, Some, None, refl, sym, ap, subst, ◌∙◌, arith, is_lt}
 use Rattle.std.specs.Prelude.{IfSome, is_some}
-use Rattle.std.specs.List.{AllByRecursion, Contains, IsDistinct, list_any, position, position_or_len, remove}
+use Rattle.std.specs.List.{AllByRecursion, Contains, position, position_or_len, remove}
 use Rattle.std.specs.List.Sorted.{IsPartitionPoint}
 use Rattle.std.specs.Str.{bytes_eq}
 use Rattle.std.proofs.lemmas.List.{length-take-le, take-append-drop}
 use Rattle.std.proofs.lemmas.List.Prefix.{front_rest}
 use Rattle.vkg_lists.proofs.Each.{recursion_fails}
 use Rattle.vkg_lists.proofs.Members.{each_from_recursion, recursion_from_each}
-use Rattle.vkg_lists.proofs.Positions.{any_at, first_found, first_here, first_later, get_member, place_none, place_some, place_within}
+use Rattle.vkg_lists.proofs.Positions.{any_at, first_found, first_later, get_member, place_some, place_within}
 use Rattle.vkg_lists.proofs.Texts.{bytes_test}
 use Rattle.vkg_order.specs.declared.modifiers.Direction.{Direction}
 use Rattle.vkg_order.specs.declared.modifiers.Modifiers.{Modifiers}

@@ -1,6 +1,6 @@
 -- The definitions at examples.
 use Rattle.std.specs.Prelude.{◌≡◌, refl, codes, true, false, None, Some, [], ◌∷◌, List, ℕ, Option}
-use Rattle.std.specs.declared.cmp.Ordering.TheVariants.{Less, Equal, Greater}
+use Rattle.std.specs.declared.cmp.Ordering.TheVariants.{Less, Equal}
 use Rattle.vkg_terms.specs.declared.term.Term.{Term}
 use Rattle.vkg_terms.specs.declared.term.Term.TheVariants.{Iri, Blank, Lit}
 use Rattle.vkg_terms.specs.declared.term.Annotation.TheVariants.{Plain, Typed}

@@ -1,5 +1,5 @@
 -- An integer's text is a decimal.
-use Rattle.std.proofs.Common.{◌≡◌, ℕ, Bool, true, List}
+use Rattle.std.proofs.Common.{◌≡◌, ℕ, true, List}
 use Rattle.vkg_cells.specs.Number.{is_decimal, is_integer}
 use Rattle.vkg_cells.proofs.CanonicalLemmas.{integer-decimal}
 

@@ -1,5 +1,5 @@
 -- Which entries may be left out of an answer's list.
-use Rattle.std.proofs.Common.{◌≡◌, ℕ, ◌+◌, ◌≤◌, true, List, ◌∷◌, ◌++◌, map, length, take, drop, refl, sym, ap, subst, ◌∙◌, is_lt, append_assoc, Some, false}
+use Rattle.std.proofs.Common.{◌≡◌, ℕ, ◌+◌, ◌≤◌, true, List, ◌∷◌, ◌++◌, map, length, take, drop, sym, ap, ◌∙◌, is_lt, append_assoc, Some, false}
 use Rattle.std.specs.List.{Contains}
 use Rattle.std.specs.List.Sorted.{IsPermutation}
 use Rattle.std.proofs.Common.{Ordering}
@@ -10,7 +10,7 @@ use Rattle.vkg_lists.specs.Ascending.{ascending_by}
 use Rattle.vkg_order.specs.declared.modifiers.Modifiers.{Modifiers}
 use Rattle.vkg_order.specs.Entries.{Entry, entry_cmp}
 use Rattle.vkg_order.specs.Kept.{Rises, StandFor}
-use Rattle.vkg_order.specs.Listed.{at_most, listed, once, sliced}
+use Rattle.vkg_order.specs.Listed.{listed, once, sliced}
 use Rattle.vkg_order.proofs.Cut.{repeat-drop, room-drop, tied-lines}
 use Rattle.vkg_order.proofs.Ordered.{ascending-same, ascending-tied}
 use Rattle.vkg_order.proofs.Totals.{entry-total, one_line}

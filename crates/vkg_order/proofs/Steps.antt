@@ -1,24 +1,21 @@
 -- What a keeper does with one entry more.
-use Rattle.std.proofs.Common.{◌≡◌, ℕ, zero, suc, ◌+◌, ◌-◌, ◌<◌, ◌≤◌, ◌⊎◌, inl, inr, Bool, true, false, cond, ⊎_elim, List, [], ◌∷◌, ◌++◌, map, length, take, drop, get_or, Option, Some, None, refl, sym, ap, subst, ◌∙◌, arith, append_assoc, nat_le, nat_lt, is_lt, Ordering, length-append, length-drop}
+use Rattle.std.proofs.Common.{◌≡◌, ℕ, suc, ◌+◌, ◌-◌, ◌<◌, ◌≤◌, ◌⊎◌, inl, inr, Bool, true, false, cond, ⊎_elim, List, [], ◌∷◌, ◌++◌, map, length, take, drop, get_or, Option, Some, None, refl, sym, ap, subst, ◌∙◌, arith, append_assoc, nat_le, nat_lt, is_lt, Ordering, length-append, length-drop}
 use Rattle.std.specs.List.{AllByRecursion, AllWithin, Contains, IsDistinct}
 use Rattle.std.specs.List.Sorted.{IsPermutation}
 use Rattle.std.specs.Str.{bytes_eq}
 use Rattle.std.proofs.lemmas.Bool.Decides.{nat_tests}
-use Rattle.std.proofs.lemmas.List.{get_or-drop, get_or-take, length-map, length-take-le, map-append, take-append-drop, take_more}
+use Rattle.std.proofs.lemmas.List.{get_or-drop, get_or-take, length-map, length-take-le, map-append, take_more}
 use Rattle.std.proofs.lemmas.List.Elements.{Contains-append_cases, Contains-append_left, Contains-append_right}
-use Rattle.std.proofs.lemmas.List.Sorted.{IsPermutation-cons, IsPermutation-map, IsPermutation-middle, IsPermutation-refl, IsPermutation-sym, IsPermutation-to_front, IsPermutation-trans}
+use Rattle.std.proofs.lemmas.List.Sorted.{IsPermutation-map, IsPermutation-middle, IsPermutation-sym, IsPermutation-to_front, IsPermutation-trans}
 use Rattle.std.proofs.lemmas.Map.Keys.{IsDistinct-IsPermutation}
 use Rattle.std.proofs.Math.Seq.{take-length}
 use Rattle.vkg_lists.specs.Ascending.{put_in}
 use Rattle.vkg_lists.specs.Lists.{without_last}
-use Rattle.vkg_lists.specs.Sets.{distinct}
-use Rattle.vkg_lists.proofs.Bags.{bag_same}
-use Rattle.vkg_lists.proofs.Counts.{eq_comm, eq_other}
+use Rattle.vkg_lists.proofs.Counts.{eq_comm}
 use Rattle.vkg_lists.proofs.Distinct.{IsDistinct-cons, IsDistinct-head, IsDistinct-nil, IsDistinct-tail, distinct_itself}
-use Rattle.vkg_lists.proofs.Members.{Contains-cons_cases, Contains-from_map, Contains-here, Contains-map, Contains-none, Contains-there, each_from_recursion, recursion_append, recursion_left, recursion_right}
+use Rattle.vkg_lists.proofs.Members.{Contains-cons_cases, Contains-from_map, Contains-here, Contains-none, each_from_recursion, recursion_append, recursion_left, recursion_right}
 use Rattle.vkg_lists.proofs.Texts.{bytes_test}
 use Rattle.vkg_order.specs.declared.modifiers.Modifiers.{Modifiers}
-use Rattle.vkg_order.specs.declared.modifiers.Slice.{Slice}
 use Rattle.vkg_order.specs.Entries.{Entry, entry_cmp}
 use Rattle.vkg_order.specs.Kept.{IsReady, Rises, StandFor, has_room, is_within, once_behind, within_slice, without_line}
 use Rattle.vkg_order.specs.Listed.{IsWithin, once}

@@ -1,6 +1,6 @@
 -- Two texts as N-Quads are ordered as their marks are at the first place at which they differ.
-use Rattle.std.proofs.Common.{◌≡◌, ℕ, zero, suc, ◌+◌, ◌*◌, ◌<◌, ◌≤◌, ◌⊎◌, inl, inr, Bool, true, false, ◌==◌, nat_lt, List, [], ◌∷◌, ◌++◌, length, Option, Some, None, refl, sym, ap, subst, ◌∙◌, arith, append_assoc, append-nil, if◌then◌else◌, eqb-true, Ordering, Less, Equal, Greater, nat_cmp}
-use Rattle.std.specs.Prelude.{IsUtf8, chars, codes, encode_utf8, flat_map, slice_get}
+use Rattle.std.proofs.Common.{◌≡◌, ℕ, suc, ◌+◌, ◌*◌, ◌<◌, ◌≤◌, ◌⊎◌, inl, inr, Bool, true, false, ◌==◌, nat_lt, List, [], ◌∷◌, ◌++◌, length, Option, Some, None, refl, sym, ap, ◌∙◌, arith, append_assoc, append-nil, if◌then◌else◌, eqb-true, Ordering, Less, Equal, Greater, nat_cmp}
+use Rattle.std.specs.Prelude.{IsUtf8, chars, codes, flat_map, slice_get}
 use Rattle.std.specs.Ordering.{ordering_then}
 use Rattle.std.specs.Cmp.{nat_cmp_is}
 use Rattle.std.specs.List.{list_all}
@@ -11,7 +11,7 @@ use Rattle.std.proofs.lemmas.Str.{encode_ascii, encodes-chars, scalars-chars}
 use Rattle.std.proofs.Math.Utf8.{encode, encodes, scalar, scalars}
 use Rattle.vkg_lists.specs.Texts.{bytes_cmp}
 use Rattle.vkg_lists.proofs.Bools.{and_parts}
-use Rattle.vkg_terms.specs.NQuads.{annotation_text, bracketed, escaped, quoted}
+use Rattle.vkg_terms.specs.NQuads.{escaped, quoted}
 use Rattle.vkg_terms.proofs.Octets.{encode_all, scalar_below}
 use Rattle.vkg_terms.proofs.TextLemmas.{unescaped}
 use Rattle.vkg_order.specs.Marks.{bracketed_mark, bracketed_order, common_length, quoted_mark, quoted_order}

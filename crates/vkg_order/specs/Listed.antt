@@ -1,5 +1,5 @@
 -- The lines of an answer, in the asked order.
-use Rattle.std.specs.Prelude.{ℕ, ◌+◌, ◌≤◌, ⊤, Bool, List, map, take, drop, length, Option, Some, None, if◌then◌else◌}
+use Rattle.std.specs.Prelude.{ℕ, ◌+◌, ◌≤◌, ⊤, Bool, List, map, take, drop, Option, Some, None, if◌then◌else◌}
 use Rattle.std.specs.Str.{bytes_eq}
 use Rattle.vkg_lists.specs.Ascending.{ascending_by}
 use Rattle.vkg_lists.specs.Sets.{distinct}

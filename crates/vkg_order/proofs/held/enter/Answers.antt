@@ -1,4 +1,4 @@
-use Rattle.std.proofs.Common.{◌≡◌, ◌∙◌, ◌≤◌, ◌&&◌, ◌++◌, ◌∷◌, [], Bool, true, false, ℕ, List, length, take, drop, sym, ap, subst}
+use Rattle.std.proofs.Common.{◌≡◌, ◌∙◌, ◌≤◌, ◌&&◌, ◌++◌, ◌∷◌, [], true, false, List, length, take, drop, sym, ap, subst}
 use Rattle.std.specs.Prelude.{is_some}
 use Rattle.std.specs.List.{position}
 use Rattle.std.specs.List.Sorted.{IsPartitionPoint}
@@ -6,7 +6,7 @@ use Rattle.std.specs.Ordering.{is_lt}
 use Rattle.std.proofs.lemmas.List.{length-take-le}
 use Rattle.vkg_lists.proofs.Bools.{and_parts}
 use Rattle.vkg_order.specs.Entries.{Entry, entry_cmp}
-use Rattle.vkg_order.specs.Kept.{IsReady, StandFor, once_behind, within_slice}
+use Rattle.vkg_order.specs.Kept.{IsReady, StandFor}
 use Rattle.vkg_order.specs.Listed.{IsWithin}
 use Rattle.vkg_order.proofs.Entering.{enter-no_room, enter-ready, enter-repeat, enter-stands, enter-within, has_line, parts-moved}
 use Rattle.vkg_order.proofs.held.enter.Goals as goal

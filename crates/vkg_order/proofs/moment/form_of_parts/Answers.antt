@@ -1,4 +1,4 @@
-use Rattle.std.proofs.Common.{◌≡◌, ◌∙◌, ◌++◌, ◌∷◌, ◌&&◌, List, ℕ, Some, None, Option, sym, ap, subst, length, nat_le, append_assoc, rules, arith}
+use Rattle.std.proofs.Common.{◌≡◌, ◌∙◌, ◌++◌, ◌∷◌, ◌&&◌, Some, sym, ap, length, nat_le, append_assoc}
 use Rattle.std.specs.Prelude.{option_map}
 use Rattle.std.specs.Bool.{then_some}
 use Rattle.vkg_cells.specs.declared.cell.Cell.TheVariants as cell

@@ -1,4 +1,4 @@
-use Rattle.std.proofs.Common.{◌≡◌, ◌∙◌, ◌++◌, ◌∷◌, ◌&&◌, List, ℕ, Some, None, Option, sym, ap, subst, length, nat_le, append_assoc, rules, arith}
+use Rattle.std.proofs.Common.{◌≡◌, ◌∙◌, Some, None, sym}
 use Rattle.vkg_cells.specs.Moment.{cut}
 use Rattle.vkg_order.proofs.Moments.{cut-back, moment-none, moment-some}
 use Rattle.vkg_order.proofs.moment.moment_form.Goals as goal
