@@ -1,0 +1,13 @@
+use Rattle.std.proofs.Common.{rules}
+use Rattle.std.specs.Ordering.{is_lt}
+use Rattle.std.proofs.lemmas.Fn.{always_returns_same}
+use Rattle.std.proofs.lemmas.List.Sorted.{ranks_by}
+use Rattle.vkg_order.specs.Entries.{Entry}
+use Rattle.vkg_order.specs.Entries.{entry_cmp}
+use Rattle.vkg_order.proofs.Totals.{entry-total}
+use Rattle.vkg_order.proofs.held.sort.Goals as goal
+
+pub returns-clause-sorted : goal.returns-clause-sorted
+returns-clause-sorted c =
+    let ds = c.args.directions.now in
+    c.sort_unstable_by.ensures.sorted (λ e f. is_lt (entry_cmp ds e f)) (ranks_by (entry-total ds) (λ (e : Entry). e)) (always_returns_same _ _ _ (λ a r f' k. search rules))

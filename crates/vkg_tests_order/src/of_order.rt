@@ -1,0 +1,150 @@
+use std::alloc::Global;
+use std::cmp::Ordering;
+use std::test::Fail;
+use vkg_base::{Items, MemSink, Memory, Text};
+use vkg_cells::Cell;
+use vkg_order::{Direction, Keeper, Modifiers, Slice, compare};
+use vkg_terms::{Annotation, Term};
+
+// A value of a key: nothing, a blank node, an IRI, a plain or a tagged literal, or one of a datatype of XML Schema.
+fn value(alloc: Global, sort: &str, text: &str) -> Result<Cell, Memory> {
+    let name = Text::new(alloc, text)?;
+    match sort {
+        "" => Ok(Cell::Null),
+        "_:" => Ok(Cell::Term(Term::Blank(name))),
+        "<>" => Ok(Cell::Term(Term::Iri(name))),
+        "\"" => Ok(Cell::Term(Term::Lit(name, Annotation::Plain))),
+        "@" => Ok(Cell::Term(Term::Lit(name, Annotation::Lang(Text::new(alloc, "en")?)))),
+        _ => typed(alloc, sort, name),
+    }
+}
+
+fn typed(alloc: Global, sort: &str, text: Text) -> Result<Cell, Memory> {
+    let mut iri = String::from_str(alloc, "http://www.w3.org/2001/XMLSchema#")?;
+    iri.push_str(sort)?;
+    let annotation = Annotation::typed(Text::from_string(iri));
+    Ok(Cell::Term(Term::Lit(text, annotation)))
+}
+
+fn compared(alloc: Global, a: (&str, &str), b: (&str, &str)) -> Result<Ordering, Memory> {
+    let a = value(alloc, a.0, a.1)?;
+    let b = value(alloc, b.0, b.1)?;
+    Ok(compare(&a, &b))
+}
+
+// SPARQL 1.1, 15.1, and what this project orders beyond it: each value is below the next.
+const ASCENDING: [(&str, &str); 22] = [
+    ("", ""),
+    ("_:", "a"),
+    ("_:", "b"),
+    ("<>", "http://e/"),
+    ("<>", "http://e/a"),
+    ("integer", "-10"),
+    ("decimal", "-9.5"),
+    ("integer", "07"),
+    ("integer", "9"),
+    ("decimal", "9.01"),
+    ("integer", "10"),
+    ("\"", "10"),
+    ("\"", "9"),
+    ("\"", "x"),
+    ("boolean", "0"),
+    ("boolean", "true"),
+    ("dateTime", "2024-02-29T12:00:00"),
+    ("dateTime", "2024-02-29T12:00:00.05"),
+    ("dateTime", "2024-02-29T12:00:00.5"),
+    ("date", "2024-02-29"),
+    ("date", "2024-02-29Z"),
+    ("integer", "x"),
+];
+
+#[test]
+fn values_ascend(rt: HostRuntime) -> Result<(), Fail> {
+    for i in 1..ASCENDING.len() {
+        assert_eq!(rt; compared(rt.alloc(), ASCENDING[i - 1], ASCENDING[i])?, Ordering::Less);
+        assert_eq!(rt; compared(rt.alloc(), ASCENDING[i], ASCENDING[i - 1])?, Ordering::Greater);
+    }
+    Ok(())
+}
+
+// Values that tie: numbers and moments that are written otherwise.
+const TIED: [(&str, &str, &str, &str); 4] = [
+    ("integer", "7", "integer", "07"),
+    ("integer", "7", "decimal", "7.0"),
+    ("boolean", "1", "boolean", "true"),
+    ("dateTime", "2024-02-29T12:00:00.50", "dateTime", "2024-02-29T12:00:00.5"),
+];
+
+#[test]
+fn one_value_ties(rt: HostRuntime) -> Result<(), Fail> {
+    for (a_sort, a, b_sort, b) in TIED {
+        assert_eq!(rt; compared(rt.alloc(), (a_sort, a), (b_sort, b))?, Ordering::Equal);
+    }
+    Ok(())
+}
+
+// Literals without a known value stand by their texts, in which a quote is escaped and ends.
+const BY_TEXT: [(&str, &str); 4] = [("@", "a!"), ("@", "a"), ("@", "a#"), ("@", "a\"")];
+
+#[test]
+fn others_ascend_by_text(rt: HostRuntime) -> Result<(), Fail> {
+    for i in 1..BY_TEXT.len() {
+        assert_eq!(rt; compared(rt.alloc(), BY_TEXT[i - 1], BY_TEXT[i])?, Ordering::Less);
+    }
+    Ok(())
+}
+
+// The small company's names by their employees, as a query offers them: the keys ?n and ?e, and the line of ?n.
+const OFFERS: [(&str, &str, &str); 3] = [
+    ("Bo", "http://e/emp/id=8", "\"Bo\""),
+    ("Ann", "http://e/emp/id=9", "\"Ann\""),
+    ("Ann", "http://e/emp/id=7", "\"Ann\""),
+];
+
+fn offer(alloc: Global, keeper: &mut Keeper, by_name: bool, entry: (&str, &str, &str)) -> Result<(), Memory> {
+    let mut keys = Vec::new(alloc);
+    if by_name {
+        keys.push(value(alloc, "\"", entry.0)?)?;
+    }
+    keys.push(value(alloc, "<>", entry.1)?)?;
+    keeper.offer(keys, String::from_str(alloc, entry.2)?)
+}
+
+// What is written of the three offers.
+fn written(alloc: Global, by_name: bool, distinct: bool, slice: Slice) -> Result<String, Memory> {
+    let mut directions = Items::new(alloc);
+    directions.push(Direction::Descending)?;
+    if by_name {
+        directions.push(Direction::Ascending)?;
+    }
+    let mut keeper = Keeper::new(alloc, Modifiers { directions, distinct, slice });
+    for entry in OFFERS {
+        offer(alloc, &mut keeper, by_name, entry)?;
+    }
+    let lines = keeper.finish(alloc)?;
+    let mut sink = MemSink::with_room(alloc, 99, Vec::new(alloc))?;
+    let _taken = lines.write_all(&mut sink);
+    Ok(String::from_utf8_lossy(alloc, sink.taken())?)
+}
+
+const ALL: Slice = Slice { offset: 0, limit: None };
+
+#[test]
+fn lines_stand_in_the_asked_order(rt: HostRuntime) -> Result<(), Fail> {
+    let alloc = rt.alloc();
+    assert_eq!(rt; written(alloc, true, false, ALL)?.as_str(), "\"Bo\"\n\"Ann\"\n\"Ann\"\n");
+    assert_eq!(rt; written(alloc, true, false, Slice { offset: 0, limit: Some(2) })?.as_str(), "\"Bo\"\n\"Ann\"\n");
+    assert_eq!(rt; written(alloc, true, false, Slice { offset: 1, limit: Some(1) })?.as_str(), "\"Ann\"\n");
+    assert_eq!(rt; written(alloc, true, false, Slice { offset: 0, limit: Some(0) })?.as_str(), "");
+    assert_eq!(rt; written(alloc, true, false, Slice { offset: 3, limit: None })?.as_str(), "");
+    Ok(())
+}
+
+#[test]
+fn each_line_once_at_its_first_place(rt: HostRuntime) -> Result<(), Fail> {
+    let alloc = rt.alloc();
+    assert_eq!(rt; written(alloc, false, true, ALL)?.as_str(), "\"Ann\"\n\"Bo\"\n");
+    assert_eq!(rt; written(alloc, false, true, Slice { offset: 0, limit: Some(1) })?.as_str(), "\"Ann\"\n");
+    assert_eq!(rt; written(alloc, false, true, Slice { offset: 1, limit: Some(1) })?.as_str(), "\"Bo\"\n");
+    Ok(())
+}
