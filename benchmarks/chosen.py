@@ -3,7 +3,7 @@
 
 usage: benchmarks/chosen.py [--vkg PROGRAM] [--only CASE] [--timeout SECONDS] [N..]
 
-Texts of one hash are made for the hasher of the kit's maps and sets, whose seed is fixed: it multiplies two numbers of 8 bytes, of which the
+Texts of one hash are made for std's fast hasher, whose seed is fixed, and which the program had until its hashes had a seed of their own: it multiplies two numbers of 8 bytes, of which the
 first is the state so far and 8 bytes of the text, joined by xor. Where these are equal the product is 0 whatever the other 8 bytes are. A line tells the case,
 its size, the processor seconds of the call, its peak of memory, and how it ended.
 """
@@ -90,6 +90,11 @@ def prefixes(texts):
     return mapped(PREFIX + "".join(f"@prefix {text}: <http://e/> . " for text in texts) + MAP)
 
 
+def literals(texts):
+    """A mapping with a triple for each of these literals."""
+    return mapped(PREFIX + MAP + " <#m> <http://e/p> " + ", ".join(texts) + " .")
+
+
 def shared(classes, node):
     """1,024 maps, whose subject map is one node or a node each."""
     head = PREFIX + "@prefix : <http://e/> . "
@@ -106,6 +111,8 @@ def cases(size):
     yield "other keys", *loaded([text[1:] for text in plain_texts(size)], ", UNIQUE (t)")
     yield "prefixes of one hash", *prefixes(texts_of_one_hash(size))
     yield "other prefixes", *prefixes(plain_texts(size))
+    yield "literals of one text with so many language tags", *literals(f"'x'@a-{number}" for number in range(size))
+    yield "other literals", *literals(f"'x-{number}'@a" for number in range(size))
     yield "BASE <a/>, so many times", *planned("BASE <a/> " * size + "SELECT * {}")
     yield "BASE <http://e/>, so many times", *planned("BASE <http://e/> " * size + "SELECT * {}")
     yield "@base <a/>, so many times", *mapped("@base <a/> . " * size + PREFIX + MAP)

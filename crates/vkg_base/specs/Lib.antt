@@ -1,4 +1,3 @@
-pub mod Groups
 pub mod InMemory
 pub mod Outside
 pub mod Status

@@ -5,6 +5,7 @@ use std::alloc::Global;
 use std::fs;
 use std::io::Read;
 use std::marker::Model;
+use std::random::RandomSource;
 use std::rt::Files;
 
 const PIECE: usize = 4096;
@@ -81,7 +82,16 @@ fn read_file<R: Files>(rt: &R, alloc: Global, name: &str, limit: u64) -> Result<
     }
 }
 
-impl<'a, R: Files> Store for HostStore<'a, R> {
+// Random bytes of the system as a number, or 0 where it gives none.
+fn random_number<R: RandomSource>(rt: &R) -> u64 {
+    let mut bytes = [0u8; 8];
+    match rt.fill_bytes(&mut bytes) {
+        Ok(()) => u64::from_le_bytes(bytes),
+        Err(_) => 0,
+    }
+}
+
+impl<'a, R: Files + RandomSource> Store for HostStore<'a, R> {
     ghost state = { λ s. s };
 
     fn load(&mut self, alloc: Global, name: &str, limit: u64) -> Result<Vec<u8>, LoadFault> {
@@ -95,5 +105,9 @@ impl<'a, R: Files> Store for HostStore<'a, R> {
                 Err(LoadFault::Failed)
             }
         }
+    }
+
+    fn seed(&self) -> u64 {
+        random_number(self.rt)
     }
 }

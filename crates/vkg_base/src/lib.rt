@@ -1,6 +1,6 @@
 //! What stands outside of the program and what every part of it shares: stores of files and sinks of bytes that count
 //! their faults, in memory and of the system; lines of text that are made before the first is written; the statuses;
-//! want of memory; the least of places, and numbers grouped by texts; and the containers `Box`, `Items` and `Text`, which
+//! want of memory; the least of places; and the containers `Box`, `Items` and `Text`, which
 //! contracts see as what they hold.
 //!
 //! It follows no standard but that texts are UTF-8. It promises: a fault is answered only where its count rose, lines are sorted by their bytes and written in order.
@@ -9,7 +9,6 @@
 
 mod boxed;
 mod fixed_line;
-mod groups;
 mod host_sink;
 mod host_store;
 mod items;
@@ -26,7 +25,6 @@ mod text;
 
 pub use boxed::Box;
 pub use fixed_line::FixedLine;
-pub use groups::{Groups, numbers_of, put};
 pub use host_sink::HostSink;
 pub use host_store::HostStore;
 pub use items::{Items, at};

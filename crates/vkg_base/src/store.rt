@@ -43,4 +43,10 @@ pub trait Store {
         ensures counts { LoadCounts (state self.old) (state self.new) name.now result }
         ensures bytes { IfOk result (λ v. Gives (state self.old).files name.now limit v.items) }
         ensures limit { IfOk result (λ v. length v.items ≤ limit) };
+
+    /// A number that who wrote the files cannot know, where the store has one: a seed for hashes. No clause speaks of it, and no answer
+    /// may depend on it.
+    fn seed(&self) -> u64 {
+        0
+    }
 }

@@ -8,6 +8,7 @@ ghost use Rattle.vkg_cli.specs.Work.{IsNumbered, LoadsSchema, LoadsTable, LoadsT
 use crate::{Fault, Stop};
 use std::alloc::Global;
 use vkg_base::{LoadFault, Memory, Store};
+use vkg_hash::Seed;
 use vkg_schema::{Schema, SchemaError, Table, read_schema};
 use vkg_tables::{Database, MOST_BYTES, TableError, TableFault};
 use vkg_terms::iri_safe;
@@ -139,7 +140,8 @@ pub fn load_tables<S: Store>(
     ensures kind { IfErr result (λ why. is_of_query why ≡ false) }
     ensures numbered { IfErr result IsNumbered }
 {
-    let mut db = match Database::new(alloc, schema) {
+    let seed = Seed::new(store.seed());
+    let mut db = match Database::with_seed(alloc, schema, seed) {
         Ok(db) => db,
         Err(Memory) => return Err(Stop::Memory),
     };

@@ -3,7 +3,7 @@ use Rattle.std.specs.Prelude.{◌≡◌, ℕ, Bool, List, filter_map, Option, So
 use Rattle.std.specs.List.{enumerate_from}
 use Rattle.std.specs.Str.{bytes_eq, str_to_ascii_lowercase}
 use Rattle.std.specs.HashMap.{HashMap}
-use Rattle.vkg_base.specs.Groups.{group}
+use Rattle.vkg_hash.specs.Groups.{group}
 use Rattle.vkg_ddl.specs.declared.written.WrittenColumn.{WrittenColumn}
 
 -- the name of the column says this, in small letters

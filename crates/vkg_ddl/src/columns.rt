@@ -2,7 +2,7 @@
 ghost use Rattle.std.specs.Prelude.{◌≡◌, ◌++◌, ◌∷◌, [], ℕ, List, IfOk, OnOk, false, find, slice_get, string_bytes, if◌then◌else◌};
 ghost use Rattle.std.specs.Option.{option_map_or};
 ghost use Rattle.std.specs.Str.{bytes_eq, str_to_ascii_lowercase};
-ghost use Rattle.vkg_base.specs.Groups.{group};
+ghost use Rattle.vkg_hash.specs.Groups.{group};
 ghost use Rattle.vkg_ddl.specs.Index.{IsIndexOf};
 ghost use Rattle.vkg_ddl.specs.NameChecks.{column_place, matches};
 
@@ -11,8 +11,10 @@ use crate::name::Name;
 use crate::written::WrittenColumn;
 use std::alloc::Global;
 use std::collections::HashMap;
+use std::hash::{DefaultHasher, Hasher};
 use std::marker::Model;
-use vkg_base::{Groups, Memory, numbers_of, put};
+use vkg_base::Memory;
+use vkg_hash::{Groups, Seed, numbers_of, put};
 
 /// Columns as they are written, with a table of their names. It is seen as the list of the columns. Where no memory was
 /// left for the table, a name is looked for from the first column on.
@@ -88,11 +90,20 @@ fn folded(alloc: Global, n: &Name) -> Result<String, Memory>
     Ok(n.text.as_str().to_ascii_lowercase(alloc)?)
 }
 
+// A seed by all names.
+fn seed_of(columns: &[WrittenColumn]) -> Seed {
+    let mut hasher = DefaultHasher::new();
+    for column in columns {
+        hasher.write(column.name.text.as_str().as_bytes());
+    }
+    Seed::new(hasher.finish())
+}
+
 // The places of the columns, by their names in small letters.
 fn places_of(alloc: Global, columns: &[WrittenColumn]) -> Result<Groups, Memory>
     ensures { IfOk result (λ index. IsIndexOf columns.now index) }
 {
-    let mut index = HashMap::new(alloc);
+    let mut index = HashMap::with_hasher(alloc, seed_of(columns));
     for (k, column) in columns.iter().enumerate() {
         add(alloc, &mut index, &column.name, k)?;
     }

@@ -2,11 +2,12 @@
 ghost use Rattle.std.specs.Prelude.{◌≡◌, Some, false, filter_map, slice_get};
 ghost use Rattle.std.specs.List.{list_any};
 ghost use Rattle.std.specs.Option.{option_map_or};
-ghost use Rattle.vkg_base.specs.Groups.{group};
+ghost use Rattle.vkg_hash.specs.Groups.{group};
 ghost use Rattle.vkg_plan.specs.Rows.{one_cell, one_row};
 
-use vkg_base::{Groups, Items, numbers_of};
+use vkg_base::Items;
 use vkg_cells::Cell;
+use vkg_hash::{Groups, numbers_of};
 
 /// Whether the row is one of those that the index has at the text.
 pub fn is_there(index: &Groups, rows: &[Items<Cell>], text: &str, row: &[Cell]) -> bool

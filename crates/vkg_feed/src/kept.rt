@@ -1,5 +1,5 @@
 ghost use Rattle.std.specs.Prelude.{◌≡◌, ◌∷◌, ◌++◌, [], ℕ, List, true, false, OnOk, string_bytes};
-ghost use Rattle.vkg_base.specs.Groups.{group};
+ghost use Rattle.vkg_hash.specs.Groups.{group};
 ghost use Rattle.vkg_index.specs.Keys.{row_text};
 ghost use Rattle.vkg_feed.specs.Kept.{Sink, keep, places};
 
@@ -7,9 +7,10 @@ use crate::distinct::is_there;
 use std::alloc::Global;
 use std::collections::HashMap;
 use std::marker::Model;
-use vkg_base::{Groups, Items, Memory, put};
+use vkg_base::{Items, Memory};
 use vkg_cells::Cell;
 use vkg_eval::Row;
+use vkg_hash::{Groups, Seed, put};
 use vkg_index::text_of_row;
 
 /// The rows that come out of some steps: each, or each once.
@@ -38,18 +39,18 @@ impl Kept {
         Kept {
             once: false,
             rows: Items::new(alloc),
-            groups: HashMap::new(alloc),
+            groups: HashMap::with_hasher(alloc, Seed::new(0)),
         }
     }
 
-    /// Keeps each row once, where it first comes; NULL is equal to NULL here.
-    pub fn once(alloc: Global) -> Kept
+    /// Keeps each row once, where it first comes, found by a hash of this seed; NULL is equal to NULL here.
+    pub fn once(alloc: Global, seed: Seed) -> Kept
         ensures { result ≡ record { once = true; rows = [] } }
     {
         Kept {
             once: true,
             rows: Items::new(alloc),
-            groups: HashMap::new(alloc),
+            groups: HashMap::with_hasher(alloc, seed),
         }
     }
 
@@ -77,7 +78,8 @@ impl Kept {
             Ok(()) => Ok(()),
             Err(error) => {
                 self.rows = Items::new(alloc);
-                self.groups = HashMap::new(alloc);
+                let seed = *self.groups.hasher();
+                self.groups = HashMap::with_hasher(alloc, seed);
                 Err(error)
             }
         }

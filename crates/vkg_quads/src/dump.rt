@@ -5,12 +5,13 @@ ghost use Rattle.vkg_schema.specs.Rows.{agree as rows_agree};
 ghost use Rattle.vkg_index.specs.Keys.{has_key};
 ghost use Rattle.vkg_maps.specs.Dataset.{quad_of, quads_of_rule, dataset};
 ghost use Rattle.vkg_quads.specs.Dump.{IsDump, HasLineForEach, dump};
-ghost use Rattle.vkg_base.specs.Groups.{group};
+ghost use Rattle.vkg_hash.specs.Groups.{group};
 
 use crate::quad::line_of_rows;
 use crate::rule_list::rules;
 use std::alloc::Global;
-use vkg_base::{Groups, Lines, Memory};
+use vkg_base::{Lines, Memory};
+use vkg_hash::Groups;
 use vkg_index::{grouped_lent, key_of_lent};
 use vkg_maps::{Mapping, QuadRule};
 use vkg_tables::{Database, TableRow, TableRows, agree, child_columns, parent_columns};

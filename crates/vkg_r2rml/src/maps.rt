@@ -12,6 +12,7 @@ use std::alloc::Global;
 use std::collections::HashMap;
 use std::marker::Model;
 use vkg_base::{Items, Memory};
+use vkg_hash::Seed;
 use vkg_schema::Schema;
 use vkg_term_maps::Graph;
 use vkg_terms::vocabulary::RDF_TYPE;
@@ -23,7 +24,7 @@ use vkg_turtle::Triple;
 pub struct Maps {
     nodes: Items<MapNode>,
     /// The places of the triples maps, by the texts of their nodes.
-    index: HashMap<String, usize>,
+    index: HashMap<String, usize, Seed>,
 }
 
 impl Model for Maps {
@@ -77,7 +78,7 @@ pub fn read_maps(alloc: Global, graph: &Graph<'_>, schema: &Schema) -> Result<Ma
     ensures { IfOk result (λ maps. maps ≡ triples_maps graph.now schema.now) }
 {
     let mut nodes = Items::new(alloc);
-    let mut index = HashMap::new(alloc);
+    let mut index = HashMap::with_hasher(alloc, Seed::of_keys(graph.triples()));
     for t in graph.triples() {
         add_triple(alloc, &mut nodes, &mut index, graph, schema, t)?;
     }
@@ -87,7 +88,7 @@ pub fn read_maps(alloc: Global, graph: &Graph<'_>, schema: &Schema) -> Result<Ma
 fn add_triple(
     alloc: Global,
     nodes: &mut Items<MapNode>,
-    index: &mut HashMap<String, usize>,
+    index: &mut HashMap<String, usize, Seed>,
     graph: &Graph<'_>,
     schema: &Schema,
     t: &Triple,
@@ -131,7 +132,7 @@ fn map_node(
 fn add_node(
     alloc: Global,
     nodes: &mut Items<MapNode>,
-    index: &mut HashMap<String, usize>,
+    index: &mut HashMap<String, usize, Seed>,
     node: MapNode,
 ) -> Result<(), Memory>
     requires index { IsIndexOf nodes.old index.old }
@@ -148,7 +149,7 @@ fn add_node(
 fn find(
     alloc: Global,
     nodes: &Items<MapNode>,
-    index: &HashMap<String, usize>,
+    index: &HashMap<String, usize, Seed>,
     term: &Term,
 ) -> Result<Option<usize>, Memory>
     requires { IsIndexOf nodes.now index.now }

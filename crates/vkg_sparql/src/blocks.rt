@@ -6,6 +6,7 @@ use crate::lexeme::Lexeme;
 use crate::names::Names;
 use std::alloc::Global;
 use vkg_base::{Items, Memory, earlier};
+use vkg_hash::Seed;
 use vkg_tokens::sparql_kinds as kinds;
 use vkg_turtle::Word;
 
@@ -80,11 +81,11 @@ impl Blocks {
 }
 
 /// The first use of a blank node label in a second basic graph pattern.
-pub fn label_again(alloc: Global, lexemes: &[Lexeme]) -> Result<Option<usize>, Memory>
+pub fn label_again(alloc: Global, seed: Seed, lexemes: &[Lexeme]) -> Result<Option<usize>, Memory>
     ensures { IfOk result (λ at. at ≡ label_again lexemes.now) }
 {
     let mut blocks = Blocks {
-        labels: Names::new(alloc),
+        labels: Names::new(alloc, seed),
         braces: Items::new(alloc),
         brace: 0,
         again: None,

@@ -24,6 +24,7 @@ use crate::query_reader::{read_all_triples, read_tree};
 use std::alloc::Global;
 use vkg_base::{Memory, lesser};
 use vkg_grammar::{Forest, Parsed};
+use vkg_hash::Seed;
 use vkg_tokens::Token;
 
 fn fault_if(check: u8, at: Option<usize>, later: Option<QueryFault>) -> Option<QueryFault>
@@ -68,6 +69,7 @@ fn limit_over(
 // The least check that fails, at its least place.
 fn fault_of(
     alloc: Global,
+    seed: Seed,
     size: usize,
     lexemes: &[Lexeme],
     environment: &Environment,
@@ -81,7 +83,7 @@ fn fault_of(
 {
     let unknown = first_place(alloc, Check::Unknown, environment, body)?;
     let relative = first_place(alloc, Check::Relative, environment, body)?;
-    let again = label_again(alloc, body)?;
+    let again = label_again(alloc, seed, body)?;
     let float = first_place(alloc, Check::Float, environment, body)?;
     let wide = first_place(alloc, Check::Wide, environment, body)?;
     let limit = limit_over(alloc, size, lexemes, named.over, forest, at)?;
@@ -135,11 +137,13 @@ fn read_lexemes(
 {
     let forest = &parsed.forest;
     let at = parsed.root;
-    let environment = environment_of(alloc, lexemes, base, forest, at)?;
+    let seed = Seed::of_bytes(text.as_bytes());
+    let environment = environment_of(alloc, seed, lexemes, base, forest, at)?;
     let body = behind(lexemes, body_start(forest, at));
-    let named = named_of(alloc, body)?;
+    let named = named_of(alloc, seed, body)?;
     let checked = fault_of(
         alloc,
+        seed,
         text.len(),
         lexemes,
         &environment,

@@ -8,6 +8,7 @@ use crate::meaning::first_token;
 use std::alloc::Global;
 use vkg_base::{Memory, Text, at as lexeme_at, earlier};
 use vkg_grammar::{Forest, Node};
+use vkg_hash::Seed;
 use vkg_terms::is_absolute;
 use vkg_turtle::{Prefixes, Word, iri_named, or_empty, prefix_of};
 
@@ -31,12 +32,12 @@ fn relative_or(before: Option<usize>, iri: &str, at: usize) -> Option<usize>
 }
 
 impl Environment {
-    fn new(alloc: Global, base: &str) -> Result<Environment, Memory>
+    fn new(alloc: Global, base: &str, seed: Seed) -> Result<Environment, Memory>
         ensures { IfOk result (λ e. e ≡ begun base.now) }
     {
         Ok(Environment {
             base: Text::new(alloc, base)?,
-            prefixes: Prefixes::new(alloc),
+            prefixes: Prefixes::new(alloc, seed),
             relative: None,
         })
     }
@@ -145,6 +146,7 @@ impl Environment {
 /// What the prologue of a query declares.
 pub fn environment_of(
     alloc: Global,
+    seed: Seed,
     lexemes: &[Lexeme],
     base: &str,
     forest: &Forest,
@@ -153,7 +155,7 @@ pub fn environment_of(
     requires { at < node_count forest.now }
     ensures { IfOk result (λ e. e ≡ environment_of lexemes.now base.now (tree forest.now at)) }
 {
-    let mut environment = Environment::new(alloc, base)?;
+    let mut environment = Environment::new(alloc, base, seed)?;
     let Node::Pair(prologue, _) = forest.node(at) else {
         return Ok(environment);
     };

@@ -9,13 +9,14 @@ use itoa::Buffer;
 use std::alloc::Global;
 use std::marker::Model;
 use vkg_base::{Items, Memory, Text};
+use vkg_hash::Seed;
 use vkg_tokens::sparql_kinds as kinds;
 use vkg_turtle::Word;
 
 /// Texts in the order in which they first came, each once. A contract sees their list.
 #[derive(Drop)]
 pub struct Names {
-    texts: IndexSet<String>,
+    texts: IndexSet<String, Seed>,
 }
 
 impl Model for Names {
@@ -27,12 +28,12 @@ impl Model for Names {
 }
 
 impl Names {
-    /// No texts.
-    pub fn new(alloc: Global) -> Names
+    /// No texts. They will be found by hashes of this seed.
+    pub fn new(alloc: Global, seed: Seed) -> Names
         ensures { result ≡ [] }
     {
         Names {
-            texts: IndexSet::new(alloc),
+            texts: IndexSet::with_hasher(alloc, seed),
         }
     }
 
@@ -144,11 +145,11 @@ impl Named {
 }
 
 /// The variables and blank nodes of these tokens, each where it first stands.
-pub fn named_of(alloc: Global, lexemes: &[Lexeme]) -> Result<Named, Memory>
+pub fn named_of(alloc: Global, seed: Seed, lexemes: &[Lexeme]) -> Result<Named, Memory>
     ensures { IfOk result (λ named. named ≡ named_of lexemes.now) }
 {
     let mut named = Named {
-        keys: Names::new(alloc),
+        keys: Names::new(alloc, seed),
         names: Items::new(alloc),
         over: None,
     };

@@ -8,6 +8,7 @@ use crate::stored_table::StoredTable;
 use crate::texts::Texts;
 use std::marker::Model;
 use vkg_cells::{CellRef, SqlType};
+use vkg_hash::Seed;
 
 /// The rows of a stored table, lent. They are seen as the list of the rows.
 #[derive(Drop)]
@@ -56,6 +57,11 @@ impl<'a> TableRows<'a> {
         ensures { result ≡ length self.now }
     {
         self.rows
+    }
+
+    /// A seed for hashes of what stands in the rows.
+    pub fn seed(&self) -> Seed {
+        self.texts.seed()
     }
 
     /// The row at a place.

@@ -7,11 +7,12 @@ use indexmap::IndexSet;
 use std::alloc::Global;
 use std::marker::Model;
 use vkg_base::Memory;
+use vkg_hash::Seed;
 
 /// Texts under numbers, each text once. It is seen as the list of the texts.
 #[derive(Drop)]
 pub struct Texts {
-    texts: IndexSet<String>,
+    texts: IndexSet<String, Seed>,
 }
 
 impl Model for Texts {
@@ -23,13 +24,18 @@ impl Model for Texts {
 }
 
 impl Texts {
-    /// No texts.
-    pub fn new(alloc: Global) -> Texts
+    /// No texts. They will be found by hashes of this seed.
+    pub fn new(alloc: Global, seed: Seed) -> Texts
         ensures { result ≡ [] }
     {
         Texts {
-            texts: IndexSet::new(alloc),
+            texts: IndexSet::with_hasher(alloc, seed),
         }
+    }
+
+    /// The seed of the hashes.
+    pub fn seed(&self) -> Seed {
+        *self.texts.hasher()
     }
 
     /// The text under a number, counted from 0.

@@ -14,6 +14,7 @@ use std::marker::Model;
 use std::mem;
 use vkg_base::{Items, Memory};
 use vkg_cells::Cell;
+use vkg_hash::Seed;
 use vkg_schema::Schema;
 use vkg_store::{Column, StoredTable, TableRows, Texts};
 
@@ -44,14 +45,26 @@ impl Database {
     pub fn new(alloc: Global, schema: &Schema) -> Result<Database, Memory>
         ensures { IfOk result (λ d. d ≡ without_rows schema.now) }
     {
+        Database::with_seed(alloc, schema, Seed::new(0))
+    }
+
+    /// The same, whose texts and keys will be found by hashes of this seed.
+    pub fn with_seed(alloc: Global, schema: &Schema, seed: Seed) -> Result<Database, Memory>
+        ensures { IfOk result (λ d. d ≡ without_rows schema.now) }
+    {
         let tables = empty_tables(alloc, schema)?;
         let schema = schema.copy()?;
-        let texts = Texts::new(alloc);
+        let texts = Texts::new(alloc, seed);
         Ok(Database {
             schema,
             texts,
             tables,
         })
+    }
+
+    /// The seed of the hashes.
+    pub fn seed(&self) -> Seed {
+        self.texts.seed()
     }
 
     pub fn schema(&self) -> &Schema

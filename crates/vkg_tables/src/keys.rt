@@ -8,6 +8,7 @@ use indexmap::IndexSet;
 use std::alloc::Global;
 use vkg_base::Memory;
 use vkg_cells::{CellRef, key_parts};
+use vkg_hash::Seed;
 use vkg_store::{TableRow, TableRows};
 
 // The text by which a cell of a table is found. NULL has none.
@@ -59,7 +60,7 @@ pub fn first_repeat(
     requires { AllByRecursion HasNoTerm rows.now }
     ensures { IfOk result (λ o. o ≡ first_repeat_of key.now rows.now) }
 {
-    let mut seen: IndexSet<Vec<String>> = IndexSet::new(alloc);
+    let mut seen: IndexSet<Vec<String>, Seed> = IndexSet::with_hasher(alloc, rows.seed());
     for i in 0..rows.len() {
         let row = rows.row(i);
         let Some(found) = parts(alloc, &row, key)? else {
@@ -78,10 +79,10 @@ fn known_parts(
     alloc: Global,
     rows: &TableRows<'_>,
     columns: &[usize],
-) -> Result<IndexSet<Vec<String>>, Memory>
+) -> Result<IndexSet<Vec<String>, Seed>, Memory>
     ensures { IfOk result (λ s. (found : List (List ℕ)) → list_any (texts_eq found) (texts_of s.keys) ≡ list_any (texts_eq found) (all_parts columns.now rows.now)) }
 {
-    let mut known: IndexSet<Vec<String>> = IndexSet::new(alloc);
+    let mut known: IndexSet<Vec<String>, Seed> = IndexSet::with_hasher(alloc, rows.seed());
     for i in 0..rows.len() {
         let row = rows.row(i);
         let Some(found) = parts(alloc, &row, columns)? else {
@@ -97,7 +98,7 @@ fn is_orphan(
     alloc: Global,
     row: &TableRow<'_>,
     children: &[usize],
-    known: &IndexSet<Vec<String>>,
+    known: &IndexSet<Vec<String>, Seed>,
 ) -> Result<bool, Memory>
     ensures { IfOk result (λ b. b ≡ is_missing (parts_of_row children.now row.now) (texts_of known.now.keys)) }
 {

@@ -3,7 +3,7 @@ use Rattle.std.specs.Prelude.{◌≡◌, ℕ, List, filter_map, slice_get, Optio
 use Rattle.std.specs.List.{enumerate_from}
 use Rattle.std.specs.Str.{bytes_eq}
 use Rattle.std.specs.HashMap.{HashMap}
-use Rattle.vkg_base.specs.Groups.{group}
+use Rattle.vkg_hash.specs.Groups.{group}
 use Rattle.vkg_terms.specs.Same.{term_name}
 use Rattle.vkg_turtle.specs.declared.triple.Triple.{Triple}
 

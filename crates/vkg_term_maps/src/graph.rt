@@ -13,7 +13,8 @@ use crate::vocabulary::{
 };
 use std::alloc::Global;
 use std::marker::Model;
-use vkg_base::{Groups, Items, Memory, numbers_of};
+use vkg_base::{Items, Memory};
+use vkg_hash::{Groups, numbers_of};
 use vkg_terms::Term;
 use vkg_turtle::Triple;
 

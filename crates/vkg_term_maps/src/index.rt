@@ -1,18 +1,19 @@
 // The places of the triples of a graph, by the texts of their subjects.
 ghost use Rattle.std.specs.Prelude.{◌≡◌, ◌++◌, ◌∷◌, [], ℕ, List, IfOk, OnOk, if◌then◌else◌};
 ghost use Rattle.std.specs.Str.{bytes_eq};
-ghost use Rattle.vkg_base.specs.Groups.{group};
+ghost use Rattle.vkg_hash.specs.Groups.{group};
 ghost use Rattle.vkg_term_maps.specs.Index.{IsIndexOf};
 
 use std::alloc::Global;
 use std::collections::HashMap;
-use vkg_base::{Groups, Memory, put};
+use vkg_base::Memory;
+use vkg_hash::{Groups, Seed, put};
 use vkg_turtle::Triple;
 
 pub(crate) fn index_of(alloc: Global, triples: &[Triple]) -> Result<Groups, Memory>
     ensures { IfOk result (λ index. IsIndexOf triples.now index) }
 {
-    let mut index = HashMap::new(alloc);
+    let mut index = HashMap::with_hasher(alloc, Seed::of_keys(triples));
     for (k, triple) in triples.iter().enumerate() {
         add(alloc, &mut index, triple.subject.name(), k)?;
     }

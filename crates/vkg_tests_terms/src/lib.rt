@@ -5,6 +5,7 @@
 //! the libraries since a crate with tests is proved twice, with them and without.
 //!
 //! - `vkg_base`: files, sinks and lines in memory and of the system, and the containers.
+//! - `vkg_hash`: hashes of a seed, and numbers grouped by texts.
 //! - `vkg_terms`: texts of terms, IRIs resolved and made safe, labels, names and templates.
 //! - `vkg_cells`: fields of every kind read or refused, forms, natural datatypes, well-typed literals, the order.
 //! - `vkg_values`: literals compared and asked, and errors as a third value.
@@ -15,6 +16,8 @@
 mod of_base;
 #[cfg(test)]
 mod of_cells;
+#[cfg(test)]
+mod of_hash;
 #[cfg(test)]
 mod of_index;
 #[cfg(test)]

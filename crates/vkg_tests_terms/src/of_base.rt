@@ -1,10 +1,9 @@
 use std::alloc::Global;
-use std::collections::HashMap;
 use std::fs;
 use std::test::Fail;
 use vkg_base::{
-    Box, FixedLine, Groups, HostSink, HostStore, Items, Lines, LoadFault, MemSink, MemStore,
-    Memory, Sink, Status, Store, Text, earlier, lesser, numbers_of, place_if, put,
+    Box, FixedLine, HostSink, HostStore, Items, Lines, LoadFault, MemSink, MemStore, Memory, Sink,
+    Status, Store, Text, earlier, lesser, place_if,
 };
 
 fn store(alloc: Global, failing: Vec<u64>) -> Result<MemStore, Fail> {
@@ -222,22 +221,4 @@ fn the_least_place_counts(rt: HostRuntime) {
     ];
     let expected = [Some(1), Some(1), Some(2), Some(1), Some(1), None];
     assert_eq!(rt; found.as_slice(), expected.as_slice());
-}
-
-// Each text's places among these.
-fn groups(alloc: Global, texts: &[&str]) -> Result<Groups, Memory> {
-    let mut groups = HashMap::new(alloc);
-    for (number, text) in texts.iter().enumerate() {
-        put(&mut groups, String::from_str(alloc, text)?, number)?;
-    }
-    Ok(groups)
-}
-
-#[test]
-fn numbers_are_put_under_their_texts(rt: HostRuntime) -> Result<(), Fail> {
-    let groups = groups(rt.alloc(), &["a", "b", "a"])?;
-    assert_eq!(rt; groups.len(), 2);
-    assert_eq!(rt; numbers_of(&groups, "a"), [0, 2].as_slice());
-    assert!(rt; numbers_of(&groups, "c").is_empty());
-    Ok(())
 }

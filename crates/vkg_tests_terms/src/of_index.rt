@@ -2,6 +2,7 @@ use std::alloc::Global;
 use std::test::Fail;
 use vkg_base::{Items, Memory, Text};
 use vkg_cells::Cell;
+use vkg_hash::Seed;
 use vkg_index::{grouped, key_of, text_of_row};
 use vkg_terms::Term;
 
@@ -28,7 +29,7 @@ fn rows(alloc: Global) -> Result<Items<Items<Cell>>, Memory> {
 #[test]
 fn rows_of_one_key_are_one_group(rt: HostRuntime) -> Result<(), Fail> {
     let rows = rows(rt.alloc())?;
-    let index = grouped(rt.alloc(), &[0], rows.as_slice())?;
+    let index = grouped(rt.alloc(), Seed::new(0), &[0], rows.as_slice())?;
     let table: [(&str, usize); 4] = [("1\0", 2), ("<http://e/>\0", 1), ("\0", 0), ("2\0", 0)];
     for (key, expected) in table {
         let found = match index.get(key) {

@@ -11,6 +11,7 @@ use crate::triple::Triple;
 use itoa::Buffer;
 use std::alloc::Global;
 use vkg_base::{Items, Memory, Text, earlier};
+use vkg_hash::Seed;
 use vkg_terms::vocabulary::{RDF_TYPE, XSD_BOOLEAN, XSD_DECIMAL, XSD_DOUBLE, XSD_INTEGER};
 use vkg_terms::{Annotation, Term, is_absolute};
 
@@ -108,8 +109,8 @@ fn annotated_triple(triple: Triple, annotation: Annotation) -> Triple
 }
 
 impl Document {
-    /// The state before the first token.
-    pub fn new(alloc: Global, base: &str) -> Result<Document, Memory>
+    /// The state before the first token, with a seed for hashes.
+    pub fn new(alloc: Global, base: &str, seed: Seed) -> Result<Document, Memory>
         ensures { IfOk result (λ d. d ≡ begun base.now) }
     {
         let base = Text::new(alloc, base)?;
@@ -118,7 +119,7 @@ impl Document {
         let predicate = no_iri(alloc)?;
         Ok(Document {
             base,
-            prefixes: Prefixes::new(alloc),
+            prefixes: Prefixes::new(alloc, seed),
             prefix,
             subject,
             predicate,

@@ -13,6 +13,7 @@ use crate::role::Role;
 use std::alloc::Global;
 use vkg_base::Memory;
 use vkg_grammar::{Grammar, Note, ParseFault, Rule, parse, role_in, start_of};
+use vkg_hash::Seed;
 use vkg_tokens::turtle_kinds::KIND_COUNT;
 use vkg_tokens::{Lang, Token, TokensError, tokens, turtle_kinds as kinds};
 
@@ -41,12 +42,13 @@ fn is_choice(role: Role) -> bool
 fn document_of(
     alloc: Global,
     base: &str,
+    seed: Seed,
     notes: &[Note],
     lexemes: &[Lexeme],
 ) -> Result<Document, Memory>
     ensures { IfOk result (λ d. d ≡ document_of notes.now lexemes.now (begun base.now)) }
 {
-    let mut document = Document::new(alloc, base)?;
+    let mut document = Document::new(alloc, base, seed)?;
     let mut rest = lexemes;
     for note in notes {
         let role = role_of(note.symbol);
@@ -107,7 +109,8 @@ pub(crate) fn read_document(alloc: Global, text: &str, base: &str) -> Result<Doc
     match notes_of(alloc, &tokens) {
         Ok(notes) => {
             let lexemes = lexemes_of(alloc, text, &tokens)?;
-            Ok(document_of(alloc, base, &notes, &lexemes)?)
+            let seed = Seed::of_bytes(text.as_bytes());
+            Ok(document_of(alloc, base, seed, &notes, &lexemes)?)
         }
         Err(ParseFault::Memory) => Err(TurtleError::Memory),
         Err(ParseFault::TooDeep { index }) => Err(fault(3, start_of(&tokens, index))),

@@ -6,11 +6,12 @@ use indexmap::IndexMap;
 use std::alloc::Global;
 use std::marker::Model;
 use vkg_base::{Memory, Text};
+use vkg_hash::Seed;
 
 /// The prefixes that are declared, and what each stands for.
 #[derive(Drop)]
 pub struct Prefixes {
-    map: IndexMap<String, Text>,
+    map: IndexMap<String, Text, Seed>,
 }
 
 impl Model for Prefixes {
@@ -23,12 +24,12 @@ impl Model for Prefixes {
 }
 
 impl Prefixes {
-    /// No prefix.
-    pub fn new(alloc: Global) -> Prefixes
+    /// No prefix. They will be found by hashes of this seed.
+    pub fn new(alloc: Global, seed: Seed) -> Prefixes
         ensures { result ≡ [] }
     {
         Prefixes {
-            map: IndexMap::new(alloc),
+            map: IndexMap::with_hasher(alloc, seed),
         }
     }
 

@@ -5,11 +5,12 @@ use crate::triple::Triple;
 use indexmap::IndexSet;
 use std::alloc::Global;
 use vkg_base::{Items, Memory};
+use vkg_hash::Seed;
 
-fn distinct(alloc: Global, triples: Vec<Triple>) -> Result<IndexSet<Triple>, Memory>
+fn distinct(alloc: Global, triples: Vec<Triple>) -> Result<IndexSet<Triple, Seed>, Memory>
     ensures { IfOk result (λ s. s.keys ≡ fold with_triple [] triples.items) }
 {
-    let mut kept: IndexSet<Triple> = IndexSet::new(alloc);
+    let mut kept: IndexSet<Triple, Seed> = IndexSet::with_hasher(alloc, Seed::of_keys(&triples));
     for triple in triples {
         kept.insert_full(triple)?;
     }

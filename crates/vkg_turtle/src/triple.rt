@@ -1,9 +1,10 @@
 ghost use Rattle.std.specs.Prelude.{◌≡◌};
 ghost use Rattle.std.specs.Cmp.{partial_equiv_from_equiv};
+ghost use Rattle.vkg_terms.specs.Same.{annotation_name as name_of_annotation, term_annotation};
 ghost use Rattle.vkg_turtle.specs.SameTriple.{triple_eq, triple_equiv, triple_hash, triple_alike};
 
 use std::hash::{Hash, Hasher};
-use vkg_terms::Term;
+use vkg_terms::{Annotation, Term};
 
 /// A triple of a document, and the byte at which its object begins. `==` compares its terms, wherever it stands.
 #[derive(Drop)]
@@ -12,6 +13,17 @@ pub struct Triple {
     pub predicate: Term,
     pub object: Term,
     pub at: usize,
+}
+
+/// The language tag or the datatype of a literal.
+fn annotation_name(term: &Term) -> &str
+    ensures { result.now ≡ name_of_annotation (term_annotation term.now) }
+{
+    match term {
+        Term::Lit(_, Annotation::Lang(tag)) => tag.as_str(),
+        Term::Lit(_, Annotation::Typed(datatype)) => datatype.iri().as_str(),
+        _ => "",
+    }
 }
 
 impl PartialEq for Triple {
@@ -39,5 +51,6 @@ impl Hash for Triple {
         self.subject.name().hash(state);
         self.predicate.name().hash(state);
         self.object.name().hash(state);
+        annotation_name(&self.object).hash(state);
     }
 }

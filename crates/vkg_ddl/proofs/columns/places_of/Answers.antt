@@ -1,5 +1,5 @@
 use Rattle.std.proofs.Common.{◌<◌, length, arith}
-use Rattle.vkg_base.specs.Groups.{group}
+use Rattle.vkg_hash.specs.Groups.{group}
 use Rattle.vkg_ddl.proofs.IndexLemmas.{places_more}
 use Rattle.vkg_ddl.proofs.columns.places_of.Goals as goal
 

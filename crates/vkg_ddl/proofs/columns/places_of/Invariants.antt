@@ -1,6 +1,6 @@
 use Rattle.std.proofs.Common.{◌≡◌, ℕ, List, ◌++◌, drop}
 use Rattle.std.specs.List.{enumerate_from}
-use Rattle.vkg_base.specs.Groups.{group}
+use Rattle.vkg_hash.specs.Groups.{group}
 use Rattle.vkg_ddl.specs.Index.{places_named}
 use Rattle.vkg_ddl.proofs.columns.places_of.Given as goal
 

@@ -1,7 +1,7 @@
 -- The index has the place of one more row.
 use Rattle.std.proofs.Common.{◌≡◌, ◌∷◌, ◌++◌, [], ℕ, List, string_bytes}
 use Rattle.std.proofs.lemmas.Result.{IfOk-weaker}
-use Rattle.vkg_base.specs.Groups.{group}
+use Rattle.vkg_hash.specs.Groups.{group}
 use Rattle.vkg_feed.specs.Kept.{places}
 use Rattle.vkg_feed.proofs.KeptLemmas.{placed-more}
 use Rattle.vkg_feed.proofs.kept.add_row.Goals as goal

@@ -1,7 +1,7 @@
 use Rattle.std.proofs.Common.{◌<◌, ◌++◌, ◌∷◌, [], ◌∙◌, ap, length, arith}
 use Rattle.std.specs.Prelude.{if◌then◌else◌}
 use Rattle.std.specs.Str.{bytes_eq}
-use Rattle.vkg_base.specs.Groups.{group}
+use Rattle.vkg_hash.specs.Groups.{group}
 use Rattle.vkg_term_maps.proofs.IndexLemmas.{numbers_more}
 use Rattle.vkg_term_maps.proofs.index.index_of.Goals as goal
 

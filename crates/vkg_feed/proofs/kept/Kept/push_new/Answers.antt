@@ -1,7 +1,7 @@
 -- The row is kept exactly where it is none of those of its text.
 use Rattle.std.proofs.Common.{◌≡◌, ◌∷◌, ◌∙◌, [], ap, sym, true}
 use Rattle.std.specs.List.{list_any}
-use Rattle.vkg_base.specs.Groups.{group}
+use Rattle.vkg_hash.specs.Groups.{group}
 use Rattle.vkg_index.specs.Keys.{row_text}
 use Rattle.vkg_plan.specs.Rows.{one_row}
 use Rattle.vkg_feed.specs.Kept.{keep}
