@@ -3,6 +3,7 @@ pub mod FirstFault
 pub mod GatheredLemmas
 pub mod IndexLemmas
 pub mod Least
+pub mod KeptLemmas
 pub mod LeastFault
 pub mod MappingLemmas
 pub mod RuleCount

@@ -13,6 +13,7 @@
 mod checked;
 mod gathered;
 pub mod laws;
+mod kept_maps;
 mod logical_table;
 mod map_error;
 mod map_node;

@@ -1,17 +1,19 @@
-ghost use Rattle.std.specs.Prelude.{◌≡◌, map, IfOk, IfErr, Ok};
+ghost use Rattle.std.specs.Prelude.{◌≡◌, List, map, IfOk, IfErr, Ok};
+ghost use Rattle.vkg_maps.specs.declared.mapping.TriplesMap.{TriplesMap as OneMap};
+ghost use Rattle.vkg_r2rml.specs.KeptMaps.{Keeps};
 ghost use Rattle.vkg_r2rml.specs.Mapping.{mapping_of, mapping_over as mapping_of_maps, count_fault as fault_of_count, in_order as all_in_order, of_maps as of_read_maps, within_rules, IsFault, Fails};
 ghost use Rattle.vkg_r2rml.specs.Faults.{IsFaultless, IsLeast};
 ghost use Rattle.vkg_r2rml.specs.TriplesMaps.{triples_maps};
 ghost use Rattle.vkg_r2rml.specs.TriplesMap.{triples_map as one_map};
 
 use crate::map_error::{MapError, MapFault};
+use crate::kept_maps::KeptMaps;
 use crate::map_node::MapNode;
 use crate::maps::{Maps, read_maps};
-use crate::rule_limit::exceeds_limit;
 use crate::triples_map::triples_map;
 use std::alloc::Global;
-use vkg_base::{Items, Text};
-use vkg_maps::{Mapping, TriplesMap};
+use vkg_base::Text;
+use vkg_maps::Mapping;
 use vkg_schema::Schema;
 use vkg_term_maps::Graph;
 use vkg_turtle::Triple;
@@ -51,8 +53,8 @@ fn mapping_over(
     if let Some(fault) = count_fault(maps.as_slice()) {
         return Err(MapError::Fault(fault));
     }
-    let read = in_order(alloc, graph, schema, base, maps)?;
-    within_limit(alloc, base, read)
+    let kept = in_order(alloc, graph, schema, base, maps)?;
+    within_limit(alloc, base, kept)
 }
 
 fn count_fault(maps: &[MapNode]) -> Option<MapFault>
@@ -70,33 +72,35 @@ fn count_fault(maps: &[MapNode]) -> Option<MapFault>
     }
 }
 
-/// The triples maps, or the first of them of which a check fails.
+/// The triples maps, which are let go once they have too many rules, or the first of them of which a check fails: the limit on rules is
+/// told only where no other check fails.
 fn in_order(
     alloc: Global,
     graph: &Graph<'_>,
     schema: &Schema,
     base: &str,
     maps: &Maps,
-) -> Result<Items<TriplesMap>, MapError>
-    ensures ok { IfOk result (λ read. all_in_order 1 (map (one_map graph.now schema.now base.now maps.now) maps.now) ≡ Ok read) }
+) -> Result<KeptMaps, MapError>
+    ensures ok { IfOk result (λ kept. (read : List OneMap) × (all_in_order 1 (map (one_map graph.now schema.now base.now maps.now) maps.now) ≡ Ok read) × Keeps read kept) }
     ensures err { IfErr result (IsFault (all_in_order 1 (map (one_map graph.now schema.now base.now maps.now) maps.now))) }
 {
-    let mut read = Items::new(alloc);
+    let mut kept = KeptMaps::new(alloc);
     for (k, m) in maps.as_slice().iter().enumerate() {
         match triples_map(alloc, graph, schema, base, maps, m)? {
-            Ok(made) => read.push(made)?,
+            Ok(made) => kept.add(alloc, made)?,
             Err(check) => return Err(MapError::Fault(MapFault { check, map: k + 1 })),
         }
     }
-    Ok(read)
+    Ok(kept)
 }
 
 /// The mapping of these triples maps, or that it has too many rules.
-fn within_limit(alloc: Global, base: &str, maps: Items<TriplesMap>) -> Result<Mapping, MapError>
-    ensures ok { IfOk result (λ mapping. of_read_maps base.now (Ok maps) ≡ Ok mapping) }
-    ensures err { IfErr result (IsFault (of_read_maps base.now (Ok maps))) }
+fn within_limit(alloc: Global, base: &str, kept: KeptMaps) -> Result<Mapping, MapError>
+    ensures ok { IfOk result (λ mapping. (read : List OneMap) → Keeps read kept → of_read_maps base.now (Ok read) ≡ Ok mapping) }
+    ensures err { IfErr result (λ e. (read : List OneMap) → Keeps read kept → IsFault (of_read_maps base.now (Ok read)) e) }
 {
-    if exceeds_limit(maps.as_slice()) {
+    let KeptMaps { maps, left } = kept;
+    if left.is_none() {
         return Err(MapError::Fault(MapFault { check: 22, map: 0 }));
     }
     let base = Text::new(alloc, base)?;

@@ -1,35 +1,16 @@
-// Whether a mapping has more quad rules than it may have.
-ghost use Rattle.std.specs.Prelude.{◌≡◌, ◌≤◌, ◌*◌, ◌-◌, ◌+◌, ◌++◌, nat_lt, sum_by, length};
+// How many quad rules may come behind those of a triples map.
+ghost use Rattle.std.specs.Prelude.{◌≡◌, ◌≤◌, ◌*◌, ◌-◌, ◌+◌, ◌++◌, length};
 ghost use Rattle.std.specs.Option.{SomeIff};
-ghost use Rattle.vkg_maps.specs.QuadRules.{rule_limit, targets};
+ghost use Rattle.vkg_maps.specs.QuadRules.{targets};
 ghost use Rattle.vkg_r2rml.specs.RuleCount.{rules_of_pair, rules_of_pairs, rules_of_map};
 
 use vkg_maps::{PredicateObjectMap, TermMap, TriplesMap};
 
-const RULE_LIMIT: usize = 4096;
-
-/// Whether there are more quad rules than the limit.
-pub fn exceeds_limit(maps: &[TriplesMap]) -> bool
-    ensures { result ≡ nat_lt rule_limit (sum_by rules_of_map maps.now) }
-{
-    exceeds(maps, RULE_LIMIT)
-}
-
-fn exceeds(maps: &[TriplesMap], limit: usize) -> bool
-    ensures { result ≡ nat_lt limit (sum_by rules_of_map maps.now) }
-{
-    let mut left = limit;
-    for m in maps {
-        let Some(rest) = after_map(left, m) else {
-            return true;
-        };
-        left = rest;
-    }
-    false
-}
+/// The most quad rules of a mapping.
+pub const RULE_LIMIT: usize = 4096;
 
 /// What is left of the limit after a triples map, if that is not too much.
-fn after_map(left: usize, m: &TriplesMap) -> Option<usize>
+pub fn after_map(left: usize, m: &TriplesMap) -> Option<usize>
     ensures { SomeIff result (rules_of_map m.now ≤ left) (left - rules_of_map m.now) }
 {
     let graphs = m.graphs.as_slice();
