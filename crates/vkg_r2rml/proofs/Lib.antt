@@ -2,8 +2,8 @@ mod Examples
 pub mod FirstFault
 pub mod GatheredLemmas
 pub mod IndexLemmas
-pub mod Least
 pub mod KeptLemmas
+pub mod Least
 pub mod LeastFault
 pub mod MappingLemmas
 pub mod RuleCount

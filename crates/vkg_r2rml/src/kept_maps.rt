@@ -1,5 +1,5 @@
 // Triples maps that are kept as long as a mapping may have their rules.
-ghost use Rattle.std.specs.Prelude.{◌≡◌, ◌++◌, ◌∷◌, [], List, OnOk};
+ghost use Rattle.std.specs.Prelude.{◌++◌, ◌∷◌, [], List, OnOk};
 ghost use Rattle.vkg_maps.specs.declared.mapping.TriplesMap.{TriplesMap as OneMap};
 ghost use Rattle.vkg_r2rml.specs.KeptMaps.{Keeps};
 

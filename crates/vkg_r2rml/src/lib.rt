@@ -12,8 +12,8 @@
 
 mod checked;
 mod gathered;
-pub mod laws;
 mod kept_maps;
+pub mod laws;
 mod logical_table;
 mod map_error;
 mod map_node;

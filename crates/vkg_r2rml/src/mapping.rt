@@ -6,8 +6,8 @@ ghost use Rattle.vkg_r2rml.specs.Faults.{IsFaultless, IsLeast};
 ghost use Rattle.vkg_r2rml.specs.TriplesMaps.{triples_maps};
 ghost use Rattle.vkg_r2rml.specs.TriplesMap.{triples_map as one_map};
 
-use crate::map_error::{MapError, MapFault};
 use crate::kept_maps::KeptMaps;
+use crate::map_error::{MapError, MapFault};
 use crate::map_node::MapNode;
 use crate::maps::{Maps, read_maps};
 use crate::triples_map::triples_map;
@@ -100,9 +100,9 @@ fn within_limit(alloc: Global, base: &str, kept: KeptMaps) -> Result<Mapping, Ma
     ensures err { IfErr result (λ e. (read : List OneMap) → Keeps read kept → IsFault (of_read_maps base.now (Ok read)) e) }
 {
     let KeptMaps { maps, left } = kept;
-    if left.is_none() {
+    let Some(_) = left else {
         return Err(MapError::Fault(MapFault { check: 22, map: 0 }));
-    }
+    };
     let base = Text::new(alloc, base)?;
     Ok(Mapping { base, maps })
 }
