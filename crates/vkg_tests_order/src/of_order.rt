@@ -61,8 +61,14 @@ const ASCENDING: [(&str, &str); 22] = [
 #[test]
 fn values_ascend(rt: HostRuntime) -> Result<(), Fail> {
     for i in 1..ASCENDING.len() {
-        assert_eq!(rt; compared(rt.alloc(), ASCENDING[i - 1], ASCENDING[i])?, Ordering::Less);
-        assert_eq!(rt; compared(rt.alloc(), ASCENDING[i], ASCENDING[i - 1])?, Ordering::Greater);
+        assert_eq!(rt;
+            compared(rt.alloc(), ASCENDING[i - 1], ASCENDING[i])?,
+            Ordering::Less
+        );
+        assert_eq!(rt;
+            compared(rt.alloc(), ASCENDING[i], ASCENDING[i - 1])?,
+            Ordering::Greater
+        );
     }
     Ok(())
 }
@@ -72,13 +78,21 @@ const TIED: [(&str, &str, &str, &str); 4] = [
     ("integer", "7", "integer", "07"),
     ("integer", "7", "decimal", "7.0"),
     ("boolean", "1", "boolean", "true"),
-    ("dateTime", "2024-02-29T12:00:00.50", "dateTime", "2024-02-29T12:00:00.5"),
+    (
+        "dateTime",
+        "2024-02-29T12:00:00.50",
+        "dateTime",
+        "2024-02-29T12:00:00.5",
+    ),
 ];
 
 #[test]
 fn one_value_ties(rt: HostRuntime) -> Result<(), Fail> {
     for (a_sort, a, b_sort, b) in TIED {
-        assert_eq!(rt; compared(rt.alloc(), (a_sort, a), (b_sort, b))?, Ordering::Equal);
+        assert_eq!(rt;
+            compared(rt.alloc(), (a_sort, a), (b_sort, b))?,
+            Ordering::Equal
+        );
     }
     Ok(())
 }
@@ -89,7 +103,10 @@ const BY_TEXT: [(&str, &str); 4] = [("@", "a!"), ("@", "a"), ("@", "a#"), ("@", 
 #[test]
 fn others_ascend_by_text(rt: HostRuntime) -> Result<(), Fail> {
     for i in 1..BY_TEXT.len() {
-        assert_eq!(rt; compared(rt.alloc(), BY_TEXT[i - 1], BY_TEXT[i])?, Ordering::Less);
+        assert_eq!(rt;
+            compared(rt.alloc(), BY_TEXT[i - 1], BY_TEXT[i])?,
+            Ordering::Less
+        );
     }
     Ok(())
 }
@@ -101,7 +118,12 @@ const OFFERS: [(&str, &str, &str); 3] = [
     ("Ann", "http://e/emp/id=7", "\"Ann\""),
 ];
 
-fn offer(alloc: Global, keeper: &mut Keeper, by_name: bool, entry: (&str, &str, &str)) -> Result<(), Memory> {
+fn offer(
+    alloc: Global,
+    keeper: &mut Keeper,
+    by_name: bool,
+    entry: (&str, &str, &str),
+) -> Result<(), Memory> {
     let mut keys = Vec::new(alloc);
     if by_name {
         keys.push(value(alloc, "\"", entry.0)?)?;
@@ -117,7 +139,14 @@ fn written(alloc: Global, by_name: bool, distinct: bool, slice: Slice) -> Result
     if by_name {
         directions.push(Direction::Ascending)?;
     }
-    let mut keeper = Keeper::new(alloc, Modifiers { directions, distinct, slice });
+    let mut keeper = Keeper::new(
+        alloc,
+        Modifiers {
+            directions,
+            distinct,
+            slice,
+        },
+    );
     for entry in OFFERS {
         offer(alloc, &mut keeper, by_name, entry)?;
     }
@@ -127,24 +156,105 @@ fn written(alloc: Global, by_name: bool, distinct: bool, slice: Slice) -> Result
     Ok(String::from_utf8_lossy(alloc, sink.taken())?)
 }
 
-const ALL: Slice = Slice { offset: 0, limit: None };
+const ALL: Slice = Slice {
+    offset: 0,
+    limit: None,
+};
 
 #[test]
 fn lines_stand_in_the_asked_order(rt: HostRuntime) -> Result<(), Fail> {
     let alloc = rt.alloc();
-    assert_eq!(rt; written(alloc, true, false, ALL)?.as_str(), "\"Bo\"\n\"Ann\"\n\"Ann\"\n");
-    assert_eq!(rt; written(alloc, true, false, Slice { offset: 0, limit: Some(2) })?.as_str(), "\"Bo\"\n\"Ann\"\n");
-    assert_eq!(rt; written(alloc, true, false, Slice { offset: 1, limit: Some(1) })?.as_str(), "\"Ann\"\n");
-    assert_eq!(rt; written(alloc, true, false, Slice { offset: 0, limit: Some(0) })?.as_str(), "");
-    assert_eq!(rt; written(alloc, true, false, Slice { offset: 3, limit: None })?.as_str(), "");
+    assert_eq!(rt;
+        written(alloc, true, false, ALL)?.as_str(),
+        "\"Bo\"\n\"Ann\"\n\"Ann\"\n"
+    );
+    assert_eq!(rt;
+        written(
+            alloc,
+            true,
+            false,
+            Slice {
+                offset: 0,
+                limit: Some(2)
+            }
+        )?
+        .as_str(),
+        "\"Bo\"\n\"Ann\"\n"
+    );
+    assert_eq!(rt;
+        written(
+            alloc,
+            true,
+            false,
+            Slice {
+                offset: 1,
+                limit: Some(1)
+            }
+        )?
+        .as_str(),
+        "\"Ann\"\n"
+    );
+    assert_eq!(rt;
+        written(
+            alloc,
+            true,
+            false,
+            Slice {
+                offset: 0,
+                limit: Some(0)
+            }
+        )?
+        .as_str(),
+        ""
+    );
+    assert_eq!(rt;
+        written(
+            alloc,
+            true,
+            false,
+            Slice {
+                offset: 3,
+                limit: None
+            }
+        )?
+        .as_str(),
+        ""
+    );
     Ok(())
 }
 
 #[test]
 fn each_line_once_at_its_first_place(rt: HostRuntime) -> Result<(), Fail> {
     let alloc = rt.alloc();
-    assert_eq!(rt; written(alloc, false, true, ALL)?.as_str(), "\"Ann\"\n\"Bo\"\n");
-    assert_eq!(rt; written(alloc, false, true, Slice { offset: 0, limit: Some(1) })?.as_str(), "\"Ann\"\n");
-    assert_eq!(rt; written(alloc, false, true, Slice { offset: 1, limit: Some(1) })?.as_str(), "\"Bo\"\n");
+    assert_eq!(rt;
+        written(alloc, false, true, ALL)?.as_str(),
+        "\"Ann\"\n\"Bo\"\n"
+    );
+    assert_eq!(rt;
+        written(
+            alloc,
+            false,
+            true,
+            Slice {
+                offset: 0,
+                limit: Some(1)
+            }
+        )?
+        .as_str(),
+        "\"Ann\"\n"
+    );
+    assert_eq!(rt;
+        written(
+            alloc,
+            false,
+            true,
+            Slice {
+                offset: 1,
+                limit: Some(1)
+            }
+        )?
+        .as_str(),
+        "\"Bo\"\n"
+    );
     Ok(())
 }
