@@ -4,10 +4,10 @@ use Rattle.std.specs.Prelude.{IfOk}
 use Rattle.std.specs.List.{list_any}
 use Rattle.vkg_sparql.specs.Query.{And, Or}
 use Rattle.vkg_sparql.specs.Seen.{condition_seen}
-use Rattle.vkg_sparql.proofs.SeenForms.{seen-And, seen-Compare, seen-Or}
+use Rattle.vkg_sparql.proofs.SeenForms.{seen-And, seen-Compare, seen-Or, seen-Test}
 use Rattle.vkg_algebra.specs.Values.{expression_value}
 use Rattle.vkg_plain.specs.Asks.{asks}
-use Rattle.vkg_plain.proofs.Asked.{OnlyWhere, chain_asks, compare_asks}
+use Rattle.vkg_plain.proofs.Asked.{OnlyWhere, chain_asks, compare_asks, test_asks}
 use Rattle.vkg_plain.specs.Chains.{both_value, either_value}
 use Rattle.vkg_plain.proofs.Chains.{chain_result}
 use Rattle.vkg_plain.proofs.conditions.+value.Goals as goal
@@ -59,3 +59,11 @@ value-returns-in-Compare-clause-wide t c =
     (subst (λ a. IfOk c.value-in-Compare-2.result (λ w. w ≡ expression_value (condition_seen a) s)) c.deref-in-Compare-2.ensures c.value-in-Compare-2.ensures.value)
     (subst (λ a. OnlyWhere c.value-in-Compare-2.result (asks (condition_seen a) s)) c.deref-in-Compare-2.ensures c.value-in-Compare-2.ensures.wide)
     (ap (λ x. asks (condition_seen x) s) c.in-Compare.is ∙ ap (λ x. asks x s) (seen-Compare c.in-Compare.compare c.in-Compare.a c.in-Compare.b))
+
+pub value-returns-in-Test-clause-wide : goal.value-returns-in-Test-clause-wide
+value-returns-in-Test-clause-wide t c =
+    let s = c.args.solution.now in
+    test_asks c.tested.result c.value.result (asks (condition_seen c.in-Test.a) s) (asks (condition_seen c.args.condition.now) s) (expression_value (condition_seen c.in-Test.a) s) c.tested.ensures.wide
+    (subst (λ a. IfOk c.value.result (λ w. w ≡ expression_value (condition_seen a) s)) c.deref.ensures c.value.ensures.value)
+    (subst (λ a. OnlyWhere c.value.result (asks (condition_seen a) s)) c.deref.ensures c.value.ensures.wide)
+    (ap (λ x. asks (condition_seen x) s) c.in-Test.is ∙ ap (λ x. asks x s) (seen-Test c.in-Test.test c.in-Test.a))
