@@ -163,63 +163,16 @@ const ALL: Slice = Slice {
 
 #[test]
 fn lines_stand_in_the_asked_order(rt: HostRuntime) -> Result<(), Fail> {
-    let alloc = rt.alloc();
-    assert_eq!(rt;
-        written(alloc, true, false, ALL)?.as_str(),
-        "\"Bo\"\n\"Ann\"\n\"Ann\"\n"
-    );
-    assert_eq!(rt;
-        written(
-            alloc,
-            true,
-            false,
-            Slice {
-                offset: 0,
-                limit: Some(2)
-            }
-        )?
-        .as_str(),
-        "\"Bo\"\n\"Ann\"\n"
-    );
-    assert_eq!(rt;
-        written(
-            alloc,
-            true,
-            false,
-            Slice {
-                offset: 1,
-                limit: Some(1)
-            }
-        )?
-        .as_str(),
-        "\"Ann\"\n"
-    );
-    assert_eq!(rt;
-        written(
-            alloc,
-            true,
-            false,
-            Slice {
-                offset: 0,
-                limit: Some(0)
-            }
-        )?
-        .as_str(),
-        ""
-    );
-    assert_eq!(rt;
-        written(
-            alloc,
-            true,
-            false,
-            Slice {
-                offset: 3,
-                limit: None
-            }
-        )?
-        .as_str(),
-        ""
-    );
+    for (offset, limit, lines) in [
+        (0, None, "\"Bo\"\n\"Ann\"\n\"Ann\"\n"),
+        (0, Some(2), "\"Bo\"\n\"Ann\"\n"),
+        (1, Some(1), "\"Ann\"\n"),
+        (0, Some(0), ""),
+        (3, None, ""),
+    ] {
+        let found = written(rt.alloc(), true, false, Slice { offset, limit })?;
+        assert_eq!(rt; found.as_str(), lines);
+    }
     Ok(())
 }
 
