@@ -14,8 +14,8 @@ mod expr_texts;
 pub mod laws;
 mod lists;
 mod nodes;
-mod order_text;
+mod order_texts;
 mod plan_texts;
 
-pub use order_text::order_text;
+pub use order_texts::order_text;
 pub use plan_texts::sql_text;

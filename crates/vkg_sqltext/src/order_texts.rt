@@ -1,5 +1,5 @@
 // The text of an order and a slice.
-ghost use Rattle.std.specs.Prelude.{◌≡◌, ◌++◌, ◌<◌, ◌^◌, IfOk, OnOk, codes, suc, string_bytes};
+ghost use Rattle.std.specs.Prelude.{◌≡◌, ◌∷◌, ◌++◌, ◌<◌, ◌^◌, IfOk, OnOk, codes, suc, string_bytes};
 ghost use Rattle.vkg_sqltext.specs.OrderText.{direction_text as text_of_direction, key_text, keys_text, limit_text, more_keys_text, offset_text, order_text as text_of_order};
 
 use crate::lists::push_number;
@@ -24,12 +24,21 @@ fn push_keys(out: &mut String, first: usize, directions: &[Direction]) -> Result
 {
     match directions {
         [] => Ok(()),
-        [direction, rest @ ..] => {
-            out.push_str(" ORDER BY ")?;
-            push_key(out, first as u128, *direction)?;
-            push_more_keys(out, first, rest)
-        }
+        [direction, rest @ ..] => push_some_keys(out, first, *direction, rest),
     }
+}
+
+fn push_some_keys(
+    out: &mut String,
+    first: usize,
+    direction: Direction,
+    rest: &[Direction],
+) -> Result<(), Memory>
+    ensures { OnOk result (string_bytes out.new ≡ string_bytes out.old ++ keys_text first (direction ∷ rest.now)) }
+{
+    out.push_str(" ORDER BY ")?;
+    push_key(out, first as u128, direction)?;
+    push_more_keys(out, first, rest)
 }
 
 /// The keys behind the first one, whose column is this one.
