@@ -8,3 +8,5 @@ pub mod PatternLemmas
 pub mod Rows
 pub mod Translations
 pub mod VisibleLemmas
+pub mod Offers
+pub mod Repeats

@@ -1,14 +1,17 @@
 -- What the definitions give on worked queries, over the dataset of two departments and three employees.
-use Rattle.std.specs.Prelude.{◌≡◌, true, false, List, ℕ, [], ◌∷◌, Some, None, codes, refl}
+use Rattle.std.specs.Prelude.{◌≡◌, true, false, List, ℕ, [], ◌∷◌, Option, Some, None, codes, refl}
 use Rattle.std.specs.Str.{chars}
 use Rattle.std.specs.Char.{encode_utf8}
 use Rattle.vkg_values.specs.declared.operator.Compare.TheVariants as asks
 use Rattle.vkg_sparql.specs.declared.pattern.Node.TheVariants.{Variable, Fixed}
 use Rattle.vkg_sparql.specs.declared.pattern.GraphName.TheVariants.{Each, Named}
 use Rattle.vkg_sparql.specs.declared.query.Selected.TheVariants.{All, Listed}
-use Rattle.vkg_sparql.specs.Query.{Condition, Constant, Bound, Compare, Triples, Filter, Optional, Graph, Groups, End, Last, Union, Query}
+use Rattle.vkg_sparql.specs.Orders.{no_slice}
+use Rattle.vkg_sparql.specs.Query.{Condition, Key, Constant, Bound, Compare, Triples, Filter, Optional, Graph, Groups, End, Last, Union, Query}
 use Rattle.vkg_sparql.specs.Query as expression
 use Rattle.vkg_sparql.specs.Seen.{group_of}
+use Rattle.vkg_order.specs.Listed.{listed}
+use Rattle.vkg_order.specs.Values.{value_cmp}
 use Rattle.vkg_algebra.specs.Algebra.{Bgp, Join, LeftJoin}
 use Rattle.vkg_algebra.specs.Algebra as algebra
 use Rattle.vkg_algebra.specs.Evaluation.{Dataset}
@@ -29,12 +32,12 @@ names_algebra : algebra_of name_query ≡ Bgp (has_name ∷ [])
 names_algebra = refl
 
 names_answer : answer name_query dataset ≡ codes "?n" ∷ codes "\"Ann\"" ∷ codes "\"Ann\"" ∷ codes "\"Bo\"" ∷ []
-unfolding opened
+unfolding opened listed
 names_answer = refl
 
 -- the same with DISTINCT
 distinct_answer : answer (record name_query { distinct = true }) dataset ≡ codes "?n" ∷ codes "\"Ann\"" ∷ codes "\"Bo\"" ∷ []
-unfolding opened
+unfolding opened listed
 distinct_answer = refl
 
 -- an optional department: SELECT ?n ?d { ?e <e:emp#name> ?n OPTIONAL { ?e <e:emp#ref-dept> ?d } }
@@ -48,7 +51,7 @@ abbrev ann_dept : List ℕ
 ann_dept = codes "\"Ann\"\t<http://e/dept/id=1>"
 
 optional_answer : answer optional_query dataset ≡ codes "?n\t?d" ∷ ann_dept ∷ ann_dept ∷ codes "\"Bo\"\t" ∷ []
-unfolding opened
+unfolding opened listed
 optional_answer = refl
 
 -- with FILTER(?n = "Ann") last inside the OPTIONAL's braces: the left variable is seen
@@ -62,7 +65,7 @@ filtered_algebra : algebra_of filtered_query ≡ LeftJoin (Bgp (has_name ∷ [])
 filtered_algebra = refl
 
 filtered_answer : answer filtered_query dataset ≡ codes "?n\t?d" ∷ ann_dept ∷ ann_dept ∷ codes "\"Bo\"\t" ∷ []
-unfolding opened
+unfolding opened listed
 filtered_answer = refl
 
 -- with the OPTIONAL's content in doubled braces: the filter stays inside, where ?n is unbound
@@ -76,7 +79,7 @@ abbrev no_dept : List (List ℕ)
 no_dept = codes "?n\t?d" ∷ codes "\"Ann\"\t" ∷ codes "\"Ann\"\t" ∷ codes "\"Bo\"\t" ∷ []
 
 doubled_answer : answer doubled_query dataset ≡ no_dept
-unfolding opened
+unfolding opened listed
 doubled_answer = refl
 
 -- a filter that is an error inside the optional group, since ?t is unbound: each left solution stays
@@ -84,7 +87,7 @@ abbrev error_query : Query
 error_query = select (1 ∷ 2 ∷ []) (Triples (has_name ∷ []) ∷ Optional (group_of (Triples (has_dept ∷ []) ∷ Filter (expression.Variable 3) ∷ [])) ∷ [])
 
 error_answer : answer error_query dataset ≡ no_dept
-unfolding opened
+unfolding opened listed
 error_answer = refl
 
 -- a pattern matches by identity: SELECT ?e { ?e <e:emp#dept> 01 }
@@ -92,7 +95,7 @@ abbrev identity_query : Query
 identity_query = select (0 ∷ []) (Triples (pattern (Variable 0) (Fixed (e (codes "emp#dept"))) (Fixed (int (codes "01"))) ∷ []) ∷ [])
 
 identity_answer : answer identity_query dataset ≡ codes "?e" ∷ []
-unfolding opened
+unfolding opened listed
 identity_answer = refl
 
 -- a filter compares by value: SELECT ?e { ?e <e:emp#dept> ?d FILTER(?d = 01) }
@@ -100,18 +103,18 @@ abbrev value_query : Query
 value_query = select (0 ∷ []) (Triples (pattern (Variable 0) (Fixed (e (codes "emp#dept"))) (Variable 2) ∷ []) ∷ Filter (Compare asks.Equal (expression.Variable 2) (Constant (int (codes "01")))) ∷ [])
 
 value_answer : answer value_query dataset ≡ codes "?e" ∷ codes "<http://e/emp/id=7>" ∷ codes "<http://e/emp/id=9>" ∷ []
-unfolding opened
+unfolding opened listed
 value_answer = refl
 
 -- SELECT * {}: one solution, without variables
 abbrev empty_query : Query
-empty_query = record { names = []; distinct = false; selected = All; group = End }
+empty_query = record { names = []; distinct = false; selected = All; group = End; keys = []; slice = no_slice }
 
 empty_algebra : algebra_of empty_query ≡ Bgp []
 empty_algebra = refl
 
 empty_answer : answer empty_query dataset ≡ [] ∷ [] ∷ []
-unfolding opened
+unfolding opened listed
 empty_answer = refl
 
 -- a union keeps repeats
@@ -122,7 +125,7 @@ union_algebra : algebra_of union_query ≡ algebra.Union (Bgp (has_name ∷ []))
 union_algebra = refl
 
 union_answer : answer union_query dataset ≡ codes "?n" ∷ codes "\"Ann\"" ∷ codes "\"Ann\"" ∷ codes "\"Ann\"" ∷ codes "\"Ann\"" ∷ codes "\"Bo\"" ∷ codes "\"Bo\"" ∷ []
-unfolding opened
+unfolding opened listed
 union_answer = refl
 
 -- unbound is compatible
@@ -133,7 +136,7 @@ unbound_algebra : algebra_of unbound_query ≡ Join (LeftJoin (Bgp (has_name ∷
 unbound_algebra = refl
 
 unbound_answer : answer unbound_query dataset ≡ codes "?n\t?d\t?t" ∷ codes "\"Ann\"\t<http://e/dept/id=1>\t\"Ore\"" ∷ codes "\"Ann\"\t<http://e/dept/id=1>\t\"Ore\"" ∷ codes "\"Bo\"\t<http://e/dept/id=1>\t\"Ore\"" ∷ []
-unfolding opened
+unfolding opened listed
 unbound_answer = refl
 
 -- GRAPH over a dataset of one named graph; ?g is 0, ?s 1, ?p 2, ?o 3
@@ -143,16 +146,16 @@ one_graph =
     ∷ quad (e (codes "g/1")) (e (codes "emp/9")) (e (codes "name")) (plain (codes "Ann")) ∷ []
 
 abbrev graph_query : Query
-graph_query = record { names = codes "g" ∷ codes "s" ∷ codes "p" ∷ codes "o" ∷ []; distinct = false; selected = Listed (0 ∷ []); group = End }
+graph_query = record { names = codes "g" ∷ codes "s" ∷ codes "p" ∷ codes "o" ∷ []; distinct = false; selected = Listed (0 ∷ []); group = End; keys = []; slice = no_slice }
 
 -- SELECT ?g { GRAPH ?g {} }: one solution a name
 names_of_graphs : answer (record graph_query { group = group_of (Graph (Each 0) End ∷ []) }) one_graph ≡ codes "?g" ∷ codes "<http://e/g/1>" ∷ []
-unfolding opened
+unfolding opened listed
 names_of_graphs = refl
 
 -- SELECT * { GRAPH <e:none> {} }: nothing for an IRI that names no graph
 no_graph : answer (record empty_query { group = group_of (Graph (Named (codes "http://e/none")) End ∷ []) }) one_graph ≡ [] ∷ []
-unfolding opened
+unfolding opened listed
 no_graph = refl
 
 -- SELECT ?g { GRAPH ?g { ?s ?p ?o FILTER(?g = <e:g/1>) } }: ?g is unbound inside
@@ -160,7 +163,7 @@ abbrev inside_query : Query
 inside_query = record graph_query { group = group_of (Graph (Each 0) (group_of (Triples (pattern (Variable 1) (Variable 2) (Variable 3) ∷ []) ∷ Filter (Compare asks.Equal (expression.Variable 0) (Constant (e (codes "g/1")))) ∷ [])) ∷ []) }
 
 inside_answer : answer inside_query one_graph ≡ codes "?g" ∷ []
-unfolding opened
+unfolding opened listed
 inside_answer = refl
 
 -- { ?s ?p ?o FILTER(BOUND(?d)) OPTIONAL { ?s <e:q> ?d FILTER(?d = ?o) } }, where ?s, ?p, ?o, ?d are 0 to 3: a group's filter comes
@@ -174,3 +177,40 @@ both_algebra = refl
 -- a filter between two blocks of triples ends no basic graph pattern
 interrupted_algebra : algebra_of (select (1 ∷ []) (Triples (has_name ∷ []) ∷ Filter is_ann ∷ Triples (has_dept ∷ []) ∷ Filter (Bound 2) ∷ [])) ≡ algebra.Filter (expression.And is_ann (Bound 2)) (Bgp (has_name ∷ has_dept ∷ []))
 interrupted_algebra = refl
+
+-- ORDER BY, OFFSET and LIMIT; ?e, ?n and ?d are 0, 1 and 2
+abbrev by_variable : ℕ → Key
+by_variable v = record { condition = expression.Variable v; descends = false }
+
+abbrev from_greatest : ℕ → Key
+from_greatest v = record { condition = expression.Variable v; descends = true }
+
+-- SELECT ?n { ?e <e:emp#name> ?n } ORDER BY DESC(?n) ?e OFFSET .. LIMIT ..
+abbrev sliced_query : ℕ → Option ℕ → Query
+sliced_query offset limit = record name_query { keys = from_greatest 1 ∷ by_variable 0 ∷ []; slice = record { offset = offset; limit = limit } }
+
+two_first : answer (sliced_query 0 (Some 2)) dataset ≡ codes "?n" ∷ codes "\"Bo\"" ∷ codes "\"Ann\"" ∷ []
+unfolding opened listed value_cmp
+two_first = refl
+
+the_second : answer (sliced_query 1 (Some 1)) dataset ≡ codes "?n" ∷ codes "\"Ann\"" ∷ []
+unfolding opened listed value_cmp
+the_second = refl
+
+none_asked : answer (sliced_query 0 (Some 0)) dataset ≡ codes "?n" ∷ []
+unfolding opened listed value_cmp
+none_asked = refl
+
+none_left : answer (sliced_query 3 None) dataset ≡ codes "?n" ∷ []
+unfolding opened listed value_cmp
+none_left = refl
+
+-- SELECT DISTINCT ?n { ?e <e:emp#name> ?n } ORDER BY DESC(?e): each line stands at its first place
+each_name_once : answer (record name_query { distinct = true; keys = from_greatest 0 ∷ [] }) dataset ≡ codes "?n" ∷ codes "\"Ann\"" ∷ codes "\"Bo\"" ∷ []
+unfolding opened listed value_cmp
+each_name_once = refl
+
+-- SELECT ?n ?d { ?e <e:emp#name> ?n OPTIONAL { ?e <e:emp#ref-dept> ?d } } ORDER BY ?d: nothing comes first
+unbound_first : answer (record optional_query { keys = by_variable 2 ∷ [] }) dataset ≡ codes "?n\t?d" ∷ codes "\"Bo\"\t" ∷ ann_dept ∷ ann_dept ∷ []
+unfolding opened listed value_cmp
+unbound_first = refl

@@ -1,20 +1,25 @@
 -- The answer to a query over a dataset, as lines (SPARQL 1.1 Query Results CSV and TSV Formats, 4).
-use Rattle.std.specs.Prelude.{ℕ, Bool, List, [], ◌∷◌, map, length, slice_get, Option, Some, None, if◌then◌else◌}
+use Rattle.std.specs.Prelude.{ℕ, Bool, List, [], ◌∷◌, ◌++◌, map, length, take, drop, slice_get, Option, Some, None, if◌then◌else◌}
 use Rattle.std.specs.List.{join_with_byte}
 use Rattle.std.specs.Option.{option_eq}
 use Rattle.std.specs.Cmp.Lexicographic.{pointwise}
 use Rattle.vkg_lists.specs.Sets.{distinct}
-use Rattle.vkg_lists.specs.Ascending.{ascending}
 use Rattle.vkg_terms.specs.declared.term.Term.{Term}
 use Rattle.vkg_terms.specs.Same.{term_eq}
 use Rattle.vkg_terms.specs.NQuads.{term_text}
 use Rattle.vkg_sparql.specs.declared.query.Selected.{Selected}
 use Rattle.vkg_sparql.specs.declared.query.Selected.TheVariants.{All, Listed}
-use Rattle.vkg_sparql.specs.Query.{Query}
+use Rattle.vkg_sparql.specs.Query.{Key, Query}
+use Rattle.vkg_order.specs.declared.modifiers.Direction.{Direction}
+use Rattle.vkg_order.specs.declared.modifiers.Direction.TheVariants.{Ascending, Descending}
+use Rattle.vkg_order.specs.declared.modifiers.Modifiers.{Modifiers}
+use Rattle.vkg_order.specs.Entries.{Entry}
+use Rattle.vkg_order.specs.Listed.{listed}
 use Rattle.vkg_algebra.specs.Solutions.{Solution, lookup}
 use Rattle.vkg_algebra.specs.Evaluation.{Dataset, evaluate}
 use Rattle.vkg_algebra.specs.Visible.{visible, each_once}
 use Rattle.vkg_algebra.specs.Translation.{algebra_of}
+use Rattle.vkg_algebra.specs.Values.{expression_value}
 
 -- SPARQL 1.1, 16.1: `*` selects the variables in scope; one that is named twice is listed once
 abbrev pub columns : Selected → List ℕ → List ℕ
@@ -31,10 +36,22 @@ projected vs s = map (lookup s) vs
 abbrev pub solution_eq : Solution → Solution → Bool
 solution_eq s t = pointwise (option_eq term_eq) s t
 
--- SPARQL 1.1, 18.6: the default graph is active; 18.2.5.2 and 18.2.5.3: the selected variables are kept, and DISTINCT keeps each solution once
+-- SPARQL 1.1, 18.6: the solutions of the query's pattern, where the default graph is active
+abbrev pub matches_of : Query → Dataset → List Solution
+matches_of query dataset = evaluate (length query.names) dataset (algebra_of query) None
+
+-- SPARQL 1.1, 15.1: the values of the keys; an error is none, as an unbound variable is
+abbrev pub key_values : List Key → Solution → List (Option Term)
+key_values keys s = map (λ k. expression_value k.condition s) keys
+
+-- the terms of the selected variables, and behind them the values of the keys
+abbrev pub with_keys : Query → Solution → Solution
+with_keys query s = projected (selected_variables query) s ++ key_values query.keys s
+
+-- what a plan gives of a query: these, each once under DISTINCT. Without keys these are SPARQL's, 18.2.5.2 and 18.2.5.3
 abbrev pub solutions_of : Query → Dataset → List Solution
 solutions_of query dataset =
-    let solutions = map (projected (selected_variables query)) (evaluate (length query.names) dataset (algebra_of query) None) in
+    let solutions = map (with_keys query) (matches_of query dataset) in
     if query.distinct then distinct solution_eq solutions else solutions
 
 -- texts with a tab (9) between each two
@@ -57,6 +74,25 @@ place_text None = []
 abbrev pub solution_line : Solution → List ℕ
 solution_line s = tabbed (map place_text s)
 
--- the header, then the solutions' lines in the order of their bytes
+abbrev pub direction_of : Key → Direction
+direction_of k = if k.descends then Descending else Ascending
+
+-- SPARQL 1.1, 15: what ORDER BY, DISTINCT, OFFSET and LIMIT ask
+abbrev pub modifiers_of : Query → Modifiers
+modifiers_of query = record {
+  directions = map direction_of query.keys;
+  distinct = query.distinct;
+  slice = record { offset = query.slice.offset; limit = query.slice.limit };
+}
+
+-- a solution's line, and the values by which it is ordered, which may be of variables that are not selected
+abbrev pub entry_of : Query → Solution → Entry
+entry_of query s = record { keys = key_values query.keys s; line = solution_line (projected (selected_variables query) s) }
+
+-- the same of the terms of the selected variables, which are so many, and the values of the keys behind them
+abbrev pub solution_entry : ℕ → Solution → Entry
+solution_entry n s = record { keys = drop n s; line = solution_line (take n s) }
+
+-- the header, then the solutions' lines in the asked order; where nothing is asked, in that of their bytes
 abbrev pub answer : Query → Dataset → List (List ℕ)
-answer query dataset = header query ∷ ascending (map solution_line (solutions_of query dataset))
+answer query dataset = header query ∷ listed (modifiers_of query) (map (entry_of query) (matches_of query dataset))

@@ -3,11 +3,11 @@
 //! The definitions in `specs/` say what a query means: solution mappings and the operators on them, the value of an
 //! expression, the solutions of a basic graph pattern, the evaluation of an algebra over a dataset, the translation of a
 //! query, and its answer. `translate` answers exactly the algebra that the translation defines, `visible` its variables by
-//! first appearance, and `header` the first line of an answer. The functions of `laws` ensure, in the words of the standard,
+//! first appearance, `header` the first line of an answer, and `modifiers_of` what its order and slice are. The functions of `laws` ensure, in the words of the standard,
 //! what compatible mappings, a left join and the instances of a basic graph pattern are, and that one line is one solution.
 //!
 //! Stands on `vkg_lists` (rows as maps, sets), `vkg_base` (lists and boxes), `vkg_terms` and `vkg_values` (terms and the
-//! operators on them), `vkg_maps` (quads of a dataset) and `vkg_sparql` (queries).
+//! operators on them), `vkg_maps` (quads of a dataset), `vkg_order` (the order of an answer) and `vkg_sparql` (queries).
 #![tactic(auto)]
 
 mod algebra;
@@ -15,6 +15,7 @@ mod filters;
 mod header_line;
 mod join;
 pub mod laws;
+mod modifiers;
 mod selected;
 mod tabs;
 mod translation;
@@ -22,7 +23,8 @@ mod visible_variables;
 
 pub use algebra::{Algebra, Var};
 pub use header_line::header;
-pub use selected::{each_once, selected_variables};
+pub use modifiers::modifiers_of;
+pub use selected::{each_once, selected_count, selected_variables};
 pub use tabs::tabbed;
 pub use translation::translate;
 pub use visible_variables::{variables_of_patterns, visible};

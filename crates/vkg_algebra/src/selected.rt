@@ -1,5 +1,5 @@
 // The variables that a query selects (SPARQL 1.1, 16.1).
-ghost use Rattle.std.specs.Prelude.{◌≡◌, IfOk};
+ghost use Rattle.std.specs.Prelude.{◌≡◌, IfOk, length};
 ghost use Rattle.vkg_sparql.specs.Seen.{query_seen};
 ghost use Rattle.vkg_algebra.specs.Answer.{selected_variables as selected_of};
 ghost use Rattle.vkg_algebra.specs.Seen.{algebra_seen};
@@ -7,6 +7,7 @@ ghost use Rattle.vkg_algebra.specs.Translation.{algebra_of};
 ghost use Rattle.vkg_algebra.specs.Visible.{each_once as once_each};
 
 use crate::algebra::{Algebra, Var};
+use crate::translation::translate;
 use crate::visible_variables::{add, visible};
 use std::alloc::Global;
 use vkg_base::{Items, Memory};
@@ -36,4 +37,13 @@ pub fn selected_variables(
         Selected::All => visible(alloc, algebra),
         Selected::Listed(variables) => each_once(alloc, variables.as_slice()),
     }
+}
+
+/// How many variables a query selects.
+pub fn selected_count(alloc: Global, query: &Query) -> Result<usize, Memory>
+    ensures { IfOk result (λ n. n ≡ length (selected_of (query_seen query.now))) }
+{
+    let algebra = translate(alloc, query)?;
+    let variables = selected_variables(alloc, query, &algebra)?;
+    Ok(variables.len())
 }

@@ -28,7 +28,7 @@ use Rattle.vkg_expr.specs.Expr.{Expr, Const}
 use Rattle.vkg_expr.specs.Value.{truth_of, term_of, truth_cell, term_cell, value_of}
 use Rattle.vkg_expr.proofs.ReadBack.{truth_back}
 use Rattle.vkg_unfolded.specs.FineRows.{IsNarrow}
-use Rattle.vkg_unfolded.specs.Conditions.{gives_truth, to_term, to_truth, expr_of}
+use Rattle.vkg_unfolded.specs.Conditions.{gives_truth, to_term, to_truth, expr_of, value_expr}
 
 not_wide : (t : Term) → IsNarrow (Some t) → is_wide_number t ≡ false
 not_wide t h = not_true (is_wide_number t) h
@@ -117,3 +117,7 @@ module _ (at : ℕ → Expr) (row : Row) (s : Solution) (binds : (v : ℕ) → v
   means (Not a) h = (not3 (truth (expression_value a s)), Prim.rw (truth_meant (gives_truth a) (expr_of at a) row (expression_value a s) (means a h)) refl, refl)
   means (And a b) h = (and3 (truth (expression_value a s)) (truth (expression_value b s)), Prim.rw ((truth_meant (gives_truth a) (expr_of at a) row (expression_value a s) (means a (in_first a b h))), (truth_meant (gives_truth b) (expr_of at b) row (expression_value b s) (means b (in_second a b h)))) refl, refl)
   means (Or a b) h = (or3 (truth (expression_value a s)) (truth (expression_value b s)), Prim.rw ((truth_meant (gives_truth a) (expr_of at a) row (expression_value a s) (means a (in_first a b h))), (truth_meant (gives_truth b) (expr_of at b) row (expression_value b s) (means b (in_second a b h)))) refl, refl)
+
+  -- as a term
+  pub value_means : (c : Condition) → IsNarrowCondition c → Means false (value_of (value_expr at c) row) (expression_value c s)
+  value_means c h = term_meant (gives_truth c) (expr_of at c) row (expression_value c s) (means c h)

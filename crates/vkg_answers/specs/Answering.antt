@@ -1,10 +1,11 @@
 -- When the rows of a plan are the answer to a query.
-use Rattle.std.specs.Prelude.{◌≡◌, ℕ, List, ◌∷◌, map}
+use Rattle.std.specs.Prelude.{◌≡◌, ℕ, List, ◌∷◌, map, length}
 use Rattle.std.specs.List.Sorted.{IsPermutation}
-use Rattle.vkg_lists.specs.Ascending.{ascending}
 use Rattle.vkg_schema.specs.Rows.{Database, Row}
 use Rattle.vkg_sparql.specs.Query.{Query}
-use Rattle.vkg_algebra.specs.Answer.{answer, header, place_text, solutions_of, tabbed}
+use Rattle.vkg_order.specs.Entries.{Entry}
+use Rattle.vkg_order.specs.Listed.{listed}
+use Rattle.vkg_algebra.specs.Answer.{answer, header, modifiers_of, selected_variables, solution_entry, solutions_of}
 use Rattle.vkg_algebra.specs.Solutions.{Solution}
 use Rattle.vkg_expr.specs.Value.{term_of}
 use Rattle.vkg_plan.specs.Kinds.{Tables}
@@ -17,17 +18,17 @@ use Rattle.vkg_row_rules.specs.RowDataset.{dataset_of}
 abbrev pub row_solution : Row → Solution
 row_solution row = map term_of row
 
--- a row of terms as a line
-abbrev pub row_line : Row → List ℕ
-row_line row = tabbed (map (λ c. place_text (term_of c)) row)
+-- a row of a query's plan: the line of the selected variables, and the values of the keys behind them
+abbrev pub row_entry : Query → Row → Entry
+row_entry query row = solution_entry (length (selected_variables query)) (row_solution row)
 
 -- over every database that meets what is asked of it, the rows are the solutions of the query over the dataset of the rules
 abbrev pub GivesSolutions : (Database → Type 0) → Tables → List RowRule → Plan → Query → Type 0
 GivesSolutions Meets schema rules plan query =
     (db : Database) → Meets db → IsPermutation (map row_solution (rows_of schema plan db)) (solutions_of query (dataset_of schema rules db))
 
--- and these rows in any order, as lines in the order of their bytes behind the header, are the query's answer
+-- and these rows in any order give the query's answer: behind the header their lines in the asked order
 abbrev pub GivesAnswer : (Database → Type 0) → Tables → List RowRule → Plan → Query → Type 0
 GivesAnswer Meets schema rules plan query =
     (db : Database) → Meets db → (rows : List Row) → IsPermutation rows (rows_of schema plan db) →
-    header query ∷ ascending (map row_line rows) ≡ answer query (dataset_of schema rules db)
+    header query ∷ listed (modifiers_of query) (map (row_entry query) rows) ≡ answer query (dataset_of schema rules db)

@@ -21,7 +21,7 @@ use Rattle.vkg_sparql.specs.Reading.{IsQuery}
 use Rattle.vkg_sparql.specs.Seen.{query_seen}
 use Rattle.vkg_algebra.specs.Answer.{answer}
 use Rattle.vkg_plan.specs.Rows.{rows_of}
-use Rattle.vkg_sqltext.specs.Text.{sql_text}
+use Rattle.vkg_cli.specs.QueryText.{query_text}
 use Rattle.vkg_rewrite.specs.Lines.{result_lines}
 use Rattle.vkg_rewrite.specs.Rewritten.{rewritten}
 use Rattle.vkg_cli.specs.Words.{Command, DumpWords, QueryWords, SqlWords, dump, query, sql}
@@ -80,7 +80,8 @@ pub record IsDump (words : DumpWords) (files : Files) (lines : List (List ℕ)) 
   pub lines_are : IsLinesOf lines (dataset mapping db)
 
 -- The lines are the answer to the query over the very dataset that `dump` writes: the header, then the solutions that the
--- algebra of SPARQL gives, as often as it gives them. They are also the lines of the rows of the plan that `sql` prints.
+-- algebra of SPARQL gives, in the asked order and then byte order, as often as it gives them or, under DISTINCT, once, and of them the
+-- asked slice. They are also the lines, so ordered, of the rows of the plan that `sql` prints.
 pub record IsAnswered (words : QueryWords) (files : Files) (lines : List (List ℕ)) : Type 0 where
   pub schema : List Table
   pub db : Database
@@ -91,7 +92,7 @@ pub record IsAnswered (words : QueryWords) (files : Files) (lines : List (List �
   pub lines_are : lines ≡ answer (query_seen asked) (dataset mapping db)
   pub rows_are : lines ≡ result_lines (query_seen asked) (rows_of schema (rewritten schema mapping (query_seen asked)) db)
 
--- The one line is the text of the query's plan over the schema and the mapping.
+-- The one line is the text of the query's plan over the schema and the mapping, and behind it the asked order and slice.
 pub record IsSql (words : SqlWords) (files : Files) (lines : List (List ℕ)) : Type 0 where
   pub schema : List Table
   pub says_schema : HoldsSchema files words.schema schema
@@ -99,7 +100,7 @@ pub record IsSql (words : SqlWords) (files : Files) (lines : List (List ℕ)) : 
   pub mapped : HoldsMapping files words.mapping schema words.base mapping
   pub asked : Query
   pub says : HoldsQuery files words.query words.base asked
-  pub lines_are : lines ≡ sql_text schema (rewritten schema mapping (query_seen asked)) ∷ []
+  pub lines_are : lines ≡ query_text schema mapping (query_seen asked) ∷ []
 
 -- what a command writes
 abbrev pub IsTextOf : Command → Files → List (List ℕ) → Type 0

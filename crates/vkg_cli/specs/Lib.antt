@@ -3,6 +3,7 @@ pub mod Clauses
 pub mod CommandLine
 pub mod FaultLine
 pub mod Headline
+pub mod QueryText
 pub mod Stages
 pub mod Words
 pub mod Work

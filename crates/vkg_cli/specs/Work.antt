@@ -32,8 +32,7 @@ use Rattle.vkg_sparql.specs.declared.query.Query.{Query}
 use Rattle.vkg_sparql.specs.Reading.{IsQuery, IsFirstFault as IsQueryFault}
 use Rattle.vkg_sparql.specs.Seen.{query_seen}
 use Rattle.vkg_algebra.specs.Answer.{answer}
-use Rattle.vkg_sqltext.specs.Text.{sql_text}
-use Rattle.vkg_rewrite.specs.Rewritten.{rewritten}
+use Rattle.vkg_cli.specs.QueryText.{query_text}
 use Rattle.vkg_cli.specs.Stages.{AsksUpTo, Stage, Settles, Loads, Then, listed}
 use Rattle.vkg_cli.specs.Words.{Command, dump, query, sql}
 
@@ -191,9 +190,9 @@ Dumps db mapping outcome = outcome ≡ Ok (dump_of (dataset mapping db))
 unfoldable pub GivesAnswer : Seen → Mapping → Query → Result (List (List ℕ)) Stop → Type 0
 GivesAnswer db mapping asked outcome = outcome ≡ Ok (answer (query_seen asked) (dataset mapping db.tables))
 
--- the text of the query's plan
+-- the text of the query's plan, its order and its slice
 abbrev pub GivesText : List Table → Mapping → Query → Result (List (List ℕ)) Stop → Type 0
-GivesText schema mapping asked outcome = outcome ≡ Ok (sql_text schema (rewritten schema mapping (query_seen asked)) ∷ [])
+GivesText schema mapping asked outcome = outcome ≡ Ok (query_text schema mapping (query_seen asked) ∷ [])
 
 -- the work of a command
 abbrev pub Works : Command → Files → Stage (List (List ℕ))

@@ -71,8 +71,8 @@ pub const MAPPING_CHECKS: [&str; 23] = [
 /// The checks of the terms that a mapping makes of rows, by their number.
 pub const DATA_CHECKS: [&str; 4] = ["", "X01 not an IRI", "X02 ill-typed", "X03 number too wide"];
 
-/// The checks of a query, by their number.
-pub const QUERY_CHECKS: [&str; 10] = [
+/// The checks of a query, by their number. No check is 10 or 11.
+pub const QUERY_CHECKS: [&str; 13] = [
     "",
     "Q01 lexical",
     "Q02 grammar",
@@ -83,6 +83,9 @@ pub const QUERY_CHECKS: [&str; 10] = [
     "Q07 outside the profile",
     "Q08 number too wide",
     "Q09 limit",
+    "",
+    "",
+    "Q12 slice number",
 ];
 
 fn words_at(checks: &[&'static str], check: u8) -> &'static str

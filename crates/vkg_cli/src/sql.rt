@@ -1,10 +1,11 @@
 // The text of `sql`.
-ghost use Rattle.std.specs.Prelude.{◌≡◌, [], ◌∷◌, IfErr, IfOk, false, true};
+ghost use Rattle.std.specs.Prelude.{◌≡◌, [], ◌∷◌, ◌++◌, IfErr, IfOk, OnOk, false, length, string_bytes, true};
 ghost use Rattle.vkg_terms.specs.Iri.{is_absolute};
 ghost use Rattle.vkg_maps.specs.Within.{IsWithin};
 ghost use Rattle.vkg_sparql.specs.Seen.{query_seen};
-ghost use Rattle.vkg_sqltext.specs.Text.{sql_text as text_of_plan};
-ghost use Rattle.vkg_rewrite.specs.Rewritten.{rewritten};
+ghost use Rattle.vkg_algebra.specs.Answer.{modifiers_of, selected_variables};
+ghost use Rattle.vkg_sqltext.specs.OrderText.{order_text};
+ghost use Rattle.vkg_cli.specs.QueryText.{query_text as text_of_query};
 ghost use Rattle.vkg_cli.specs.Headline.{IsTextOf};
 ghost use Rattle.vkg_cli.specs.Stages.{Answers, Ran, Where};
 ghost use Rattle.vkg_cli.specs.Words.{command_seen};
@@ -17,26 +18,52 @@ use crate::mapping::load_mapping;
 use crate::query::load_query;
 use crate::words::SqlOptions;
 use std::alloc::Global;
+use vkg_algebra::{modifiers_of, selected_count};
 use vkg_base::{Box, Lines, Memory, Store};
 use vkg_maps::Mapping;
 use vkg_rewrite::rewrite;
 use vkg_schema::Schema;
 use vkg_sparql::Query;
-use vkg_sqltext::sql_text;
+use vkg_sqltext::{order_text, sql_text};
 
-/// The line of a query's plan.
-fn plan_line(
+/// The text of a query's plan, and behind it its order and its slice.
+fn query_text(
+    alloc: Global,
+    schema: &Schema,
+    mapping: &Mapping,
+    query: &Query,
+) -> Result<String, Memory>
+    requires { IsWithin schema.now mapping.now }
+    ensures { IfOk result (λ s. string_bytes s ≡ text_of_query schema.now mapping.now (query_seen query.now)) }
+{
+    let plan = Box::new(alloc, rewrite(alloc, schema, mapping, query)?)?;
+    let mut text = sql_text(alloc, &plan, schema)?;
+    push_order(alloc, &mut text, query)?;
+    Ok(text)
+}
+
+fn push_order(alloc: Global, text: &mut String, query: &Query) -> Result<(), Memory>
+    ensures { OnOk result (string_bytes text.new ≡ string_bytes text.old ++ order_text (length (selected_variables (query_seen query.now))) (modifiers_of (query_seen query.now))) }
+{
+    let first = selected_count(alloc, query)?;
+    let modifiers = modifiers_of(alloc, query)?;
+    let order = order_text(alloc, first, &modifiers)?;
+    text.push_str(order.as_str())?;
+    Ok(())
+}
+
+/// The line of a query.
+fn query_line(
     alloc: Global,
     schema: &Schema,
     mapping: &Mapping,
     query: &Query,
 ) -> Result<Lines, Memory>
     requires { IsWithin schema.now mapping.now }
-    ensures { IfOk result (λ lines. lines ≡ text_of_plan schema.now (rewritten schema.now mapping.now (query_seen query.now)) ∷ []) }
+    ensures { IfOk result (λ lines. lines ≡ text_of_query schema.now mapping.now (query_seen query.now) ∷ []) }
 {
-    let plan = Box::new(alloc, rewrite(alloc, schema, mapping, query)?)?;
     let mut lines = Lines::new(alloc);
-    lines.push(sql_text(alloc, &plan, schema)?)?;
+    lines.push(query_text(alloc, schema, mapping, query)?)?;
     Ok(lines)
 }
 
@@ -47,7 +74,7 @@ fn text(alloc: Global, schema: &Schema, mapping: &Mapping, query: &Query) -> Res
     ensures kind { IfErr result (λ why. is_of_tables why ≡ false) }
     ensures numbered { IfErr result IsNumbered }
 {
-    match plan_line(alloc, schema, mapping, query) {
+    match query_line(alloc, schema, mapping, query) {
         Ok(lines) => Ok(lines),
         Err(Memory) => Err(Stop::Memory),
     }

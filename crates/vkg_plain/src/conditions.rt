@@ -74,8 +74,9 @@ pub fn kept(
     Ok(out)
 }
 
+/// The value of an expression; none is an error.
 #[cycle(value)]
-fn value(
+pub fn value(
     alloc: Global,
     condition: &Condition,
     solution: &[Option<Term>],

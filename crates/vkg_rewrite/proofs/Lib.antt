@@ -1,4 +1,5 @@
 pub mod Answered
+pub mod Offers
 pub mod Permuted
 pub mod RowLists
 pub mod Typed

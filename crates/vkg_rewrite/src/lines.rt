@@ -1,60 +1,91 @@
 // The lines of a query's rows.
-ghost use Rattle.std.specs.Prelude.{◌≡◌, IfOk, map, string_bytes};
-ghost use Rattle.vkg_lists.specs.Ascending.{ascending};
+ghost use Rattle.std.specs.Prelude.{◌≡◌, [], IfOk, drop, map, string_bytes, take};
 ghost use Rattle.vkg_expr.specs.Value.{term_of};
+ghost use Rattle.vkg_order.specs.Kept.{StandFor};
+ghost use Rattle.vkg_order.specs.Listed.{listed};
 ghost use Rattle.vkg_sparql.specs.Seen.{query_seen};
-ghost use Rattle.vkg_algebra.specs.Answer.{place_text as text_of_place};
-ghost use Rattle.vkg_answers.specs.Answering.{row_line as line_of_row};
+ghost use Rattle.vkg_algebra.specs.Answer.{modifiers_of as modifiers_of_query, place_text as text_of_place, solution_entry, solution_line};
+ghost use Rattle.vkg_answers.specs.Answering.{row_entry};
 ghost use Rattle.vkg_rewrite.specs.Lines.{result_lines as lines_of};
 
 use std::alloc::Global;
-use vkg_algebra::{header, tabbed};
+use vkg_algebra::{header, modifiers_of, selected_count, tabbed};
 use vkg_base::{Items, Lines, Memory, Text};
 use vkg_cells::Cell;
 use vkg_engine::Rows;
+use vkg_order::Keeper;
 use vkg_sparql::Query;
 use vkg_terms::term_text;
 
-/// The header of a query, then the lines of these rows, ascending by bytes, repeats kept. NULL is an unbound variable.
+/// The header of a query, then the lines of these rows, in the asked order: each row is one of the query's plan, the selected
+/// variables and behind them the values of the keys. NULL is an unbound variable.
 #[tactic(auto, unfolding(crate::specs::Lines::result_lines))]
 pub fn result_lines(alloc: Global, query: &Query, rows: &Rows) -> Result<Lines, Memory>
     ensures { IfOk result (λ lines. lines ≡ lines_of (query_seen query.now) rows.now) }
 {
     let mut lines = Lines::new(alloc);
     lines.push(header(alloc, query)?)?;
-    lines.append(sorted_lines(alloc, rows)?)?;
+    lines.append(ordered_lines(alloc, query, rows)?)?;
     Ok(lines)
 }
 
-/// The lines of the rows, ascending by bytes.
-fn sorted_lines(alloc: Global, rows: &Rows) -> Result<Lines, Memory>
-    ensures { IfOk result (λ lines. lines ≡ ascending (map line_of_row rows.now)) }
+/// The lines of the rows, in the asked order.
+fn ordered_lines(alloc: Global, query: &Query, rows: &Rows) -> Result<Lines, Memory>
+    ensures { IfOk result (λ lines. lines ≡ listed (modifiers_of_query (query_seen query.now)) (map (row_entry (query_seen query.now)) rows.now)) }
 {
-    let mut lines = row_lines(alloc, rows)?;
-    lines.sort();
-    Ok(lines)
+    let width = selected_count(alloc, query)?;
+    let keeper = Keeper::new(alloc, modifiers_of(alloc, query)?);
+    let keeper = offered(alloc, width, rows, keeper)?;
+    keeper.finish(alloc)
 }
 
-fn row_lines(alloc: Global, rows: &Rows) -> Result<Lines, Memory>
-    ensures { IfOk result (λ lines. lines ≡ map line_of_row rows.now) }
+/// The keeper, to which these rows were offered; the first so many cells of each are its line, and the others the values of keys.
+fn offered(alloc: Global, width: usize, rows: &Rows, keeper: Keeper) -> Result<Keeper, Memory>
+    requires { keeper.held ≡ [] }
+    ensures asked { IfOk result (λ k. k.modifiers ≡ keeper.modifiers) }
+    ensures stands { IfOk result (λ k. StandFor keeper.modifiers k.held (map (λ row. solution_entry width (map term_of row)) rows.now)) }
 {
-    let mut lines = Lines::new(alloc);
+    let mut keeper = keeper;
     for i in 0..rows.len() {
-        lines.push(row_line(alloc, rows.row(i))?)?;
+        let (shown, behind) = parts(rows.row(i), width);
+        keeper.offer(copied(alloc, behind)?, row_line(alloc, shown)?)?;
     }
-    Ok(lines)
+    Ok(keeper)
+}
+
+/// The first so many cells, and those behind them.
+#[tactic(auto, using(std::proofs::lemmas::List::drop_all, std::proofs::lemmas::List::take_all))]
+fn parts(row: &[Cell], width: usize) -> (&[Cell], &[Cell])
+    ensures shown { result.0.now ≡ take width row.now }
+    ensures behind { result.1.now ≡ drop width row.now }
+{
+    if width <= row.len() {
+        row.split_at(width)
+    } else {
+        (row, &[])
+    }
+}
+
+fn copied(alloc: Global, cells: &[Cell]) -> Result<Vec<Cell>, Memory>
+    ensures { IfOk result (λ v. v.items ≡ cells.now) }
+{
+    let mut copied = Vec::new(alloc);
+    for cell in cells {
+        copied.push(cell.copy()?)?;
+    }
+    Ok(copied)
 }
 
 /// The terms of a row, with tabs between them.
 fn row_line(alloc: Global, row: &[Cell]) -> Result<String, Memory>
-    ensures { IfOk result (λ s. string_bytes s ≡ line_of_row row.now) }
+    ensures { IfOk result (λ s. string_bytes s ≡ solution_line (map term_of row.now)) }
 {
     let texts = place_texts(alloc, row)?;
     tabbed(alloc, texts.as_slice())
 }
 
 fn place_texts(alloc: Global, row: &[Cell]) -> Result<Items<Text>, Memory>
-    ensures { IfOk result (λ ts. ts ≡ map (λ c. text_of_place (term_of c)) row.now) }
+    ensures { IfOk result (λ ts. ts ≡ map text_of_place (map term_of row.now)) }
 {
     let mut texts = Items::new(alloc);
     for cell in row {

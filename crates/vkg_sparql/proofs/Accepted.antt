@@ -10,16 +10,14 @@ use Rattle.vkg_grammar.proofs.Shapes.{made}
 use Rattle.vkg_grammar.specs.Trees.{Tree, leaf, pair, size, IsFrom}
 use Rattle.vkg_lists.proofs.Members.{each_from_recursion}
 use Rattle.vkg_tokens.specs.declared.cutting.Token.{Token}
-use Rattle.vkg_sparql.specs.declared.checks.Check.TheVariants.{Wide}
 use Rattle.vkg_sparql.specs.declared.fault.QueryError.{QueryError}
 use Rattle.vkg_sparql.specs.declared.fault.QueryFault.{QueryFault}
 use Rattle.vkg_sparql.specs.declared.grammar_table.TheConstants.{SPARQL}
 use Rattle.vkg_sparql.specs.declared.meaning.Meaning.{Meaning}
 use Rattle.vkg_sparql.specs.declared.pattern.Node.{Node}
 use Rattle.vkg_sparql.specs.declared.pattern.Node.TheVariants as node
-use Rattle.vkg_sparql.specs.declared.symbols.TheConstants.{QUERY_12, QUERY}
+use Rattle.vkg_sparql.specs.declared.symbols.TheConstants.{QUERY_16, QUERY}
 use Rattle.vkg_sparql.specs.declared.query.Query.{Query}
-use Rattle.vkg_sparql.specs.Checks.{first_place}
 use Rattle.vkg_sparql.specs.Groups.{query_value}
 use Rattle.vkg_sparql.specs.Lawful.{IsLawful, IsLawfulQuery, IsWithin}
 use Rattle.vkg_sparql.specs.Meanings.{first_token}
@@ -28,7 +26,7 @@ use Rattle.vkg_sparql.specs.Seen.{query_seen}
 use Rattle.vkg_sparql.proofs.LawfulParts.{Fits, Good, good_query}
 use Rattle.vkg_sparql.proofs.Made.{Has, has}
 use Rattle.vkg_sparql.proofs.Numbering.{Marked, as_many, is_variable_key}
-use Rattle.vkg_sparql.proofs.Standing.{all_meanings, node_at, operand_at, variable_at}
+use Rattle.vkg_sparql.proofs.Standing.{Fine, all_meanings, node_at, operand_at, variable_at}
 
 -- ---- nodes whose keys are of their kinds are lawful
 
@@ -57,32 +55,34 @@ fault_free : (check : ℕ) (at : Option ℕ) (later : Option QueryFault) → fau
 fault_free check None later h = (refl, h)
 fault_free check (Some at) later h = absurd (cc)
 
-no_wide : (r : Read) → fault_of r ≡ None → first_place Wide r.environment r.body ≡ None
-no_wide r h =
+fine_body : (r : Read) → fault_of r ≡ None → Fine r.environment r.body
+fine_body r h =
     let a = fault_free 4 _ _ h in
     let b = fault_free 5 _ _ a.1 in
     let c = fault_free 6 _ _ b.1 in
     let d = fault_free 7 _ _ c.1 in
-    (fault_free 8 _ _ d.1).0
+    let e = fault_free 8 _ _ d.1 in
+    let f = fault_free 9 _ _ e.1 in
+    record { wide = e.0; slice = (fault_free 12 _ _ f.1).0 }
 
 names_stay : (names : List (List ℕ)) (ms : List Meaning) (t : Tree) → (query_value names ms t).names ≡ names
-names_stay names ms (pair prologue (pair select (pair kind (pair selection (pair where_ g))))) = refl
+names_stay names ms (pair prologue (pair select (pair kind (pair selection (pair where_ (pair g (pair order slice))))))) = refl
 names_stay names ms t = refl
 
 -- where what is behind the prologue begins
-begins : (ks : List ℕ) (at : ℕ) (t : Tree) → Has SPARQL ks 0 t QUERY_12 → IsFrom at t → first_token t ≡ at
+begins : (ks : List ℕ) (at : ℕ) (t : Tree) → Has SPARQL ks 0 t QUERY_16 → IsFrom at t → first_token t ≡ at
 begins ks at (pair (leaf i) t) h f = f.0
 begins ks at (pair t u) h f = absurd (h.0)
 begins ks at t h f = absurd (h)
 
 record Behind (ks : List ℕ) (prologue rest : Tree) : Type 0 where
-  has : Has SPARQL ks (first_token rest) rest QUERY_12
+  has : Has SPARQL ks (first_token rest) rest QUERY_16
 
-behind : (ks : List ℕ) (prologue rest : Tree) → IsTree SPARQL ks QUERY_12 rest → IsFrom 0 (pair prologue rest) → Behind ks prologue rest
+behind : (ks : List ℕ) (prologue rest : Tree) → IsTree SPARQL ks QUERY_16 rest → IsFrom 0 (pair prologue rest) → Behind ks prologue rest
 behind ks prologue rest w f =
     let at : ℕ = 0 + size prologue in
-    let begun : first_token rest ≡ at = begins ks at rest (has SPARQL ks 0 rest QUERY_12 at w f.1 (omega arith)) f.1 in
-    record { has = has SPARQL ks (first_token rest) rest QUERY_12 at w f.1 (omega (arith, begun)) }
+    let begun : first_token rest ≡ at = begins ks at rest (has SPARQL ks 0 rest QUERY_16 at w f.1 (omega arith)) f.1 in
+    record { has = has SPARQL ks (first_token rest) rest QUERY_16 at w f.1 (omega (arith, begun)) }
 
 module _ (text base : List ℕ) (tokens : List Token) where
   lawful_pair : (prologue rest : Tree) → Behind (kinds_of tokens) prologue rest → fault_of (read text tokens base (pair prologue rest)) ≡ None
@@ -90,7 +90,7 @@ module _ (text base : List ℕ) (tokens : List Token) where
   lawful_pair prologue rest w h =
       let r : Read = read text tokens base (pair prologue rest) in
       let start : ℕ = first_token rest in
-      let fine : first_place Wide r.environment r.body ≡ None = no_wide r h in
+      let fine : Fine r.environment r.body = fine_body r h in
       let keys : List (List ℕ) = r.named.keys in
       lawful_nodes keys _ _ (as_many r.body ∙ ap length (sym (names_stay r.named.names (all_meanings text tokens r.environment start) (pair prologue rest))))
       (good_query keys (kinds_of tokens) start (all_meanings text tokens r.environment start)

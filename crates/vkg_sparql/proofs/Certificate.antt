@@ -4,12 +4,12 @@ use Rattle.vkg_grammar.specs.Certified.{Claim}
 use Rattle.vkg_grammar.specs.Form.{IsWellFormed}
 use Rattle.vkg_grammar.specs.Grammar.{IsLL1}
 use Rattle.vkg_grammar.proofs.Certifying.{passes_ll1, is_grammar, has_kinds}
-use Rattle.vkg_tokens.specs.declared.sparql_kinds.TheConstants.{OPEN_BRACE, CLOSE_BRACE, OPEN, CLOSE, OPEN_BRACKET, CLOSE_BRACKET, DOT, SEMICOLON, COMMA, EQUAL, NOT_EQUAL, LESS, GREATER, LESS_EQUAL, GREATER_EQUAL, NOT, AND, OR, STAR, CARETS, IRIREF, PNAME_NS, PNAME_LN, BLANK, VAR, STRING, LANGTAG, INTEGER, DECIMAL, IS_A, TRUE, FALSE, BASE, PREFIX, SELECT, DISTINCT, REDUCED, WHERE, OPTIONAL, GRAPH, FILTER, UNION, BOUND, SAMETERM, ISIRI, ISURI, ISBLANK, ISLITERAL, ISNUMERIC, STR, LANG, DATATYPE, STRLEN, STRSTARTS, STRENDS, CONTAINS, KIND_COUNT}
+use Rattle.vkg_tokens.specs.declared.sparql_kinds.TheConstants.{OPEN_BRACE, CLOSE_BRACE, OPEN, CLOSE, OPEN_BRACKET, CLOSE_BRACKET, DOT, SEMICOLON, COMMA, EQUAL, NOT_EQUAL, LESS, GREATER, LESS_EQUAL, GREATER_EQUAL, NOT, AND, OR, STAR, CARETS, IRIREF, PNAME_NS, PNAME_LN, BLANK, VAR, STRING, LANGTAG, INTEGER, DECIMAL, IS_A, TRUE, FALSE, BASE, PREFIX, SELECT, DISTINCT, REDUCED, WHERE, OPTIONAL, GRAPH, FILTER, UNION, BOUND, SAMETERM, ISIRI, ISURI, ISBLANK, ISLITERAL, ISNUMERIC, STR, LANG, DATATYPE, STRLEN, STRSTARTS, STRENDS, CONTAINS, ORDER, BY, LIMIT, OFFSET, ASC, DESC, KIND_COUNT}
 use Rattle.vkg_sparql.specs.declared.grammar_table.TheConstants.{SPARQL}
 
 abbrev claims : List Claim
 claims =
-    record { empty = false; begin = BASE ∷ PREFIX ∷ SELECT ∷ []; follow = []; level = 9 }
+    record { empty = false; begin = BASE ∷ PREFIX ∷ SELECT ∷ []; follow = []; level = 10 }
     ∷ record { empty = false; begin = BASE ∷ []; follow = IRIREF ∷ []; level = 1 }
     ∷ record { empty = false; begin = IRIREF ∷ []; follow = OPEN_BRACE ∷ CLOSE_BRACE ∷ CLOSE ∷ OPEN_BRACKET ∷ CLOSE_BRACKET ∷ DOT ∷ SEMICOLON ∷ COMMA ∷ EQUAL ∷ NOT_EQUAL ∷ LESS ∷ GREATER ∷ LESS_EQUAL ∷ GREATER_EQUAL ∷ AND ∷ OR ∷ IRIREF ∷ PNAME_NS ∷ PNAME_LN ∷ BLANK ∷ VAR ∷ STRING ∷ INTEGER ∷ DECIMAL ∷ IS_A ∷ TRUE ∷ FALSE ∷ BASE ∷ PREFIX ∷ SELECT ∷ OPTIONAL ∷ GRAPH ∷ FILTER ∷ []; level = 1 }
     ∷ record { empty = false; begin = BASE ∷ []; follow = BASE ∷ PREFIX ∷ SELECT ∷ []; level = 2 }
@@ -25,13 +25,13 @@ claims =
     ∷ record { empty = false; begin = DISTINCT ∷ REDUCED ∷ []; follow = STAR ∷ VAR ∷ []; level = 2 }
     ∷ record { empty = true; begin = DISTINCT ∷ REDUCED ∷ []; follow = STAR ∷ VAR ∷ []; level = 1 }
     ∷ record { empty = false; begin = STAR ∷ VAR ∷ []; follow = OPEN_BRACE ∷ WHERE ∷ []; level = 2 }
-    ∷ record { empty = false; begin = VAR ∷ []; follow = OPEN_BRACE ∷ CLOSE_BRACE ∷ CLOSE ∷ OPEN_BRACKET ∷ CLOSE_BRACKET ∷ DOT ∷ SEMICOLON ∷ COMMA ∷ EQUAL ∷ NOT_EQUAL ∷ LESS ∷ GREATER ∷ LESS_EQUAL ∷ GREATER_EQUAL ∷ AND ∷ OR ∷ IRIREF ∷ PNAME_NS ∷ PNAME_LN ∷ BLANK ∷ VAR ∷ STRING ∷ INTEGER ∷ DECIMAL ∷ IS_A ∷ TRUE ∷ FALSE ∷ WHERE ∷ OPTIONAL ∷ GRAPH ∷ FILTER ∷ []; level = 1 }
+    ∷ record { empty = false; begin = VAR ∷ []; follow = OPEN_BRACE ∷ CLOSE_BRACE ∷ OPEN ∷ CLOSE ∷ OPEN_BRACKET ∷ CLOSE_BRACKET ∷ DOT ∷ SEMICOLON ∷ COMMA ∷ EQUAL ∷ NOT_EQUAL ∷ LESS ∷ GREATER ∷ LESS_EQUAL ∷ GREATER_EQUAL ∷ AND ∷ OR ∷ IRIREF ∷ PNAME_NS ∷ PNAME_LN ∷ BLANK ∷ VAR ∷ STRING ∷ INTEGER ∷ DECIMAL ∷ IS_A ∷ TRUE ∷ FALSE ∷ WHERE ∷ OPTIONAL ∷ GRAPH ∷ FILTER ∷ BOUND ∷ SAMETERM ∷ ISIRI ∷ ISURI ∷ ISBLANK ∷ ISLITERAL ∷ ISNUMERIC ∷ STR ∷ LANG ∷ DATATYPE ∷ STRLEN ∷ STRSTARTS ∷ STRENDS ∷ CONTAINS ∷ LIMIT ∷ OFFSET ∷ ASC ∷ DESC ∷ []; level = 1 }
     ∷ record { empty = true; begin = VAR ∷ []; follow = OPEN_BRACE ∷ WHERE ∷ []; level = 1 }
     ∷ record { empty = false; begin = VAR ∷ []; follow = OPEN_BRACE ∷ WHERE ∷ []; level = 2 }
     ∷ record { empty = false; begin = STAR ∷ []; follow = OPEN_BRACE ∷ WHERE ∷ []; level = 1 }
     ∷ record { empty = false; begin = WHERE ∷ []; follow = OPEN_BRACE ∷ []; level = 1 }
     ∷ record { empty = true; begin = WHERE ∷ []; follow = OPEN_BRACE ∷ []; level = 1 }
-    ∷ record { empty = false; begin = OPEN_BRACE ∷ []; follow = OPEN_BRACE ∷ CLOSE_BRACE ∷ OPEN_BRACKET ∷ DOT ∷ IRIREF ∷ PNAME_NS ∷ PNAME_LN ∷ BLANK ∷ VAR ∷ STRING ∷ INTEGER ∷ DECIMAL ∷ TRUE ∷ FALSE ∷ OPTIONAL ∷ GRAPH ∷ FILTER ∷ UNION ∷ []; level = 4 }
+    ∷ record { empty = false; begin = OPEN_BRACE ∷ []; follow = OPEN_BRACE ∷ CLOSE_BRACE ∷ OPEN_BRACKET ∷ DOT ∷ IRIREF ∷ PNAME_NS ∷ PNAME_LN ∷ BLANK ∷ VAR ∷ STRING ∷ INTEGER ∷ DECIMAL ∷ TRUE ∷ FALSE ∷ OPTIONAL ∷ GRAPH ∷ FILTER ∷ UNION ∷ ORDER ∷ LIMIT ∷ OFFSET ∷ []; level = 4 }
     ∷ record { empty = false; begin = OPEN_BRACE ∷ []; follow = OPEN_BRACE ∷ CLOSE_BRACE ∷ OPEN_BRACKET ∷ IRIREF ∷ PNAME_NS ∷ PNAME_LN ∷ BLANK ∷ VAR ∷ STRING ∷ INTEGER ∷ DECIMAL ∷ TRUE ∷ FALSE ∷ OPTIONAL ∷ GRAPH ∷ FILTER ∷ []; level = 1 }
     ∷ record { empty = false; begin = OPEN_BRACKET ∷ IRIREF ∷ PNAME_NS ∷ PNAME_LN ∷ BLANK ∷ VAR ∷ STRING ∷ INTEGER ∷ DECIMAL ∷ TRUE ∷ FALSE ∷ []; follow = OPEN_BRACE ∷ CLOSE_BRACE ∷ OPTIONAL ∷ GRAPH ∷ FILTER ∷ []; level = 9 }
     ∷ record { empty = false; begin = OPEN_BRACKET ∷ IRIREF ∷ PNAME_NS ∷ PNAME_LN ∷ BLANK ∷ VAR ∷ STRING ∷ INTEGER ∷ DECIMAL ∷ TRUE ∷ FALSE ∷ []; follow = OPEN_BRACE ∷ CLOSE_BRACE ∷ DOT ∷ OPTIONAL ∷ GRAPH ∷ FILTER ∷ []; level = 8 }
@@ -48,7 +48,7 @@ claims =
     ∷ record { empty = false; begin = CARETS ∷ LANGTAG ∷ []; follow = OPEN_BRACE ∷ CLOSE_BRACE ∷ CLOSE ∷ CLOSE_BRACKET ∷ DOT ∷ SEMICOLON ∷ COMMA ∷ EQUAL ∷ NOT_EQUAL ∷ LESS ∷ GREATER ∷ LESS_EQUAL ∷ GREATER_EQUAL ∷ AND ∷ OR ∷ IRIREF ∷ PNAME_NS ∷ PNAME_LN ∷ VAR ∷ IS_A ∷ OPTIONAL ∷ GRAPH ∷ FILTER ∷ []; level = 2 }
     ∷ record { empty = true; begin = CARETS ∷ LANGTAG ∷ []; follow = OPEN_BRACE ∷ CLOSE_BRACE ∷ CLOSE ∷ CLOSE_BRACKET ∷ DOT ∷ SEMICOLON ∷ COMMA ∷ EQUAL ∷ NOT_EQUAL ∷ LESS ∷ GREATER ∷ LESS_EQUAL ∷ GREATER_EQUAL ∷ AND ∷ OR ∷ IRIREF ∷ PNAME_NS ∷ PNAME_LN ∷ VAR ∷ IS_A ∷ OPTIONAL ∷ GRAPH ∷ FILTER ∷ []; level = 1 }
     ∷ record { empty = false; begin = STRING ∷ []; follow = OPEN_BRACE ∷ CLOSE_BRACE ∷ CLOSE ∷ CLOSE_BRACKET ∷ DOT ∷ SEMICOLON ∷ COMMA ∷ EQUAL ∷ NOT_EQUAL ∷ LESS ∷ GREATER ∷ LESS_EQUAL ∷ GREATER_EQUAL ∷ AND ∷ OR ∷ IRIREF ∷ PNAME_NS ∷ PNAME_LN ∷ VAR ∷ IS_A ∷ OPTIONAL ∷ GRAPH ∷ FILTER ∷ []; level = 2 }
-    ∷ record { empty = false; begin = INTEGER ∷ []; follow = OPEN_BRACE ∷ CLOSE_BRACE ∷ CLOSE ∷ CLOSE_BRACKET ∷ DOT ∷ SEMICOLON ∷ COMMA ∷ EQUAL ∷ NOT_EQUAL ∷ LESS ∷ GREATER ∷ LESS_EQUAL ∷ GREATER_EQUAL ∷ AND ∷ OR ∷ IRIREF ∷ PNAME_NS ∷ PNAME_LN ∷ VAR ∷ IS_A ∷ OPTIONAL ∷ GRAPH ∷ FILTER ∷ []; level = 1 }
+    ∷ record { empty = false; begin = INTEGER ∷ []; follow = OPEN_BRACE ∷ CLOSE_BRACE ∷ CLOSE ∷ CLOSE_BRACKET ∷ DOT ∷ SEMICOLON ∷ COMMA ∷ EQUAL ∷ NOT_EQUAL ∷ LESS ∷ GREATER ∷ LESS_EQUAL ∷ GREATER_EQUAL ∷ AND ∷ OR ∷ IRIREF ∷ PNAME_NS ∷ PNAME_LN ∷ VAR ∷ IS_A ∷ OPTIONAL ∷ GRAPH ∷ FILTER ∷ LIMIT ∷ OFFSET ∷ []; level = 1 }
     ∷ record { empty = false; begin = DECIMAL ∷ []; follow = OPEN_BRACE ∷ CLOSE_BRACE ∷ CLOSE ∷ CLOSE_BRACKET ∷ DOT ∷ SEMICOLON ∷ COMMA ∷ EQUAL ∷ NOT_EQUAL ∷ LESS ∷ GREATER ∷ LESS_EQUAL ∷ GREATER_EQUAL ∷ AND ∷ OR ∷ IRIREF ∷ PNAME_NS ∷ PNAME_LN ∷ VAR ∷ IS_A ∷ OPTIONAL ∷ GRAPH ∷ FILTER ∷ []; level = 1 }
     ∷ record { empty = false; begin = TRUE ∷ []; follow = OPEN_BRACE ∷ CLOSE_BRACE ∷ CLOSE ∷ CLOSE_BRACKET ∷ DOT ∷ SEMICOLON ∷ COMMA ∷ EQUAL ∷ NOT_EQUAL ∷ LESS ∷ GREATER ∷ LESS_EQUAL ∷ GREATER_EQUAL ∷ AND ∷ OR ∷ IRIREF ∷ PNAME_NS ∷ PNAME_LN ∷ VAR ∷ IS_A ∷ OPTIONAL ∷ GRAPH ∷ FILTER ∷ []; level = 1 }
     ∷ record { empty = false; begin = FALSE ∷ []; follow = OPEN_BRACE ∷ CLOSE_BRACE ∷ CLOSE ∷ CLOSE_BRACKET ∷ DOT ∷ SEMICOLON ∷ COMMA ∷ EQUAL ∷ NOT_EQUAL ∷ LESS ∷ GREATER ∷ LESS_EQUAL ∷ GREATER_EQUAL ∷ AND ∷ OR ∷ IRIREF ∷ PNAME_NS ∷ PNAME_LN ∷ VAR ∷ IS_A ∷ OPTIONAL ∷ GRAPH ∷ FILTER ∷ []; level = 1 }
@@ -97,7 +97,7 @@ claims =
     ∷ record { empty = false; begin = GRAPH ∷ []; follow = OPEN_BRACE ∷ CLOSE_BRACE ∷ OPEN_BRACKET ∷ DOT ∷ IRIREF ∷ PNAME_NS ∷ PNAME_LN ∷ BLANK ∷ VAR ∷ STRING ∷ INTEGER ∷ DECIMAL ∷ TRUE ∷ FALSE ∷ OPTIONAL ∷ GRAPH ∷ FILTER ∷ []; level = 6 }
     ∷ record { empty = false; begin = FILTER ∷ []; follow = OPEN ∷ BOUND ∷ SAMETERM ∷ ISIRI ∷ ISURI ∷ ISBLANK ∷ ISLITERAL ∷ ISNUMERIC ∷ STR ∷ LANG ∷ DATATYPE ∷ STRLEN ∷ STRSTARTS ∷ STRENDS ∷ CONTAINS ∷ []; level = 1 }
     ∷ record { empty = false; begin = OPEN ∷ BOUND ∷ SAMETERM ∷ ISIRI ∷ ISURI ∷ ISBLANK ∷ ISLITERAL ∷ ISNUMERIC ∷ STR ∷ LANG ∷ DATATYPE ∷ STRLEN ∷ STRSTARTS ∷ STRENDS ∷ CONTAINS ∷ []; follow = OPEN_BRACE ∷ CLOSE_BRACE ∷ OPEN_BRACKET ∷ DOT ∷ IRIREF ∷ PNAME_NS ∷ PNAME_LN ∷ BLANK ∷ VAR ∷ STRING ∷ INTEGER ∷ DECIMAL ∷ TRUE ∷ FALSE ∷ OPTIONAL ∷ GRAPH ∷ FILTER ∷ []; level = 6 }
-    ∷ record { empty = false; begin = OPEN ∷ []; follow = OPEN_BRACE ∷ CLOSE_BRACE ∷ CLOSE ∷ OPEN_BRACKET ∷ DOT ∷ COMMA ∷ EQUAL ∷ NOT_EQUAL ∷ LESS ∷ GREATER ∷ LESS_EQUAL ∷ GREATER_EQUAL ∷ AND ∷ OR ∷ IRIREF ∷ PNAME_NS ∷ PNAME_LN ∷ BLANK ∷ VAR ∷ STRING ∷ INTEGER ∷ DECIMAL ∷ TRUE ∷ FALSE ∷ OPTIONAL ∷ GRAPH ∷ FILTER ∷ []; level = 10 }
+    ∷ record { empty = false; begin = OPEN ∷ []; follow = OPEN_BRACE ∷ CLOSE_BRACE ∷ OPEN ∷ CLOSE ∷ OPEN_BRACKET ∷ DOT ∷ COMMA ∷ EQUAL ∷ NOT_EQUAL ∷ LESS ∷ GREATER ∷ LESS_EQUAL ∷ GREATER_EQUAL ∷ AND ∷ OR ∷ IRIREF ∷ PNAME_NS ∷ PNAME_LN ∷ BLANK ∷ VAR ∷ STRING ∷ INTEGER ∷ DECIMAL ∷ TRUE ∷ FALSE ∷ OPTIONAL ∷ GRAPH ∷ FILTER ∷ BOUND ∷ SAMETERM ∷ ISIRI ∷ ISURI ∷ ISBLANK ∷ ISLITERAL ∷ ISNUMERIC ∷ STR ∷ LANG ∷ DATATYPE ∷ STRLEN ∷ STRSTARTS ∷ STRENDS ∷ CONTAINS ∷ LIMIT ∷ OFFSET ∷ ASC ∷ DESC ∷ []; level = 10 }
     ∷ record { empty = false; begin = OPEN ∷ []; follow = OPEN ∷ NOT ∷ IRIREF ∷ PNAME_NS ∷ PNAME_LN ∷ VAR ∷ STRING ∷ INTEGER ∷ DECIMAL ∷ TRUE ∷ FALSE ∷ BOUND ∷ SAMETERM ∷ ISIRI ∷ ISURI ∷ ISBLANK ∷ ISLITERAL ∷ ISNUMERIC ∷ STR ∷ LANG ∷ DATATYPE ∷ STRLEN ∷ STRSTARTS ∷ STRENDS ∷ CONTAINS ∷ []; level = 1 }
     ∷ record { empty = false; begin = OPEN ∷ NOT ∷ IRIREF ∷ PNAME_NS ∷ PNAME_LN ∷ VAR ∷ STRING ∷ INTEGER ∷ DECIMAL ∷ TRUE ∷ FALSE ∷ BOUND ∷ SAMETERM ∷ ISIRI ∷ ISURI ∷ ISBLANK ∷ ISLITERAL ∷ ISNUMERIC ∷ STR ∷ LANG ∷ DATATYPE ∷ STRLEN ∷ STRSTARTS ∷ STRENDS ∷ CONTAINS ∷ []; follow = CLOSE ∷ COMMA ∷ []; level = 8 }
     ∷ record { empty = false; begin = OPEN ∷ NOT ∷ IRIREF ∷ PNAME_NS ∷ PNAME_LN ∷ VAR ∷ STRING ∷ INTEGER ∷ DECIMAL ∷ TRUE ∷ FALSE ∷ BOUND ∷ SAMETERM ∷ ISIRI ∷ ISURI ∷ ISBLANK ∷ ISLITERAL ∷ ISNUMERIC ∷ STR ∷ LANG ∷ DATATYPE ∷ STRLEN ∷ STRSTARTS ∷ STRENDS ∷ CONTAINS ∷ []; follow = CLOSE ∷ COMMA ∷ OR ∷ []; level = 7 }
@@ -106,12 +106,12 @@ claims =
     ∷ record { empty = false; begin = NOT ∷ []; follow = OPEN ∷ IRIREF ∷ PNAME_NS ∷ PNAME_LN ∷ VAR ∷ STRING ∷ INTEGER ∷ DECIMAL ∷ TRUE ∷ FALSE ∷ BOUND ∷ SAMETERM ∷ ISIRI ∷ ISURI ∷ ISBLANK ∷ ISLITERAL ∷ ISNUMERIC ∷ STR ∷ LANG ∷ DATATYPE ∷ STRLEN ∷ STRSTARTS ∷ STRENDS ∷ CONTAINS ∷ []; level = 1 }
     ∷ record { empty = true; begin = NOT ∷ []; follow = OPEN ∷ IRIREF ∷ PNAME_NS ∷ PNAME_LN ∷ VAR ∷ STRING ∷ INTEGER ∷ DECIMAL ∷ TRUE ∷ FALSE ∷ BOUND ∷ SAMETERM ∷ ISIRI ∷ ISURI ∷ ISBLANK ∷ ISLITERAL ∷ ISNUMERIC ∷ STR ∷ LANG ∷ DATATYPE ∷ STRLEN ∷ STRSTARTS ∷ STRENDS ∷ CONTAINS ∷ []; level = 1 }
     ∷ record { empty = false; begin = OPEN ∷ IRIREF ∷ PNAME_NS ∷ PNAME_LN ∷ VAR ∷ STRING ∷ INTEGER ∷ DECIMAL ∷ TRUE ∷ FALSE ∷ BOUND ∷ SAMETERM ∷ ISIRI ∷ ISURI ∷ ISBLANK ∷ ISLITERAL ∷ ISNUMERIC ∷ STR ∷ LANG ∷ DATATYPE ∷ STRLEN ∷ STRSTARTS ∷ STRENDS ∷ CONTAINS ∷ []; follow = CLOSE ∷ COMMA ∷ EQUAL ∷ NOT_EQUAL ∷ LESS ∷ GREATER ∷ LESS_EQUAL ∷ GREATER_EQUAL ∷ AND ∷ OR ∷ []; level = 4 }
-    ∷ record { empty = false; begin = BOUND ∷ SAMETERM ∷ ISIRI ∷ ISURI ∷ ISBLANK ∷ ISLITERAL ∷ ISNUMERIC ∷ STR ∷ LANG ∷ DATATYPE ∷ STRLEN ∷ STRSTARTS ∷ STRENDS ∷ CONTAINS ∷ []; follow = OPEN_BRACE ∷ CLOSE_BRACE ∷ CLOSE ∷ OPEN_BRACKET ∷ DOT ∷ COMMA ∷ EQUAL ∷ NOT_EQUAL ∷ LESS ∷ GREATER ∷ LESS_EQUAL ∷ GREATER_EQUAL ∷ AND ∷ OR ∷ IRIREF ∷ PNAME_NS ∷ PNAME_LN ∷ BLANK ∷ VAR ∷ STRING ∷ INTEGER ∷ DECIMAL ∷ TRUE ∷ FALSE ∷ OPTIONAL ∷ GRAPH ∷ FILTER ∷ []; level = 5 }
+    ∷ record { empty = false; begin = BOUND ∷ SAMETERM ∷ ISIRI ∷ ISURI ∷ ISBLANK ∷ ISLITERAL ∷ ISNUMERIC ∷ STR ∷ LANG ∷ DATATYPE ∷ STRLEN ∷ STRSTARTS ∷ STRENDS ∷ CONTAINS ∷ []; follow = OPEN_BRACE ∷ CLOSE_BRACE ∷ OPEN ∷ CLOSE ∷ OPEN_BRACKET ∷ DOT ∷ COMMA ∷ EQUAL ∷ NOT_EQUAL ∷ LESS ∷ GREATER ∷ LESS_EQUAL ∷ GREATER_EQUAL ∷ AND ∷ OR ∷ IRIREF ∷ PNAME_NS ∷ PNAME_LN ∷ BLANK ∷ VAR ∷ STRING ∷ INTEGER ∷ DECIMAL ∷ TRUE ∷ FALSE ∷ OPTIONAL ∷ GRAPH ∷ FILTER ∷ BOUND ∷ SAMETERM ∷ ISIRI ∷ ISURI ∷ ISBLANK ∷ ISLITERAL ∷ ISNUMERIC ∷ STR ∷ LANG ∷ DATATYPE ∷ STRLEN ∷ STRSTARTS ∷ STRENDS ∷ CONTAINS ∷ LIMIT ∷ OFFSET ∷ ASC ∷ DESC ∷ []; level = 5 }
     ∷ record { empty = false; begin = BOUND ∷ []; follow = OPEN ∷ []; level = 1 }
-    ∷ record { empty = false; begin = CLOSE ∷ []; follow = OPEN_BRACE ∷ CLOSE_BRACE ∷ CLOSE ∷ OPEN_BRACKET ∷ DOT ∷ COMMA ∷ EQUAL ∷ NOT_EQUAL ∷ LESS ∷ GREATER ∷ LESS_EQUAL ∷ GREATER_EQUAL ∷ AND ∷ OR ∷ IRIREF ∷ PNAME_NS ∷ PNAME_LN ∷ BLANK ∷ VAR ∷ STRING ∷ INTEGER ∷ DECIMAL ∷ TRUE ∷ FALSE ∷ OPTIONAL ∷ GRAPH ∷ FILTER ∷ []; level = 1 }
-    ∷ record { empty = false; begin = VAR ∷ []; follow = OPEN_BRACE ∷ CLOSE_BRACE ∷ CLOSE ∷ OPEN_BRACKET ∷ DOT ∷ COMMA ∷ EQUAL ∷ NOT_EQUAL ∷ LESS ∷ GREATER ∷ LESS_EQUAL ∷ GREATER_EQUAL ∷ AND ∷ OR ∷ IRIREF ∷ PNAME_NS ∷ PNAME_LN ∷ BLANK ∷ VAR ∷ STRING ∷ INTEGER ∷ DECIMAL ∷ TRUE ∷ FALSE ∷ OPTIONAL ∷ GRAPH ∷ FILTER ∷ []; level = 2 }
-    ∷ record { empty = false; begin = OPEN ∷ []; follow = OPEN_BRACE ∷ CLOSE_BRACE ∷ CLOSE ∷ OPEN_BRACKET ∷ DOT ∷ COMMA ∷ EQUAL ∷ NOT_EQUAL ∷ LESS ∷ GREATER ∷ LESS_EQUAL ∷ GREATER_EQUAL ∷ AND ∷ OR ∷ IRIREF ∷ PNAME_NS ∷ PNAME_LN ∷ BLANK ∷ VAR ∷ STRING ∷ INTEGER ∷ DECIMAL ∷ TRUE ∷ FALSE ∷ OPTIONAL ∷ GRAPH ∷ FILTER ∷ []; level = 3 }
-    ∷ record { empty = false; begin = BOUND ∷ []; follow = OPEN_BRACE ∷ CLOSE_BRACE ∷ CLOSE ∷ OPEN_BRACKET ∷ DOT ∷ COMMA ∷ EQUAL ∷ NOT_EQUAL ∷ LESS ∷ GREATER ∷ LESS_EQUAL ∷ GREATER_EQUAL ∷ AND ∷ OR ∷ IRIREF ∷ PNAME_NS ∷ PNAME_LN ∷ BLANK ∷ VAR ∷ STRING ∷ INTEGER ∷ DECIMAL ∷ TRUE ∷ FALSE ∷ OPTIONAL ∷ GRAPH ∷ FILTER ∷ []; level = 4 }
+    ∷ record { empty = false; begin = CLOSE ∷ []; follow = OPEN_BRACE ∷ CLOSE_BRACE ∷ OPEN ∷ CLOSE ∷ OPEN_BRACKET ∷ DOT ∷ COMMA ∷ EQUAL ∷ NOT_EQUAL ∷ LESS ∷ GREATER ∷ LESS_EQUAL ∷ GREATER_EQUAL ∷ AND ∷ OR ∷ IRIREF ∷ PNAME_NS ∷ PNAME_LN ∷ BLANK ∷ VAR ∷ STRING ∷ INTEGER ∷ DECIMAL ∷ TRUE ∷ FALSE ∷ OPTIONAL ∷ GRAPH ∷ FILTER ∷ BOUND ∷ SAMETERM ∷ ISIRI ∷ ISURI ∷ ISBLANK ∷ ISLITERAL ∷ ISNUMERIC ∷ STR ∷ LANG ∷ DATATYPE ∷ STRLEN ∷ STRSTARTS ∷ STRENDS ∷ CONTAINS ∷ LIMIT ∷ OFFSET ∷ ASC ∷ DESC ∷ []; level = 1 }
+    ∷ record { empty = false; begin = VAR ∷ []; follow = OPEN_BRACE ∷ CLOSE_BRACE ∷ OPEN ∷ CLOSE ∷ OPEN_BRACKET ∷ DOT ∷ COMMA ∷ EQUAL ∷ NOT_EQUAL ∷ LESS ∷ GREATER ∷ LESS_EQUAL ∷ GREATER_EQUAL ∷ AND ∷ OR ∷ IRIREF ∷ PNAME_NS ∷ PNAME_LN ∷ BLANK ∷ VAR ∷ STRING ∷ INTEGER ∷ DECIMAL ∷ TRUE ∷ FALSE ∷ OPTIONAL ∷ GRAPH ∷ FILTER ∷ BOUND ∷ SAMETERM ∷ ISIRI ∷ ISURI ∷ ISBLANK ∷ ISLITERAL ∷ ISNUMERIC ∷ STR ∷ LANG ∷ DATATYPE ∷ STRLEN ∷ STRSTARTS ∷ STRENDS ∷ CONTAINS ∷ LIMIT ∷ OFFSET ∷ ASC ∷ DESC ∷ []; level = 2 }
+    ∷ record { empty = false; begin = OPEN ∷ []; follow = OPEN_BRACE ∷ CLOSE_BRACE ∷ OPEN ∷ CLOSE ∷ OPEN_BRACKET ∷ DOT ∷ COMMA ∷ EQUAL ∷ NOT_EQUAL ∷ LESS ∷ GREATER ∷ LESS_EQUAL ∷ GREATER_EQUAL ∷ AND ∷ OR ∷ IRIREF ∷ PNAME_NS ∷ PNAME_LN ∷ BLANK ∷ VAR ∷ STRING ∷ INTEGER ∷ DECIMAL ∷ TRUE ∷ FALSE ∷ OPTIONAL ∷ GRAPH ∷ FILTER ∷ BOUND ∷ SAMETERM ∷ ISIRI ∷ ISURI ∷ ISBLANK ∷ ISLITERAL ∷ ISNUMERIC ∷ STR ∷ LANG ∷ DATATYPE ∷ STRLEN ∷ STRSTARTS ∷ STRENDS ∷ CONTAINS ∷ LIMIT ∷ OFFSET ∷ ASC ∷ DESC ∷ []; level = 3 }
+    ∷ record { empty = false; begin = BOUND ∷ []; follow = OPEN_BRACE ∷ CLOSE_BRACE ∷ OPEN ∷ CLOSE ∷ OPEN_BRACKET ∷ DOT ∷ COMMA ∷ EQUAL ∷ NOT_EQUAL ∷ LESS ∷ GREATER ∷ LESS_EQUAL ∷ GREATER_EQUAL ∷ AND ∷ OR ∷ IRIREF ∷ PNAME_NS ∷ PNAME_LN ∷ BLANK ∷ VAR ∷ STRING ∷ INTEGER ∷ DECIMAL ∷ TRUE ∷ FALSE ∷ OPTIONAL ∷ GRAPH ∷ FILTER ∷ BOUND ∷ SAMETERM ∷ ISIRI ∷ ISURI ∷ ISBLANK ∷ ISLITERAL ∷ ISNUMERIC ∷ STR ∷ LANG ∷ DATATYPE ∷ STRLEN ∷ STRSTARTS ∷ STRENDS ∷ CONTAINS ∷ LIMIT ∷ OFFSET ∷ ASC ∷ DESC ∷ []; level = 4 }
     ∷ record { empty = false; begin = SAMETERM ∷ STRSTARTS ∷ STRENDS ∷ CONTAINS ∷ []; follow = OPEN ∷ []; level = 2 }
     ∷ record { empty = false; begin = SAMETERM ∷ []; follow = OPEN ∷ []; level = 1 }
     ∷ record { empty = false; begin = STRSTARTS ∷ []; follow = OPEN ∷ []; level = 1 }
@@ -119,11 +119,11 @@ claims =
     ∷ record { empty = false; begin = CONTAINS ∷ []; follow = OPEN ∷ []; level = 1 }
     ∷ record { empty = false; begin = STRENDS ∷ CONTAINS ∷ []; follow = OPEN ∷ []; level = 2 }
     ∷ record { empty = false; begin = STRSTARTS ∷ STRENDS ∷ CONTAINS ∷ []; follow = OPEN ∷ []; level = 2 }
-    ∷ record { empty = false; begin = OPEN ∷ NOT ∷ IRIREF ∷ PNAME_NS ∷ PNAME_LN ∷ VAR ∷ STRING ∷ INTEGER ∷ DECIMAL ∷ TRUE ∷ FALSE ∷ BOUND ∷ SAMETERM ∷ ISIRI ∷ ISURI ∷ ISBLANK ∷ ISLITERAL ∷ ISNUMERIC ∷ STR ∷ LANG ∷ DATATYPE ∷ STRLEN ∷ STRSTARTS ∷ STRENDS ∷ CONTAINS ∷ []; follow = OPEN_BRACE ∷ CLOSE_BRACE ∷ CLOSE ∷ OPEN_BRACKET ∷ DOT ∷ COMMA ∷ EQUAL ∷ NOT_EQUAL ∷ LESS ∷ GREATER ∷ LESS_EQUAL ∷ GREATER_EQUAL ∷ AND ∷ OR ∷ IRIREF ∷ PNAME_NS ∷ PNAME_LN ∷ BLANK ∷ VAR ∷ STRING ∷ INTEGER ∷ DECIMAL ∷ TRUE ∷ FALSE ∷ OPTIONAL ∷ GRAPH ∷ FILTER ∷ []; level = 9 }
-    ∷ record { empty = false; begin = COMMA ∷ []; follow = OPEN_BRACE ∷ CLOSE_BRACE ∷ CLOSE ∷ OPEN_BRACKET ∷ DOT ∷ COMMA ∷ EQUAL ∷ NOT_EQUAL ∷ LESS ∷ GREATER ∷ LESS_EQUAL ∷ GREATER_EQUAL ∷ AND ∷ OR ∷ IRIREF ∷ PNAME_NS ∷ PNAME_LN ∷ BLANK ∷ VAR ∷ STRING ∷ INTEGER ∷ DECIMAL ∷ TRUE ∷ FALSE ∷ OPTIONAL ∷ GRAPH ∷ FILTER ∷ []; level = 10 }
-    ∷ record { empty = false; begin = OPEN ∷ NOT ∷ IRIREF ∷ PNAME_NS ∷ PNAME_LN ∷ VAR ∷ STRING ∷ INTEGER ∷ DECIMAL ∷ TRUE ∷ FALSE ∷ BOUND ∷ SAMETERM ∷ ISIRI ∷ ISURI ∷ ISBLANK ∷ ISLITERAL ∷ ISNUMERIC ∷ STR ∷ LANG ∷ DATATYPE ∷ STRLEN ∷ STRSTARTS ∷ STRENDS ∷ CONTAINS ∷ []; follow = OPEN_BRACE ∷ CLOSE_BRACE ∷ CLOSE ∷ OPEN_BRACKET ∷ DOT ∷ COMMA ∷ EQUAL ∷ NOT_EQUAL ∷ LESS ∷ GREATER ∷ LESS_EQUAL ∷ GREATER_EQUAL ∷ AND ∷ OR ∷ IRIREF ∷ PNAME_NS ∷ PNAME_LN ∷ BLANK ∷ VAR ∷ STRING ∷ INTEGER ∷ DECIMAL ∷ TRUE ∷ FALSE ∷ OPTIONAL ∷ GRAPH ∷ FILTER ∷ []; level = 11 }
-    ∷ record { empty = false; begin = OPEN ∷ []; follow = OPEN_BRACE ∷ CLOSE_BRACE ∷ CLOSE ∷ OPEN_BRACKET ∷ DOT ∷ COMMA ∷ EQUAL ∷ NOT_EQUAL ∷ LESS ∷ GREATER ∷ LESS_EQUAL ∷ GREATER_EQUAL ∷ AND ∷ OR ∷ IRIREF ∷ PNAME_NS ∷ PNAME_LN ∷ BLANK ∷ VAR ∷ STRING ∷ INTEGER ∷ DECIMAL ∷ TRUE ∷ FALSE ∷ OPTIONAL ∷ GRAPH ∷ FILTER ∷ []; level = 12 }
-    ∷ record { empty = false; begin = SAMETERM ∷ STRSTARTS ∷ STRENDS ∷ CONTAINS ∷ []; follow = OPEN_BRACE ∷ CLOSE_BRACE ∷ CLOSE ∷ OPEN_BRACKET ∷ DOT ∷ COMMA ∷ EQUAL ∷ NOT_EQUAL ∷ LESS ∷ GREATER ∷ LESS_EQUAL ∷ GREATER_EQUAL ∷ AND ∷ OR ∷ IRIREF ∷ PNAME_NS ∷ PNAME_LN ∷ BLANK ∷ VAR ∷ STRING ∷ INTEGER ∷ DECIMAL ∷ TRUE ∷ FALSE ∷ OPTIONAL ∷ GRAPH ∷ FILTER ∷ []; level = 13 }
+    ∷ record { empty = false; begin = OPEN ∷ NOT ∷ IRIREF ∷ PNAME_NS ∷ PNAME_LN ∷ VAR ∷ STRING ∷ INTEGER ∷ DECIMAL ∷ TRUE ∷ FALSE ∷ BOUND ∷ SAMETERM ∷ ISIRI ∷ ISURI ∷ ISBLANK ∷ ISLITERAL ∷ ISNUMERIC ∷ STR ∷ LANG ∷ DATATYPE ∷ STRLEN ∷ STRSTARTS ∷ STRENDS ∷ CONTAINS ∷ []; follow = OPEN_BRACE ∷ CLOSE_BRACE ∷ OPEN ∷ CLOSE ∷ OPEN_BRACKET ∷ DOT ∷ COMMA ∷ EQUAL ∷ NOT_EQUAL ∷ LESS ∷ GREATER ∷ LESS_EQUAL ∷ GREATER_EQUAL ∷ AND ∷ OR ∷ IRIREF ∷ PNAME_NS ∷ PNAME_LN ∷ BLANK ∷ VAR ∷ STRING ∷ INTEGER ∷ DECIMAL ∷ TRUE ∷ FALSE ∷ OPTIONAL ∷ GRAPH ∷ FILTER ∷ BOUND ∷ SAMETERM ∷ ISIRI ∷ ISURI ∷ ISBLANK ∷ ISLITERAL ∷ ISNUMERIC ∷ STR ∷ LANG ∷ DATATYPE ∷ STRLEN ∷ STRSTARTS ∷ STRENDS ∷ CONTAINS ∷ LIMIT ∷ OFFSET ∷ ASC ∷ DESC ∷ []; level = 9 }
+    ∷ record { empty = false; begin = COMMA ∷ []; follow = OPEN_BRACE ∷ CLOSE_BRACE ∷ OPEN ∷ CLOSE ∷ OPEN_BRACKET ∷ DOT ∷ COMMA ∷ EQUAL ∷ NOT_EQUAL ∷ LESS ∷ GREATER ∷ LESS_EQUAL ∷ GREATER_EQUAL ∷ AND ∷ OR ∷ IRIREF ∷ PNAME_NS ∷ PNAME_LN ∷ BLANK ∷ VAR ∷ STRING ∷ INTEGER ∷ DECIMAL ∷ TRUE ∷ FALSE ∷ OPTIONAL ∷ GRAPH ∷ FILTER ∷ BOUND ∷ SAMETERM ∷ ISIRI ∷ ISURI ∷ ISBLANK ∷ ISLITERAL ∷ ISNUMERIC ∷ STR ∷ LANG ∷ DATATYPE ∷ STRLEN ∷ STRSTARTS ∷ STRENDS ∷ CONTAINS ∷ LIMIT ∷ OFFSET ∷ ASC ∷ DESC ∷ []; level = 10 }
+    ∷ record { empty = false; begin = OPEN ∷ NOT ∷ IRIREF ∷ PNAME_NS ∷ PNAME_LN ∷ VAR ∷ STRING ∷ INTEGER ∷ DECIMAL ∷ TRUE ∷ FALSE ∷ BOUND ∷ SAMETERM ∷ ISIRI ∷ ISURI ∷ ISBLANK ∷ ISLITERAL ∷ ISNUMERIC ∷ STR ∷ LANG ∷ DATATYPE ∷ STRLEN ∷ STRSTARTS ∷ STRENDS ∷ CONTAINS ∷ []; follow = OPEN_BRACE ∷ CLOSE_BRACE ∷ OPEN ∷ CLOSE ∷ OPEN_BRACKET ∷ DOT ∷ COMMA ∷ EQUAL ∷ NOT_EQUAL ∷ LESS ∷ GREATER ∷ LESS_EQUAL ∷ GREATER_EQUAL ∷ AND ∷ OR ∷ IRIREF ∷ PNAME_NS ∷ PNAME_LN ∷ BLANK ∷ VAR ∷ STRING ∷ INTEGER ∷ DECIMAL ∷ TRUE ∷ FALSE ∷ OPTIONAL ∷ GRAPH ∷ FILTER ∷ BOUND ∷ SAMETERM ∷ ISIRI ∷ ISURI ∷ ISBLANK ∷ ISLITERAL ∷ ISNUMERIC ∷ STR ∷ LANG ∷ DATATYPE ∷ STRLEN ∷ STRSTARTS ∷ STRENDS ∷ CONTAINS ∷ LIMIT ∷ OFFSET ∷ ASC ∷ DESC ∷ []; level = 11 }
+    ∷ record { empty = false; begin = OPEN ∷ []; follow = OPEN_BRACE ∷ CLOSE_BRACE ∷ OPEN ∷ CLOSE ∷ OPEN_BRACKET ∷ DOT ∷ COMMA ∷ EQUAL ∷ NOT_EQUAL ∷ LESS ∷ GREATER ∷ LESS_EQUAL ∷ GREATER_EQUAL ∷ AND ∷ OR ∷ IRIREF ∷ PNAME_NS ∷ PNAME_LN ∷ BLANK ∷ VAR ∷ STRING ∷ INTEGER ∷ DECIMAL ∷ TRUE ∷ FALSE ∷ OPTIONAL ∷ GRAPH ∷ FILTER ∷ BOUND ∷ SAMETERM ∷ ISIRI ∷ ISURI ∷ ISBLANK ∷ ISLITERAL ∷ ISNUMERIC ∷ STR ∷ LANG ∷ DATATYPE ∷ STRLEN ∷ STRSTARTS ∷ STRENDS ∷ CONTAINS ∷ LIMIT ∷ OFFSET ∷ ASC ∷ DESC ∷ []; level = 12 }
+    ∷ record { empty = false; begin = SAMETERM ∷ STRSTARTS ∷ STRENDS ∷ CONTAINS ∷ []; follow = OPEN_BRACE ∷ CLOSE_BRACE ∷ OPEN ∷ CLOSE ∷ OPEN_BRACKET ∷ DOT ∷ COMMA ∷ EQUAL ∷ NOT_EQUAL ∷ LESS ∷ GREATER ∷ LESS_EQUAL ∷ GREATER_EQUAL ∷ AND ∷ OR ∷ IRIREF ∷ PNAME_NS ∷ PNAME_LN ∷ BLANK ∷ VAR ∷ STRING ∷ INTEGER ∷ DECIMAL ∷ TRUE ∷ FALSE ∷ OPTIONAL ∷ GRAPH ∷ FILTER ∷ BOUND ∷ SAMETERM ∷ ISIRI ∷ ISURI ∷ ISBLANK ∷ ISLITERAL ∷ ISNUMERIC ∷ STR ∷ LANG ∷ DATATYPE ∷ STRLEN ∷ STRSTARTS ∷ STRENDS ∷ CONTAINS ∷ LIMIT ∷ OFFSET ∷ ASC ∷ DESC ∷ []; level = 13 }
     ∷ record { empty = false; begin = ISIRI ∷ ISURI ∷ ISBLANK ∷ ISLITERAL ∷ ISNUMERIC ∷ STR ∷ LANG ∷ DATATYPE ∷ STRLEN ∷ []; follow = OPEN ∷ []; level = 2 }
     ∷ record { empty = false; begin = ISIRI ∷ []; follow = OPEN ∷ []; level = 1 }
     ∷ record { empty = false; begin = ISURI ∷ []; follow = OPEN ∷ []; level = 1 }
@@ -141,8 +141,8 @@ claims =
     ∷ record { empty = false; begin = ISLITERAL ∷ ISNUMERIC ∷ STR ∷ LANG ∷ DATATYPE ∷ STRLEN ∷ []; follow = OPEN ∷ []; level = 2 }
     ∷ record { empty = false; begin = ISBLANK ∷ ISLITERAL ∷ ISNUMERIC ∷ STR ∷ LANG ∷ DATATYPE ∷ STRLEN ∷ []; follow = OPEN ∷ []; level = 2 }
     ∷ record { empty = false; begin = ISURI ∷ ISBLANK ∷ ISLITERAL ∷ ISNUMERIC ∷ STR ∷ LANG ∷ DATATYPE ∷ STRLEN ∷ []; follow = OPEN ∷ []; level = 2 }
-    ∷ record { empty = false; begin = ISIRI ∷ ISURI ∷ ISBLANK ∷ ISLITERAL ∷ ISNUMERIC ∷ STR ∷ LANG ∷ DATATYPE ∷ STRLEN ∷ []; follow = OPEN_BRACE ∷ CLOSE_BRACE ∷ CLOSE ∷ OPEN_BRACKET ∷ DOT ∷ COMMA ∷ EQUAL ∷ NOT_EQUAL ∷ LESS ∷ GREATER ∷ LESS_EQUAL ∷ GREATER_EQUAL ∷ AND ∷ OR ∷ IRIREF ∷ PNAME_NS ∷ PNAME_LN ∷ BLANK ∷ VAR ∷ STRING ∷ INTEGER ∷ DECIMAL ∷ TRUE ∷ FALSE ∷ OPTIONAL ∷ GRAPH ∷ FILTER ∷ []; level = 11 }
-    ∷ record { empty = false; begin = SAMETERM ∷ ISIRI ∷ ISURI ∷ ISBLANK ∷ ISLITERAL ∷ ISNUMERIC ∷ STR ∷ LANG ∷ DATATYPE ∷ STRLEN ∷ STRSTARTS ∷ STRENDS ∷ CONTAINS ∷ []; follow = OPEN_BRACE ∷ CLOSE_BRACE ∷ CLOSE ∷ OPEN_BRACKET ∷ DOT ∷ COMMA ∷ EQUAL ∷ NOT_EQUAL ∷ LESS ∷ GREATER ∷ LESS_EQUAL ∷ GREATER_EQUAL ∷ AND ∷ OR ∷ IRIREF ∷ PNAME_NS ∷ PNAME_LN ∷ BLANK ∷ VAR ∷ STRING ∷ INTEGER ∷ DECIMAL ∷ TRUE ∷ FALSE ∷ OPTIONAL ∷ GRAPH ∷ FILTER ∷ []; level = 12 }
+    ∷ record { empty = false; begin = ISIRI ∷ ISURI ∷ ISBLANK ∷ ISLITERAL ∷ ISNUMERIC ∷ STR ∷ LANG ∷ DATATYPE ∷ STRLEN ∷ []; follow = OPEN_BRACE ∷ CLOSE_BRACE ∷ OPEN ∷ CLOSE ∷ OPEN_BRACKET ∷ DOT ∷ COMMA ∷ EQUAL ∷ NOT_EQUAL ∷ LESS ∷ GREATER ∷ LESS_EQUAL ∷ GREATER_EQUAL ∷ AND ∷ OR ∷ IRIREF ∷ PNAME_NS ∷ PNAME_LN ∷ BLANK ∷ VAR ∷ STRING ∷ INTEGER ∷ DECIMAL ∷ TRUE ∷ FALSE ∷ OPTIONAL ∷ GRAPH ∷ FILTER ∷ BOUND ∷ SAMETERM ∷ ISIRI ∷ ISURI ∷ ISBLANK ∷ ISLITERAL ∷ ISNUMERIC ∷ STR ∷ LANG ∷ DATATYPE ∷ STRLEN ∷ STRSTARTS ∷ STRENDS ∷ CONTAINS ∷ LIMIT ∷ OFFSET ∷ ASC ∷ DESC ∷ []; level = 11 }
+    ∷ record { empty = false; begin = SAMETERM ∷ ISIRI ∷ ISURI ∷ ISBLANK ∷ ISLITERAL ∷ ISNUMERIC ∷ STR ∷ LANG ∷ DATATYPE ∷ STRLEN ∷ STRSTARTS ∷ STRENDS ∷ CONTAINS ∷ []; follow = OPEN_BRACE ∷ CLOSE_BRACE ∷ OPEN ∷ CLOSE ∷ OPEN_BRACKET ∷ DOT ∷ COMMA ∷ EQUAL ∷ NOT_EQUAL ∷ LESS ∷ GREATER ∷ LESS_EQUAL ∷ GREATER_EQUAL ∷ AND ∷ OR ∷ IRIREF ∷ PNAME_NS ∷ PNAME_LN ∷ BLANK ∷ VAR ∷ STRING ∷ INTEGER ∷ DECIMAL ∷ TRUE ∷ FALSE ∷ OPTIONAL ∷ GRAPH ∷ FILTER ∷ BOUND ∷ SAMETERM ∷ ISIRI ∷ ISURI ∷ ISBLANK ∷ ISLITERAL ∷ ISNUMERIC ∷ STR ∷ LANG ∷ DATATYPE ∷ STRLEN ∷ STRSTARTS ∷ STRENDS ∷ CONTAINS ∷ LIMIT ∷ OFFSET ∷ ASC ∷ DESC ∷ []; level = 12 }
     ∷ record { empty = false; begin = IRIREF ∷ PNAME_NS ∷ PNAME_LN ∷ STRING ∷ INTEGER ∷ DECIMAL ∷ TRUE ∷ FALSE ∷ []; follow = CLOSE ∷ COMMA ∷ EQUAL ∷ NOT_EQUAL ∷ LESS ∷ GREATER ∷ LESS_EQUAL ∷ GREATER_EQUAL ∷ AND ∷ OR ∷ []; level = 3 }
     ∷ record { empty = false; begin = IRIREF ∷ PNAME_NS ∷ PNAME_LN ∷ VAR ∷ STRING ∷ INTEGER ∷ DECIMAL ∷ TRUE ∷ FALSE ∷ []; follow = CLOSE ∷ COMMA ∷ EQUAL ∷ NOT_EQUAL ∷ LESS ∷ GREATER ∷ LESS_EQUAL ∷ GREATER_EQUAL ∷ AND ∷ OR ∷ []; level = 2 }
     ∷ record { empty = false; begin = IRIREF ∷ PNAME_NS ∷ PNAME_LN ∷ VAR ∷ STRING ∷ INTEGER ∷ DECIMAL ∷ TRUE ∷ FALSE ∷ BOUND ∷ SAMETERM ∷ ISIRI ∷ ISURI ∷ ISBLANK ∷ ISLITERAL ∷ ISNUMERIC ∷ STR ∷ LANG ∷ DATATYPE ∷ STRLEN ∷ STRSTARTS ∷ STRENDS ∷ CONTAINS ∷ []; follow = CLOSE ∷ COMMA ∷ EQUAL ∷ NOT_EQUAL ∷ LESS ∷ GREATER ∷ LESS_EQUAL ∷ GREATER_EQUAL ∷ AND ∷ OR ∷ []; level = 3 }
@@ -165,7 +165,7 @@ claims =
     ∷ record { empty = false; begin = OR ∷ []; follow = OPEN ∷ NOT ∷ IRIREF ∷ PNAME_NS ∷ PNAME_LN ∷ VAR ∷ STRING ∷ INTEGER ∷ DECIMAL ∷ TRUE ∷ FALSE ∷ BOUND ∷ SAMETERM ∷ ISIRI ∷ ISURI ∷ ISBLANK ∷ ISLITERAL ∷ ISNUMERIC ∷ STR ∷ LANG ∷ DATATYPE ∷ STRLEN ∷ STRSTARTS ∷ STRENDS ∷ CONTAINS ∷ []; level = 1 }
     ∷ record { empty = false; begin = OR ∷ []; follow = CLOSE ∷ COMMA ∷ OR ∷ []; level = 8 }
     ∷ record { empty = true; begin = OR ∷ []; follow = CLOSE ∷ COMMA ∷ []; level = 1 }
-    ∷ record { empty = false; begin = OPEN ∷ NOT ∷ IRIREF ∷ PNAME_NS ∷ PNAME_LN ∷ VAR ∷ STRING ∷ INTEGER ∷ DECIMAL ∷ TRUE ∷ FALSE ∷ BOUND ∷ SAMETERM ∷ ISIRI ∷ ISURI ∷ ISBLANK ∷ ISLITERAL ∷ ISNUMERIC ∷ STR ∷ LANG ∷ DATATYPE ∷ STRLEN ∷ STRSTARTS ∷ STRENDS ∷ CONTAINS ∷ []; follow = OPEN_BRACE ∷ CLOSE_BRACE ∷ CLOSE ∷ OPEN_BRACKET ∷ DOT ∷ COMMA ∷ EQUAL ∷ NOT_EQUAL ∷ LESS ∷ GREATER ∷ LESS_EQUAL ∷ GREATER_EQUAL ∷ AND ∷ OR ∷ IRIREF ∷ PNAME_NS ∷ PNAME_LN ∷ BLANK ∷ VAR ∷ STRING ∷ INTEGER ∷ DECIMAL ∷ TRUE ∷ FALSE ∷ OPTIONAL ∷ GRAPH ∷ FILTER ∷ []; level = 9 }
+    ∷ record { empty = false; begin = OPEN ∷ NOT ∷ IRIREF ∷ PNAME_NS ∷ PNAME_LN ∷ VAR ∷ STRING ∷ INTEGER ∷ DECIMAL ∷ TRUE ∷ FALSE ∷ BOUND ∷ SAMETERM ∷ ISIRI ∷ ISURI ∷ ISBLANK ∷ ISLITERAL ∷ ISNUMERIC ∷ STR ∷ LANG ∷ DATATYPE ∷ STRLEN ∷ STRSTARTS ∷ STRENDS ∷ CONTAINS ∷ []; follow = OPEN_BRACE ∷ CLOSE_BRACE ∷ OPEN ∷ CLOSE ∷ OPEN_BRACKET ∷ DOT ∷ COMMA ∷ EQUAL ∷ NOT_EQUAL ∷ LESS ∷ GREATER ∷ LESS_EQUAL ∷ GREATER_EQUAL ∷ AND ∷ OR ∷ IRIREF ∷ PNAME_NS ∷ PNAME_LN ∷ BLANK ∷ VAR ∷ STRING ∷ INTEGER ∷ DECIMAL ∷ TRUE ∷ FALSE ∷ OPTIONAL ∷ GRAPH ∷ FILTER ∷ BOUND ∷ SAMETERM ∷ ISIRI ∷ ISURI ∷ ISBLANK ∷ ISLITERAL ∷ ISNUMERIC ∷ STR ∷ LANG ∷ DATATYPE ∷ STRLEN ∷ STRSTARTS ∷ STRENDS ∷ CONTAINS ∷ LIMIT ∷ OFFSET ∷ ASC ∷ DESC ∷ []; level = 9 }
     ∷ record { empty = false; begin = FILTER ∷ []; follow = OPEN_BRACE ∷ CLOSE_BRACE ∷ OPEN_BRACKET ∷ DOT ∷ IRIREF ∷ PNAME_NS ∷ PNAME_LN ∷ BLANK ∷ VAR ∷ STRING ∷ INTEGER ∷ DECIMAL ∷ TRUE ∷ FALSE ∷ OPTIONAL ∷ GRAPH ∷ FILTER ∷ []; level = 7 }
     ∷ record { empty = false; begin = UNION ∷ []; follow = OPEN_BRACE ∷ []; level = 1 }
     ∷ record { empty = false; begin = UNION ∷ []; follow = OPEN_BRACE ∷ CLOSE_BRACE ∷ OPEN_BRACKET ∷ DOT ∷ IRIREF ∷ PNAME_NS ∷ PNAME_LN ∷ BLANK ∷ VAR ∷ STRING ∷ INTEGER ∷ DECIMAL ∷ TRUE ∷ FALSE ∷ OPTIONAL ∷ GRAPH ∷ FILTER ∷ UNION ∷ []; level = 5 }
@@ -177,13 +177,41 @@ claims =
     ∷ record { empty = true; begin = OPEN_BRACKET ∷ DOT ∷ IRIREF ∷ PNAME_NS ∷ PNAME_LN ∷ BLANK ∷ VAR ∷ STRING ∷ INTEGER ∷ DECIMAL ∷ TRUE ∷ FALSE ∷ []; follow = OPEN_BRACE ∷ CLOSE_BRACE ∷ OPTIONAL ∷ GRAPH ∷ FILTER ∷ []; level = 2 }
     ∷ record { empty = false; begin = OPEN_BRACE ∷ OPTIONAL ∷ GRAPH ∷ FILTER ∷ []; follow = OPEN_BRACE ∷ CLOSE_BRACE ∷ OPTIONAL ∷ GRAPH ∷ FILTER ∷ []; level = 7 }
     ∷ record { empty = true; begin = OPEN_BRACE ∷ OPTIONAL ∷ GRAPH ∷ FILTER ∷ []; follow = CLOSE_BRACE ∷ []; level = 1 }
-    ∷ record { empty = false; begin = CLOSE_BRACE ∷ []; follow = OPEN_BRACE ∷ CLOSE_BRACE ∷ OPEN_BRACKET ∷ DOT ∷ IRIREF ∷ PNAME_NS ∷ PNAME_LN ∷ BLANK ∷ VAR ∷ STRING ∷ INTEGER ∷ DECIMAL ∷ TRUE ∷ FALSE ∷ OPTIONAL ∷ GRAPH ∷ FILTER ∷ UNION ∷ []; level = 1 }
-    ∷ record { empty = false; begin = OPEN_BRACE ∷ CLOSE_BRACE ∷ OPTIONAL ∷ GRAPH ∷ FILTER ∷ []; follow = OPEN_BRACE ∷ CLOSE_BRACE ∷ OPEN_BRACKET ∷ DOT ∷ IRIREF ∷ PNAME_NS ∷ PNAME_LN ∷ BLANK ∷ VAR ∷ STRING ∷ INTEGER ∷ DECIMAL ∷ TRUE ∷ FALSE ∷ OPTIONAL ∷ GRAPH ∷ FILTER ∷ UNION ∷ []; level = 2 }
-    ∷ record { empty = false; begin = OPEN_BRACE ∷ CLOSE_BRACE ∷ OPEN_BRACKET ∷ IRIREF ∷ PNAME_NS ∷ PNAME_LN ∷ BLANK ∷ VAR ∷ STRING ∷ INTEGER ∷ DECIMAL ∷ TRUE ∷ FALSE ∷ OPTIONAL ∷ GRAPH ∷ FILTER ∷ []; follow = OPEN_BRACE ∷ CLOSE_BRACE ∷ OPEN_BRACKET ∷ DOT ∷ IRIREF ∷ PNAME_NS ∷ PNAME_LN ∷ BLANK ∷ VAR ∷ STRING ∷ INTEGER ∷ DECIMAL ∷ TRUE ∷ FALSE ∷ OPTIONAL ∷ GRAPH ∷ FILTER ∷ UNION ∷ []; level = 3 }
-    ∷ record { empty = false; begin = OPEN_BRACE ∷ WHERE ∷ []; follow = []; level = 5 }
-    ∷ record { empty = false; begin = STAR ∷ VAR ∷ []; follow = []; level = 6 }
-    ∷ record { empty = false; begin = STAR ∷ VAR ∷ DISTINCT ∷ REDUCED ∷ []; follow = []; level = 7 }
-    ∷ record { empty = false; begin = SELECT ∷ []; follow = []; level = 8 }
+    ∷ record { empty = false; begin = CLOSE_BRACE ∷ []; follow = OPEN_BRACE ∷ CLOSE_BRACE ∷ OPEN_BRACKET ∷ DOT ∷ IRIREF ∷ PNAME_NS ∷ PNAME_LN ∷ BLANK ∷ VAR ∷ STRING ∷ INTEGER ∷ DECIMAL ∷ TRUE ∷ FALSE ∷ OPTIONAL ∷ GRAPH ∷ FILTER ∷ UNION ∷ ORDER ∷ LIMIT ∷ OFFSET ∷ []; level = 1 }
+    ∷ record { empty = false; begin = OPEN_BRACE ∷ CLOSE_BRACE ∷ OPTIONAL ∷ GRAPH ∷ FILTER ∷ []; follow = OPEN_BRACE ∷ CLOSE_BRACE ∷ OPEN_BRACKET ∷ DOT ∷ IRIREF ∷ PNAME_NS ∷ PNAME_LN ∷ BLANK ∷ VAR ∷ STRING ∷ INTEGER ∷ DECIMAL ∷ TRUE ∷ FALSE ∷ OPTIONAL ∷ GRAPH ∷ FILTER ∷ UNION ∷ ORDER ∷ LIMIT ∷ OFFSET ∷ []; level = 2 }
+    ∷ record { empty = false; begin = OPEN_BRACE ∷ CLOSE_BRACE ∷ OPEN_BRACKET ∷ IRIREF ∷ PNAME_NS ∷ PNAME_LN ∷ BLANK ∷ VAR ∷ STRING ∷ INTEGER ∷ DECIMAL ∷ TRUE ∷ FALSE ∷ OPTIONAL ∷ GRAPH ∷ FILTER ∷ []; follow = OPEN_BRACE ∷ CLOSE_BRACE ∷ OPEN_BRACKET ∷ DOT ∷ IRIREF ∷ PNAME_NS ∷ PNAME_LN ∷ BLANK ∷ VAR ∷ STRING ∷ INTEGER ∷ DECIMAL ∷ TRUE ∷ FALSE ∷ OPTIONAL ∷ GRAPH ∷ FILTER ∷ UNION ∷ ORDER ∷ LIMIT ∷ OFFSET ∷ []; level = 3 }
+    ∷ record { empty = false; begin = ORDER ∷ []; follow = LIMIT ∷ OFFSET ∷ []; level = 5 }
+    ∷ record { empty = false; begin = ORDER ∷ []; follow = BY ∷ []; level = 1 }
+    ∷ record { empty = false; begin = BY ∷ []; follow = OPEN ∷ VAR ∷ BOUND ∷ SAMETERM ∷ ISIRI ∷ ISURI ∷ ISBLANK ∷ ISLITERAL ∷ ISNUMERIC ∷ STR ∷ LANG ∷ DATATYPE ∷ STRLEN ∷ STRSTARTS ∷ STRENDS ∷ CONTAINS ∷ ASC ∷ DESC ∷ []; level = 1 }
+    ∷ record { empty = false; begin = OPEN ∷ VAR ∷ BOUND ∷ SAMETERM ∷ ISIRI ∷ ISURI ∷ ISBLANK ∷ ISLITERAL ∷ ISNUMERIC ∷ STR ∷ LANG ∷ DATATYPE ∷ STRLEN ∷ STRSTARTS ∷ STRENDS ∷ CONTAINS ∷ ASC ∷ DESC ∷ []; follow = OPEN ∷ VAR ∷ BOUND ∷ SAMETERM ∷ ISIRI ∷ ISURI ∷ ISBLANK ∷ ISLITERAL ∷ ISNUMERIC ∷ STR ∷ LANG ∷ DATATYPE ∷ STRLEN ∷ STRSTARTS ∷ STRENDS ∷ CONTAINS ∷ LIMIT ∷ OFFSET ∷ ASC ∷ DESC ∷ []; level = 2 }
+    ∷ record { empty = false; begin = ASC ∷ DESC ∷ []; follow = OPEN ∷ []; level = 2 }
+    ∷ record { empty = false; begin = ASC ∷ []; follow = OPEN ∷ []; level = 1 }
+    ∷ record { empty = false; begin = DESC ∷ []; follow = OPEN ∷ []; level = 1 }
+    ∷ record { empty = false; begin = ASC ∷ DESC ∷ []; follow = OPEN ∷ VAR ∷ BOUND ∷ SAMETERM ∷ ISIRI ∷ ISURI ∷ ISBLANK ∷ ISLITERAL ∷ ISNUMERIC ∷ STR ∷ LANG ∷ DATATYPE ∷ STRLEN ∷ STRSTARTS ∷ STRENDS ∷ CONTAINS ∷ LIMIT ∷ OFFSET ∷ ASC ∷ DESC ∷ []; level = 11 }
+    ∷ record { empty = false; begin = OPEN ∷ ASC ∷ DESC ∷ []; follow = OPEN ∷ VAR ∷ BOUND ∷ SAMETERM ∷ ISIRI ∷ ISURI ∷ ISBLANK ∷ ISLITERAL ∷ ISNUMERIC ∷ STR ∷ LANG ∷ DATATYPE ∷ STRLEN ∷ STRSTARTS ∷ STRENDS ∷ CONTAINS ∷ LIMIT ∷ OFFSET ∷ ASC ∷ DESC ∷ []; level = 11 }
+    ∷ record { empty = false; begin = OPEN ∷ BOUND ∷ SAMETERM ∷ ISIRI ∷ ISURI ∷ ISBLANK ∷ ISLITERAL ∷ ISNUMERIC ∷ STR ∷ LANG ∷ DATATYPE ∷ STRLEN ∷ STRSTARTS ∷ STRENDS ∷ CONTAINS ∷ ASC ∷ DESC ∷ []; follow = OPEN ∷ VAR ∷ BOUND ∷ SAMETERM ∷ ISIRI ∷ ISURI ∷ ISBLANK ∷ ISLITERAL ∷ ISNUMERIC ∷ STR ∷ LANG ∷ DATATYPE ∷ STRLEN ∷ STRSTARTS ∷ STRENDS ∷ CONTAINS ∷ LIMIT ∷ OFFSET ∷ ASC ∷ DESC ∷ []; level = 6 }
+    ∷ record { empty = true; begin = OPEN ∷ VAR ∷ BOUND ∷ SAMETERM ∷ ISIRI ∷ ISURI ∷ ISBLANK ∷ ISLITERAL ∷ ISNUMERIC ∷ STR ∷ LANG ∷ DATATYPE ∷ STRLEN ∷ STRSTARTS ∷ STRENDS ∷ CONTAINS ∷ ASC ∷ DESC ∷ []; follow = LIMIT ∷ OFFSET ∷ []; level = 1 }
+    ∷ record { empty = false; begin = OPEN ∷ VAR ∷ BOUND ∷ SAMETERM ∷ ISIRI ∷ ISURI ∷ ISBLANK ∷ ISLITERAL ∷ ISNUMERIC ∷ STR ∷ LANG ∷ DATATYPE ∷ STRLEN ∷ STRSTARTS ∷ STRENDS ∷ CONTAINS ∷ ASC ∷ DESC ∷ []; follow = LIMIT ∷ OFFSET ∷ []; level = 3 }
+    ∷ record { empty = false; begin = BY ∷ []; follow = LIMIT ∷ OFFSET ∷ []; level = 4 }
+    ∷ record { empty = true; begin = ORDER ∷ []; follow = LIMIT ∷ OFFSET ∷ []; level = 1 }
+    ∷ record { empty = false; begin = LIMIT ∷ OFFSET ∷ []; follow = []; level = 4 }
+    ∷ record { empty = false; begin = LIMIT ∷ []; follow = INTEGER ∷ []; level = 1 }
+    ∷ record { empty = false; begin = OFFSET ∷ []; follow = INTEGER ∷ []; level = 1 }
+    ∷ record { empty = false; begin = OFFSET ∷ []; follow = []; level = 2 }
+    ∷ record { empty = true; begin = OFFSET ∷ []; follow = []; level = 1 }
+    ∷ record { empty = false; begin = INTEGER ∷ []; follow = []; level = 2 }
+    ∷ record { empty = false; begin = LIMIT ∷ []; follow = []; level = 3 }
+    ∷ record { empty = false; begin = LIMIT ∷ []; follow = []; level = 2 }
+    ∷ record { empty = true; begin = LIMIT ∷ []; follow = []; level = 1 }
+    ∷ record { empty = false; begin = INTEGER ∷ []; follow = []; level = 2 }
+    ∷ record { empty = false; begin = OFFSET ∷ []; follow = []; level = 3 }
+    ∷ record { empty = true; begin = LIMIT ∷ OFFSET ∷ []; follow = []; level = 1 }
+    ∷ record { empty = true; begin = ORDER ∷ LIMIT ∷ OFFSET ∷ []; follow = []; level = 2 }
+    ∷ record { empty = false; begin = OPEN_BRACE ∷ []; follow = []; level = 5 }
+    ∷ record { empty = false; begin = OPEN_BRACE ∷ WHERE ∷ []; follow = []; level = 6 }
+    ∷ record { empty = false; begin = STAR ∷ VAR ∷ []; follow = []; level = 7 }
+    ∷ record { empty = false; begin = STAR ∷ VAR ∷ DISTINCT ∷ REDUCED ∷ []; follow = []; level = 8 }
+    ∷ record { empty = false; begin = SELECT ∷ []; follow = []; level = 9 }
     ∷ []
 
 pub sparql_form : IsWellFormed SPARQL KIND_COUNT

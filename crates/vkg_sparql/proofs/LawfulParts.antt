@@ -11,15 +11,17 @@ use Rattle.vkg_sparql.specs.declared.meaning.Meaning.TheVariants as meaning
 use Rattle.vkg_sparql.specs.declared.meaning.TripleTokens.{TripleTokens}
 use Rattle.vkg_sparql.specs.declared.pattern.Node.{Node}
 use Rattle.vkg_sparql.specs.declared.pattern.Node.TheVariants as node
-use Rattle.vkg_sparql.specs.declared.symbols.TheConstants.{SELECTION, TOKEN_VAR, SELECTION_1, GROUP, BLOCK, SAME, ITEM, PLIST, VERB, OLIST, OBJECT, TOKEN_OPEN_BRACKET, OBJECT_1, OLIST_2, PLIST_2, PLIST_4, SAME_5, GROUP_1, PART, NAME, PART_3, FILTER, BRACKETED, OR, AND, REL, UNARY, PRIMARY, CALL, CALL_3, CALL_7, PRIMARY_FROM_3, REL_2, AND_2, OR_2, PART_6, PART_7, PART_FROM_2, GROUP_5, QUERY_12}
+use Rattle.vkg_sparql.specs.declared.symbols.TheConstants.{SELECTION, TOKEN_VAR, SELECTION_1, GROUP, BLOCK, SAME, ITEM, PLIST, VERB, OLIST, OBJECT, TOKEN_OPEN_BRACKET, OBJECT_1, OLIST_2, PLIST_2, PLIST_4, SAME_5, GROUP_1, PART, NAME, PART_3, FILTER, BRACKETED, OR, AND, REL, UNARY, PRIMARY, CALL, CALL_3, CALL_7, PRIMARY_FROM_3, REL_2, AND_2, OR_2, PART_6, PART_7, PART_FROM_2, GROUP_5, KEY, KEY_FROM_3, ORDER_1, ORDER_2, QUERY_9, QUERY_16}
+use Rattle.vkg_sparql.specs.declared.query.Key.{Key}
 use Rattle.vkg_sparql.specs.declared.query.Part.{Part as PartValue}
 use Rattle.vkg_sparql.specs.Conditions.{or_joined, and_joined, negated, bound_value, operand_value, or_value, or_more, and_value, and_more, rel_value, rel_more, unary_value, primary_value, bracketed, call_value, two_value, filter_value}
 use Rattle.vkg_sparql.specs.Groups.{patterns_of, block_parts, no_part, group_value, parts_value, part_value, other_value, graph_value, union_value, groups_value, numbers_value, selection_value, query_value}
-use Rattle.vkg_sparql.specs.Lawful.{condition_nodes, patterns_nodes, name_node, part_nodes, group_nodes, unions_nodes, selected_nodes, query_nodes}
+use Rattle.vkg_sparql.specs.Lawful.{condition_nodes, patterns_nodes, name_node, part_nodes, group_nodes, unions_nodes, selected_nodes, keys_nodes, query_nodes}
 use Rattle.vkg_sparql.specs.Meanings.{first_token, meaning_at, node_of, number_of, operand_of, compare_of, applied, applied_to_two, name_of}
 use Rattle.vkg_sparql.specs.declared.query.Part.TheVariants as part
+use Rattle.vkg_sparql.specs.Orders.{bracketed_key, key_value, keys_value, order_value}
 use Rattle.vkg_sparql.specs.Query.{Condition, And, Or, Part}
-use Rattle.vkg_sparql.specs.Seen.{condition_seen, group_seen, part_seen, unions_seen, query_seen}
+use Rattle.vkg_sparql.specs.Seen.{condition_seen, group_seen, key_seen, part_seen, unions_seen, query_seen}
 use Rattle.vkg_sparql.specs.Triples.{plist_value, plist_more, verb_value, olist_value, olist_more, object_value, inner_value, bracket_value, same_value, block_value}
 use Rattle.vkg_sparql.proofs.Made.{IsToken, Has, leads, lead}
 use Rattle.vkg_sparql.proofs.Numbering.{Marked}
@@ -315,7 +317,40 @@ module _ (keys : List (List ℕ)) where
     good_selection (first (pair v more)) h = (variable_first v TOKEN_VAR refl h.0, good_numbers more h.1)
     good_selection t h = tt
 
-    pub good_query : (names : List (List ℕ)) (prologue rest : Tree) → Of rest QUERY_12 → Good (query_nodes (query_seen (query_value names ms (pair prologue rest))))
-    good_query names prologue (pair select (pair kind (pair selection (pair where_ g)))) h =
-        recursion_append (Fits keys) (selected_nodes (selection_value ms selection)) (group_nodes (group_seen (group_value ms g))) (good_selection selection h.1.1.0) (good_group g h.1.1.1.1)
+    good_bracketed_key : (t : Tree) → Of t KEY_FROM_3 → GoodCondition (bracketed_key ms t).condition
+    good_bracketed_key (first t) h = good_bracketed t h
+    good_bracketed_key (second (pair direction t)) h = good_bracketed t h.1
+    good_bracketed_key (second t) h = absurd (h)
+    good_bracketed_key t h = absurd (h)
+
+    good_key : (t : Tree) → Of t KEY → GoodCondition (key_value ms t).condition
+    good_key (first t) h = fits_operand (meaning_at ms (first_token t)) (operand_first t TOKEN_VAR refl h)
+    good_key (second (first t)) h = good_call t h
+    good_key (second (second t)) h = good_bracketed_key t h
+    good_key (second t) h = absurd (h)
+    good_key t h = absurd (h)
+
+    abbrev GoodKeys : List Key → Type 0
+    GoodKeys ks = Good (keys_nodes (map key_seen ks))
+
+    -- a key, and more of them
+    good_keys_with : (k more : Tree) → Of k KEY → GoodKeys (keys_value ms more) → GoodKeys (key_value ms k ∷ keys_value ms more)
+    good_keys_with k more h g = recursion_append (Fits keys) (condition_nodes (condition_seen (key_value ms k).condition)) (keys_nodes (map key_seen (keys_value ms more))) (good_key k h) g
+
+    good_keys : (t : Tree) → Of t ORDER_1 → GoodKeys (keys_value ms t)
+    good_keys (pair k more) h = good_keys_with k more h.0 (good_keys more h.1)
+    good_keys t h = tt
+
+    good_some_keys : (t : Tree) → Of t ORDER_2 → GoodKeys (keys_value ms t)
+    good_some_keys (pair k more) h = good_keys_with k more h.0 (good_keys more h.1)
+    good_some_keys t h = tt
+
+    good_order : (t : Tree) → Of t QUERY_9 → GoodKeys (order_value ms t)
+    good_order (first (pair order (pair by some))) h = good_some_keys some h.1.1
+    good_order t h = tt
+
+    pub good_query : (names : List (List ℕ)) (prologue rest : Tree) → Of rest QUERY_16 → Good (query_nodes (query_seen (query_value names ms (pair prologue rest))))
+    good_query names prologue (pair select (pair kind (pair selection (pair where_ (pair g (pair order slice)))))) h =
+        recursion_append (Fits keys) (selected_nodes (selection_value ms selection)) (group_nodes (group_seen (group_value ms g)) ++ keys_nodes (map key_seen (order_value ms order))) (good_selection selection h.1.1.0)
+        (recursion_append (Fits keys) (group_nodes (group_seen (group_value ms g))) (keys_nodes (map key_seen (order_value ms order))) (good_group g h.1.1.1.1.0) (good_order order h.1.1.1.1.1.0))
     good_query names prologue t h = tt

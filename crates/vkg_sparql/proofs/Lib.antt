@@ -7,6 +7,7 @@ pub mod NamesLemmas
 pub mod Numbering
 pub mod One
 pub mod SeenForms
+pub mod SliceNumbers
 pub mod Standing
 pub mod Steps
 pub mod WordsLeftOut

@@ -1,6 +1,6 @@
 -- What the tokens of a query mean, where no check fails of them.
 use Rattle.vkg_lists.proofs.Results.{none_if}
-use Rattle.std.proofs.Common.{◌≡◌, ◌∙◌, ℕ, ◌≤◌, ◌||◌, ◌==◌, Bool, true, false, if◌then◌else◌, zero, suc, List, [], ◌∷◌, codes, drop, Option, Some, None, option_map, refl, sym, ap, subst, arith, eqb-true}
+use Rattle.std.proofs.Common.{◌≡◌, ◌∙◌, ℕ, ◌≤◌, ◌||◌, ◌&&◌, ◌==◌, not, true≢false, Bool, true, false, if◌then◌else◌, zero, suc, List, [], ◌∷◌, codes, drop, Option, Some, None, option_map, refl, sym, ap, subst, arith, eqb-true}
 use Rattle.std.specs.Prelude.{slice_get}
 use Rattle.std.specs.Str.{str_to_ascii_lowercase}
 use Rattle.std.proofs.lemmas.Bool.{and_right, cond-true}
@@ -13,17 +13,19 @@ use Rattle.vkg_tokens.specs.declared.cutting.Token.{Token}
 use Rattle.vkg_tokens.specs.declared.sparql_kinds.TheConstants.{OPEN_BRACKET, IRIREF, PNAME_NS, PNAME_LN, BLANK, VAR, STRING, INTEGER, DECIMAL, IS_A, TRUE, FALSE}
 use Rattle.vkg_turtle.specs.Document.{typed}
 use Rattle.vkg_turtle.specs.Words.{between}
-use Rattle.vkg_sparql.specs.declared.checks.Check.{Check}
+use Rattle.vkg_turtle.specs.declared.lexeme.Word.{Word}
+use Rattle.vkg_turtle.specs.declared.lexeme.Word.TheVariants.{Integer}
 use Rattle.vkg_sparql.specs.declared.checks.Check.TheVariants.{Wide}
 use Rattle.vkg_sparql.specs.declared.environment.Environment.{Environment}
 use Rattle.vkg_sparql.specs.declared.lexeme.Lexeme.{Lexeme}
 use Rattle.vkg_sparql.specs.declared.meaning.Meaning.{Meaning}
 use Rattle.vkg_sparql.specs.declared.meaning.Meaning.TheVariants.{Variable, Label, Fixed}
-use Rattle.vkg_sparql.specs.Checks.{fails, first_place, is_literal}
+use Rattle.vkg_sparql.specs.Checks.{begins_slice, fails, first_place, is_literal, is_slice_number, no_number, slice_over}
 use Rattle.vkg_sparql.specs.Lexemes.{key_of, lexeme_of, lexeme_word, lexemes_of, named_of, number_in}
 use Rattle.vkg_sparql.specs.Literals.{is_term, meaning_of, meanings_of, operator_of, term_of}
 use Rattle.vkg_sparql.specs.Meanings.{meaning_at}
 use Rattle.vkg_sparql.proofs.Numbering.{Marked, is_variable_key, numbered}
+use Rattle.vkg_sparql.proofs.SliceNumbers.{slice_is_narrow}
 
 -- what stands behind the place i
 abbrev behind : {X : Type 0} → List X → ℕ → List X
@@ -53,13 +55,54 @@ meaning_is e keys (y ∷ xs) zero x h =
     ap (λ z. meaning_of e keys z xs) same
 meaning_is e keys (y ∷ xs) (suc i) x h = meaning_is e keys xs i x h
 
-passes_at : (check : Check) (e : Environment) (xs : List Lexeme) (i : ℕ) (x : Lexeme) → first_place check e xs ≡ None → slice_get xs i ≡ Some x → fails check e x (behind xs i) ≡ false
-passes_at check e [] zero x n h = absurd (cc)
-passes_at check e [] (suc i) x n h = absurd (cc)
-passes_at check e (y ∷ xs) zero x n h =
+-- ---- no token is a number of too many digits: before the slice by the check of that, in the slice by the check of its numbers
+
+slice_word_is_narrow : (e : Environment) (word : Word) (xs : List Lexeme) → is_slice_number word ≡ true → is_wide_number (term_of e word xs) ≡ false
+slice_word_is_narrow e (Integer text) xs h = slice_is_narrow text h
+slice_word_is_narrow e word xs h = absurd (cc)
+
+passes_in_slice : (e : Environment) (x : Lexeme) (xs : List Lexeme) → (is_literal x.kind && not (is_slice_number x.word)) ≡ false → fails Wide e x xs ≡ false
+unfolding fails
+passes_in_slice e x xs h = by (is_literal x.kind) (is_slice_number x.word) refl h
+  where
+    by : (a b : Bool) → is_slice_number x.word ≡ b → (a && not b) ≡ false → (if a then is_wide_number (term_of e x.word xs) else false) ≡ false
+    by true true s h = slice_word_is_narrow e x.word xs s
+    by true false s h = absurd (true≢false h)
+    by false b s h = refl
+
+slice_passes : (e : Environment) (xs : List Lexeme) (i : ℕ) (x : Lexeme) → no_number xs ≡ None → slice_get xs i ≡ Some x → fails Wide e x (behind xs i) ≡ false
+slice_passes e [] zero x n h = absurd (cc)
+slice_passes e [] (suc i) x n h = absurd (cc)
+slice_passes e (y ∷ xs) zero x n h =
     let same : y ≡ x = cc in
-    ap (λ z. fails check e z xs) (sym same) ∙ (none_if (fails check e y xs) y.at (first_place check e xs) n).0
-passes_at check e (y ∷ xs) (suc i) x n h = passes_at check e xs i x (none_if (fails check e y xs) y.at (first_place check e xs) n).1 h
+    ap (λ z. fails Wide e z xs) (sym same) ∙ passes_in_slice e y xs (none_if (is_literal y.kind && not (is_slice_number y.word)) y.at (no_number xs) n).0
+slice_passes e (y ∷ xs) (suc i) x n h = slice_passes e xs i x (none_if (is_literal y.kind && not (is_slice_number y.word)) y.at (no_number xs) n).1 h
+
+-- no check of these fails
+pub record Fine (e : Environment) (xs : List Lexeme) : Type 0 where
+  pub wide : first_place Wide e xs ≡ None
+  pub slice : slice_over xs ≡ None
+
+-- of the first token, by whether it begins the slice
+record FineAt (e : Environment) (y : Lexeme) (xs : List Lexeme) (b : Bool) : Type 0 where
+  wide : (if b then None else if fails Wide e y xs then Some y.at else first_place Wide e xs) ≡ None
+  slice : (if b then no_number (y ∷ xs) else slice_over xs) ≡ None
+
+first_passes : (e : Environment) (y : Lexeme) (xs : List Lexeme) (b : Bool) → FineAt e y xs b → fails Wide e y xs ≡ false
+first_passes e y xs true f = passes_in_slice e y xs (none_if (is_literal y.kind && not (is_slice_number y.word)) y.at (no_number xs) f.slice).0
+first_passes e y xs false f = (none_if (fails Wide e y xs) y.at (first_place Wide e xs) f.wide).0
+
+later_passes : (e : Environment) (y : Lexeme) (xs : List Lexeme) (i : ℕ) (x : Lexeme) (b : Bool) → FineAt e y xs b → slice_get xs i ≡ Some x → (Fine e xs → fails Wide e x (behind xs i) ≡ false) → fails Wide e x (behind xs i) ≡ false
+later_passes e y xs i x true f h rest = slice_passes e xs i x (none_if (is_literal y.kind && not (is_slice_number y.word)) y.at (no_number xs) f.slice).1 h
+later_passes e y xs i x false f h rest = rest (record { wide = (none_if (fails Wide e y xs) y.at (first_place Wide e xs) f.wide).1; slice = f.slice })
+
+passes_at : (e : Environment) (xs : List Lexeme) (i : ℕ) (x : Lexeme) → Fine e xs → slice_get xs i ≡ Some x → fails Wide e x (behind xs i) ≡ false
+passes_at e [] zero x f h = absurd (cc)
+passes_at e [] (suc i) x f h = absurd (cc)
+passes_at e (y ∷ xs) zero x f h =
+    let same : y ≡ x = cc in
+    ap (λ z. fails Wide e z xs) (sym same) ∙ first_passes e y xs (begins_slice y.kind) (record { wide = f.wide; slice = f.slice })
+passes_at e (y ∷ xs) (suc i) x f h = later_passes e y xs i x (begins_slice y.kind) (record { wide = f.wide; slice = f.slice }) h (λ g. passes_at e xs i x g h)
 
 -- ---- terms that are no numbers
 
@@ -215,7 +258,7 @@ module _ (text : List ℕ) (tokens : List Token) (e : Environment) (start : ℕ)
   abbrev pub all_meanings : List Meaning
   all_meanings = meanings_of e body_keys lexed
 
-  module _ (fine : first_place Wide e body ≡ None) (i k : ℕ) (l : start ≤ i) (h : slice_get (kinds_of tokens) i ≡ Some k) where
+  module _ (fine : Fine e body) (i k : ℕ) (l : start ≤ i) (h : slice_get (kinds_of tokens) i ≡ Some k) where
     at_token : (P : Meaning → Type 0)
         → ((kind at : ℕ) (token : List ℕ) (xs : List Lexeme) → kind ≡ k
         → ((key : List ℕ) → key_of (lexeme kind at token) ≡ Some key → slice_get body_keys (number_in body_keys (key_of (lexeme kind at token))) ≡ Some key)
@@ -227,7 +270,7 @@ module _ (text : List ℕ) (tokens : List Token) (e : Environment) (start : ℕ)
         subst P (sym (meaning_is e body_keys lexed i (lexeme_of text s.token) s.at))
         (f s.token.kind s.token.start (between text s.token.start s.token.end) (behind lexed i) s.kind
         (λ key q. numbered body d.place (lexeme_of text s.token) key d.at q)
-        (subst (λ xs. fails Wide e (lexeme_of text s.token) xs ≡ false) d.rest (passes_at Wide e body d.place (lexeme_of text s.token) fine d.at)))
+        (subst (λ xs. fails Wide e (lexeme_of text s.token) xs ≡ false) d.rest (passes_at e body d.place (lexeme_of text s.token) fine d.at)))
 
     pub node_at : is_node_kind k ≡ true → IsNode body_keys (meaning_at all_meanings i)
     node_at p = at_token (IsNode body_keys) (λ kind at token xs same numbers narrow. node body_keys e kind at token xs numbers narrow (ap is_node_kind same ∙ p))

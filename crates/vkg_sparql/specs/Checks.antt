@@ -1,5 +1,5 @@
 -- What may be wrong with a query that is a text of the grammar.
-use Rattle.std.specs.Prelude.{ℕ, Bool, false, ◌||◌, ◌&&◌, not, List, [], ◌∷◌, ◌++◌, codes, filter, fold, map, position, slice_get, Option, Some, None, option_and_then, option_map, if◌then◌else◌, ◌==◌, nat_le, nat_lt, is_none}
+use Rattle.std.specs.Prelude.{ℕ, Bool, false, ◌||◌, ◌&&◌, not, List, [], ◌∷◌, ◌++◌, codes, filter, fold, map, position, slice_get, Option, Some, None, option_and_then, option_map, if◌then◌else◌, ◌==◌, nat_le, nat_lt, is_none, is_some}
 use Rattle.std.specs.Str.{bytes_eq}
 use Rattle.indexmap.specs.IndexSet.{insert_key}
 use Rattle.vkg_lists.specs.Places.{earlier}
@@ -8,9 +8,9 @@ use Rattle.vkg_terms.specs.declared.term.Term.TheVariants.{Lit}
 use Rattle.vkg_terms.specs.declared.term.Annotation.TheVariants.{Typed}
 use Rattle.vkg_terms.specs.Iri.{is_absolute}
 use Rattle.vkg_terms.specs.Vocabulary.{xsd}
-use Rattle.vkg_tokens.specs.declared.sparql_kinds.TheConstants.{OPEN_BRACE, CLOSE_BRACE, EQUAL, OR, BLANK, STRING, INTEGER, DECIMAL, OPTIONAL, DATATYPE, STRLEN, CONTAINS}
+use Rattle.vkg_tokens.specs.declared.sparql_kinds.TheConstants.{OPEN_BRACE, CLOSE_BRACE, EQUAL, OR, BLANK, STRING, INTEGER, DECIMAL, OPTIONAL, DATATYPE, STRLEN, CONTAINS, LIMIT, OFFSET}
 use Rattle.vkg_turtle.specs.declared.lexeme.Word.{Word}
-use Rattle.vkg_turtle.specs.declared.lexeme.Word.TheVariants.{Name, Label}
+use Rattle.vkg_turtle.specs.declared.lexeme.Word.TheVariants.{Name, Label, Integer}
 use Rattle.vkg_sparql.specs.declared.checks.Check.{Check}
 use Rattle.vkg_sparql.specs.declared.checks.Check.TheVariants.{Unknown, Relative, Float, Wide}
 use Rattle.vkg_sparql.specs.declared.blocks.Blocks.{Blocks}
@@ -19,6 +19,7 @@ use Rattle.vkg_sparql.specs.declared.lexeme.Lexeme.{Lexeme}
 use Rattle.vkg_sparql.specs.declared.meaning.TripleTokens.{TripleTokens}
 use Rattle.vkg_sparql.specs.Environment.{iri_of}
 use Rattle.vkg_sparql.specs.Literals.{term_of}
+use Rattle.vkg_sparql.specs.Orders.{slice_number}
 use Rattle.vkg_cells.specs.WellTyped.{is_wide_number}
 
 -- a name whose prefix is not declared
@@ -49,10 +50,14 @@ fails Relative e x xs = is_relative (iri_of e x.word)
 fails Float e x xs = if is_literal x.kind then is_float (term_of e x.word xs) else false
 fails Wide e x xs = if is_literal x.kind then is_wide_number (term_of e x.word xs) else false
 
--- the place of the first token at which the check fails
+-- the words that begin a slice, which no other production has
+abbrev pub begins_slice : ℕ → Bool
+begins_slice kind = (kind == LIMIT) || (kind == OFFSET)
+
+-- the place of the first token before the slice at which the check fails; the numbers of a slice are no literals
 abbrev pub first_place : Check → Environment → List Lexeme → Option ℕ
 first_place check e [] = None
-first_place check e (x ∷ xs) = if fails check e x xs then Some x.at else first_place check e xs
+first_place check e (x ∷ xs) = if begins_slice x.kind then None else if fails check e x xs then Some x.at else first_place check e xs
 
 -- SPARQL 1.1, 5.1: a filter ends no basic graph pattern, any other pattern does, and each of those has braces. So a basic graph
 -- pattern is told by the last brace before it.
@@ -99,6 +104,20 @@ triples_over xs ts = subject_place xs (slice_get ts 128)
 
 abbrev pub nodes_over : List Lexeme → Option ℕ
 nodes_over xs = slice_get (node_places xs) 1024
+
+abbrev pub is_slice_number : Word → Bool
+is_slice_number (Integer text) = is_some (slice_number text)
+is_slice_number word = false
+
+-- the place of the first literal that is no number of a slice
+abbrev pub no_number : List Lexeme → Option ℕ
+no_number [] = None
+no_number (x ∷ xs) = if is_literal x.kind && not (is_slice_number x.word) then Some x.at else no_number xs
+
+-- own: of a slice each number has no sign and is at most 4,294,967,295
+abbrev pub slice_over : List Lexeme → Option ℕ
+slice_over [] = None
+slice_over (x ∷ xs) = if begins_slice x.kind then no_number (x ∷ xs) else slice_over xs
 
 -- own: at most 2,147,483,647 bytes
 abbrev pub size_over : ℕ → Option ℕ

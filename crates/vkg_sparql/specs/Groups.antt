@@ -1,4 +1,4 @@
--- SPARQL 1.1, 19.8, [1] to [9], [17], [53] to [68]: groups and the query, off its tree.
+-- SPARQL 1.1, 19.8, [1] to [9], [17], [18], [53] to [68]: groups and the query, off its tree.
 use Rattle.std.specs.Prelude.{ℕ, Bool, true, false, List, [], ◌∷◌, ◌++◌, map}
 use Rattle.vkg_grammar.specs.Trees.{Tree, pair, first, second}
 use Rattle.vkg_sparql.specs.declared.meaning.Meaning.{Meaning}
@@ -11,6 +11,7 @@ use Rattle.vkg_sparql.specs.declared.query.Selected.{Selected}
 use Rattle.vkg_sparql.specs.declared.query.Selected.TheVariants.{All, Listed}
 use Rattle.vkg_sparql.specs.Conditions.{filter_value}
 use Rattle.vkg_sparql.specs.Meanings.{first_token, meaning_at, number_of, pattern_of, name_of}
+use Rattle.vkg_sparql.specs.Orders.{no_slice, order_value, slice_value}
 use Rattle.vkg_sparql.specs.Triples.{block_value, group_triples}
 
 abbrev pub patterns_of : List Meaning → List TripleTokens → List TriplePattern
@@ -78,14 +79,21 @@ is_distinct t = false
 
 -- of a tree that no production has
 abbrev pub no_query : List (List ℕ) → Query
-no_query names = record { names = names; distinct = false; selected = All; group = [] }
+no_query names = record { names = names; distinct = false; selected = All; group = []; keys = []; slice = no_slice }
 
--- query = prologue SELECT [ DISTINCT | REDUCED ] selection [ WHERE ] group, where the variables and labels have these names
+-- query = prologue SELECT [ DISTINCT | REDUCED ] selection [ WHERE ] group [ order ] [ slice ], where the variables and labels have these names
 abbrev pub query_value : List (List ℕ) → List Meaning → Tree → Query
-query_value names ms (pair prologue (pair select (pair kind (pair selection (pair where_ g))))) = record { names = names; distinct = is_distinct kind; selected = selection_value ms selection; group = group_value ms g }
+query_value names ms (pair prologue (pair select (pair kind (pair selection (pair where_ (pair g (pair order slice))))))) = record {
+  names = names;
+  distinct = is_distinct kind;
+  selected = selection_value ms selection;
+  group = group_value ms g;
+  keys = order_value ms order;
+  slice = slice_value ms slice;
+}
 query_value names ms t = no_query names
 
 -- all triple patterns of a query, by their tokens
 abbrev pub query_triples : Tree → List TripleTokens
-query_triples (pair prologue (pair select (pair kind (pair selection (pair where_ g))))) = group_triples g
+query_triples (pair prologue (pair select (pair kind (pair selection (pair where_ (pair g more)))))) = group_triples g
 query_triples t = []

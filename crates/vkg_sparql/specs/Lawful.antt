@@ -9,7 +9,7 @@ use Rattle.vkg_sparql.specs.declared.pattern.GraphName.TheVariants.{Each, Named}
 use Rattle.vkg_sparql.specs.declared.pattern.TriplePattern.{TriplePattern}
 use Rattle.vkg_sparql.specs.declared.query.Selected.{Selected}
 use Rattle.vkg_sparql.specs.declared.query.Selected.TheVariants.{All, Listed}
-use Rattle.vkg_sparql.specs.Query.{Condition, Variable, Constant, Bound, Test, Take, Compare, SameTerm, Not, And, Or, Part, Triples, Filter, Optional, Graph, Groups, Group, End, Then, Unions, Last, Union, Query}
+use Rattle.vkg_sparql.specs.Query.{Condition, Variable, Constant, Bound, Test, Take, Compare, SameTerm, Not, And, Or, Part, Triples, Filter, Optional, Graph, Groups, Group, End, Then, Unions, Last, Union, Key, Query}
 
 -- the variables and terms of an expression
 abbrev pub condition_nodes : Condition → List Node
@@ -55,8 +55,12 @@ abbrev pub selected_nodes : Selected → List Node
 selected_nodes All = []
 selected_nodes (Listed vs) = map node.Variable vs
 
+abbrev pub keys_nodes : List Key → List Node
+keys_nodes [] = []
+keys_nodes (k ∷ ks) = condition_nodes k.condition ++ keys_nodes ks
+
 abbrev pub query_nodes : Query → List Node
-query_nodes q = selected_nodes q.selected ++ group_nodes q.group
+query_nodes q = selected_nodes q.selected ++ (group_nodes q.group ++ keys_nodes q.keys)
 
 -- a number among n, or a term that is no such literal
 abbrev pub IsWithin : ℕ → Node → Type 0

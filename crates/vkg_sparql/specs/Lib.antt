@@ -7,6 +7,7 @@ pub mod LeftOut
 pub mod Lexemes
 pub mod Literals
 pub mod Meanings
+pub mod Orders
 pub mod Query
 pub mod Reading
 pub mod Seen

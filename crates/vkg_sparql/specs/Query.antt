@@ -7,6 +7,7 @@ use Rattle.vkg_values.specs.declared.operator.Compare.{Compare as CompareOp}
 use Rattle.vkg_sparql.specs.declared.pattern.GraphName.{GraphName}
 use Rattle.vkg_sparql.specs.declared.pattern.TriplePattern.{TriplePattern}
 use Rattle.vkg_sparql.specs.declared.query.Selected.{Selected}
+use Rattle.vkg_sparql.specs.declared.query.Slice.{Slice}
 
 -- SPARQL 1.1, 17: an expression of a filter
 pub data Condition : Type 0 where
@@ -38,8 +39,15 @@ mutual
     Last : Unions
     Union : (g : Group) (more : Unions) → Unions
 
+-- SPARQL 1.1, 15.1: a key of ORDER BY, and whether it is one of DESC
+pub record Key : Type 0 where
+  pub condition : Condition
+  pub descends : Bool
+
 pub record Query : Type 0 where
   pub names : List (List ℕ)
   pub distinct : Bool
   pub selected : Selected
   pub group : Group
+  pub keys : List Key
+  pub slice : Slice

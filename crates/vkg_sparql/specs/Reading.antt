@@ -11,7 +11,7 @@ use Rattle.vkg_tokens.specs.declared.cutting.Token.{Token}
 use Rattle.vkg_tokens.specs.declared.lang.Lang.TheVariants.{Sparql}
 use Rattle.vkg_tokens.specs.Cut.{tokens_of}
 use Rattle.vkg_tokens.specs.Mark.{without_mark}
-use Rattle.vkg_tokens.specs.declared.sparql_kinds.TheConstants.{OPEN_BRACE, CLOSE_BRACE, OPEN, CLOSE, OPEN_BRACKET, CLOSE_BRACKET, STAR, CARET, PLUS_SIGN, QUESTION, DOUBLE, SELECT, OUTSIDE, MINUS, BIND, AS, VALUES, ORDER, LIMIT, OFFSET, ASK, CONSTRUCT, KIND_COUNT}
+use Rattle.vkg_tokens.specs.declared.sparql_kinds.TheConstants.{OPEN_BRACE, CLOSE_BRACE, OPEN, CLOSE, OPEN_BRACKET, CLOSE_BRACKET, STAR, CARET, PLUS_SIGN, QUESTION, DOUBLE, SELECT, OUTSIDE, MINUS, BIND, AS, VALUES, ASK, CONSTRUCT, KIND_COUNT}
 use Rattle.vkg_turtle.specs.Lexical.{IsFirstBad}
 use Rattle.vkg_sparql.specs.declared.checks.Check.TheVariants.{Unknown, Relative, Float, Wide}
 use Rattle.vkg_sparql.specs.declared.environment.Environment.{Environment}
@@ -22,7 +22,7 @@ use Rattle.vkg_sparql.specs.declared.query.Query.{Query}
 use Rattle.vkg_sparql.specs.declared.fault.QueryError.{QueryError}
 use Rattle.vkg_sparql.specs.declared.fault.QueryError.TheVariants.{Fault, Memory}
 use Rattle.vkg_sparql.specs.declared.fault.QueryFault.{QueryFault}
-use Rattle.vkg_sparql.specs.Checks.{first_place, label_again, triples_over, nodes_over, size_over}
+use Rattle.vkg_sparql.specs.Checks.{first_place, label_again, triples_over, nodes_over, size_over, slice_over}
 use Rattle.vkg_sparql.specs.Environment.{environment_of, body_start}
 use Rattle.vkg_sparql.specs.Groups.{query_value, query_triples}
 use Rattle.vkg_sparql.specs.Lexemes.{lexemes_of, named_of}
@@ -49,10 +49,9 @@ abbrev pub fault : ℕ → ℕ → QueryFault
 fault check at = record { check = check; at = at }
 
 -- own: the words of SPARQL 1.1 that are told as left out of the profile: those of the kind OUTSIDE, and of those that are to come all
--- but UNDEF, BY, ASC and DESC
+-- but UNDEF
 unfoldable pub is_outside_word : ℕ → Bool
-is_outside_word kind =
-    (kind == OUTSIDE) || (kind == MINUS) || (kind == BIND) || (kind == AS) || (kind == VALUES) || (kind == ORDER) || (kind == LIMIT) || (kind == OFFSET) || (kind == ASK) || (kind == CONSTRUCT)
+is_outside_word kind = (kind == OUTSIDE) || (kind == MINUS) || (kind == BIND) || (kind == AS) || (kind == VALUES) || (kind == ASK) || (kind == CONSTRUCT)
 
 -- own: the tokens that are told so: these words, `(` `*` `/` `|` `^` `+` `-` `?`, a number with an exponent, and SELECT within a query. Among
 -- the kinds `*` to `^` stand together, and `+` to `?`
@@ -93,7 +92,7 @@ abbrev pub limit_over : Read → Option ℕ
 limit_over r = lesser (lesser (triples_over r.lexemes (query_triples r.tree)) (nodes_over r.lexemes)) (lesser r.named.over (size_over r.size))
 
 -- the least check that fails, at its least place: 4 a prefix, 5 an IRI, 6 a blank node label, 7 a datatype outside the profile,
--- 8 a number, 9 a limit
+-- 8 a number, 9 a limit, 12 the number of a slice
 abbrev pub fault_of : Read → Option QueryFault
 fault_of r =
     fault_if 4 (first_place Unknown r.environment r.body)
@@ -101,7 +100,8 @@ fault_of r =
     (fault_if 6 (label_again r.body)
     (fault_if 7 (first_place Float r.environment r.body)
     (fault_if 8 (first_place Wide r.environment r.body)
-    (fault_if 9 (limit_over r) None)))))
+    (fault_if 9 (limit_over r)
+    (fault_if 12 (slice_over r.body) None))))))
 
 -- the query
 abbrev pub query_of : Read → Query

@@ -6,8 +6,9 @@ use Rattle.vkg_sparql.specs.declared.condition.Condition.TheFolds.{fold-Conditio
 use Rattle.vkg_sparql.specs.declared.query.Part.{Part as PartValue}
 use Rattle.vkg_sparql.specs.declared.query.Part.TheOpen.{Part-F}
 use Rattle.vkg_sparql.specs.declared.query.Part.TheFolds.{fold-Part}
+use Rattle.vkg_sparql.specs.declared.query.Key.{Key as KeyValue}
 use Rattle.vkg_sparql.specs.declared.query.Query.{Query as QueryValue}
-use Rattle.vkg_sparql.specs.Query.{Condition, Variable, Constant, Bound, Test, Take, Compare, SameTerm, Not, And, Or, Part, Triples, Filter, Optional, Graph, Groups, Group, End, Then, Unions, Last, Union, Query}
+use Rattle.vkg_sparql.specs.Query.{Condition, Variable, Constant, Bound, Test, Take, Compare, SameTerm, Not, And, Or, Part, Triples, Filter, Optional, Graph, Groups, Group, End, Then, Unions, Last, Union, Key, Query}
 
 -- one form of an expression over what stands in it; a chain is joined from the left
 abbrev pub condition_step : Condition-F Condition → Condition
@@ -51,5 +52,15 @@ group_seen ps = group_of (map part_seen ps)
 abbrev pub unions_seen : List (List PartValue) → Unions
 unions_seen pss = unions_of (map (map part_seen) pss)
 
+abbrev pub key_seen : KeyValue → Key
+key_seen k = record { condition = condition_seen k.condition; descends = k.descends }
+
 abbrev pub query_seen : QueryValue → Query
-query_seen q = record { names = q.names; distinct = q.distinct; selected = q.selected; group = group_seen q.group }
+query_seen q = record {
+  names = q.names;
+  distinct = q.distinct;
+  selected = q.selected;
+  group = group_seen q.group;
+  keys = map key_seen q.keys;
+  slice = q.slice;
+}

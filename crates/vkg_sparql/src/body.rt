@@ -12,7 +12,7 @@ ghost use Rattle.vkg_sparql.specs.Literals.{meanings_of};
 ghost use Rattle.vkg_sparql.specs.Reading.{IsQueryText, TextFails, sparql, sparql_tokens, parts, fault_if, fault_of};
 
 use crate::blocks::label_again;
-use crate::checks::{Check, first_place, nodes_over, size_over, triples_over};
+use crate::checks::{Check, first_place, nodes_over, size_over, slice_over, triples_over};
 use crate::environment::{Environment, body_start, environment_of};
 use crate::fault::{QueryError, QueryFault};
 use crate::grammar_table::SPARQL;
@@ -87,7 +87,8 @@ fn fault_of(
     let float = first_place(alloc, Check::Float, environment, body)?;
     let wide = first_place(alloc, Check::Wide, environment, body)?;
     let limit = limit_over(alloc, size, lexemes, named.over, forest, at)?;
-    let numbers = fault_if(8, wide, fault_if(9, limit, None));
+    let slice = fault_if(9, limit, fault_if(12, slice_over(body), None));
+    let numbers = fault_if(8, wide, slice);
     let labels = fault_if(6, again, fault_if(7, float, numbers));
     let iris = fault_if(5, environment.relative.or(relative), labels);
     Ok(fault_if(4, unknown, iris))

@@ -1,11 +1,12 @@
 ghost use Rattle.std.specs.Prelude.{◌≡◌, ◌&&◌, IfOk, map, filter, option_map, slice_get, is_none};
-ghost use Rattle.vkg_sparql.specs.Checks.{is_unknown, is_relative, is_float_type, is_float, is_literal, fails, first_place, is_node, node_places, place_in, subject_place, triples_over, nodes_over, size_over};
+ghost use Rattle.vkg_sparql.specs.Checks.{is_unknown, is_relative, is_float_type, is_float, is_literal, fails, first_place, is_node, node_places, place_in, subject_place, triples_over, nodes_over, size_over, begins_slice, is_slice_number, no_number, slice_over};
 ghost use Rattle.vkg_sparql.specs.Environment.{iri_of};
 
 use crate::environment::Environment;
 use crate::lexeme::Lexeme;
 use crate::literals::term_of;
 use crate::meaning::TripleTokens;
+use crate::order_reader::slice_number;
 use std::alloc::Global;
 use vkg_base::{Memory, Text};
 use vkg_cells::is_wide_number;
@@ -104,7 +105,13 @@ fn fails(
     }
 }
 
-/// The place of the first token at which the check fails.
+fn begins_slice(kind: usize) -> bool
+    ensures { result ≡ begins_slice kind }
+{
+    kind == kinds::LIMIT || kind == kinds::OFFSET
+}
+
+/// The place of the first token before the slice at which the check fails.
 pub fn first_place(
     alloc: Global,
     check: Check,
@@ -115,6 +122,9 @@ pub fn first_place(
 {
     let mut rest = lexemes;
     while let Some((lexeme, more)) = rest.split_first() {
+        if begins_slice(lexeme.kind) {
+            return Ok(None);
+        }
         if fails(alloc, check, environment, lexeme, more)? {
             return Ok(Some(lexeme.at));
         }
@@ -178,6 +188,42 @@ pub fn triples_over(lexemes: &[Lexeme], triples: &[TripleTokens]) -> Option<usiz
         Some(triple) => place_in(lexemes, triple.subject),
         None => None,
     }
+}
+
+fn is_slice_number(word: &Word) -> bool
+    ensures { result ≡ is_slice_number word.now }
+{
+    match word {
+        Word::Integer(text) => slice_number(text.as_str()).is_some(),
+        _ => false,
+    }
+}
+
+fn no_number(lexemes: &[Lexeme]) -> Option<usize>
+    ensures { result ≡ no_number lexemes.now }
+{
+    let mut rest = lexemes;
+    while let Some((lexeme, more)) = rest.split_first() {
+        if is_literal(lexeme.kind) && !is_slice_number(&lexeme.word) {
+            return Some(lexeme.at);
+        }
+        rest = more;
+    }
+    None
+}
+
+/// The place of the first number of a slice that has a sign or is too great.
+pub fn slice_over(lexemes: &[Lexeme]) -> Option<usize>
+    ensures { result ≡ slice_over lexemes.now }
+{
+    let mut rest = lexemes;
+    while let Some((lexeme, more)) = rest.split_first() {
+        if begins_slice(lexeme.kind) {
+            return no_number(rest);
+        }
+        rest = more;
+    }
+    None
 }
 
 /// The place that is named where a text has too many bytes.

@@ -11,7 +11,8 @@ use std::alloc::Global;
 use vkg_base::{Box, Items, Memory};
 use vkg_grammar::{Forest, Node};
 
-fn no_condition() -> Result<Condition, Memory>
+/// Of a tree that no production has.
+pub fn no_condition() -> Result<Condition, Memory>
     ensures { IfOk result (λ c. c ≡ no_condition) }
 {
     Ok(Condition::Variable(0))
@@ -62,8 +63,8 @@ fn read_bound(meanings: &[Meaning], forest: &Forest, at: usize) -> Condition
     Condition::Bound(number_of(meanings, first_token(forest, v)))
 }
 
-// VAR | iri | literal
-fn read_operand(meanings: &[Meaning], forest: &Forest, at: usize) -> Result<Condition, Memory>
+/// The expression that one token is, or one literal: VAR | iri | literal.
+pub fn read_operand(meanings: &[Meaning], forest: &Forest, at: usize) -> Result<Condition, Memory>
     requires { at < node_count forest.now }
     ensures { IfOk result (λ c. c ≡ operand_value meanings.now (tree forest.now at)) }
 {
@@ -234,9 +235,9 @@ fn read_primary(
     }
 }
 
-// bracketed = "(" or ")"
+/// bracketed = "(" or ")".
 #[cycle(condition)]
-fn read_bracketed(
+pub fn read_bracketed(
     alloc: Global,
     meanings: &[Meaning],
     forest: &Forest,
@@ -254,9 +255,9 @@ fn read_bracketed(
     read_or(alloc, meanings, forest, a)
 }
 
-// call = BOUND "(" VAR ")" | two "(" or "," or ")" | test bracketed
+/// call = BOUND "(" VAR ")" | two "(" or "," or ")" | test bracketed
 #[cycle(condition)]
-fn read_call(
+pub fn read_call(
     alloc: Global,
     meanings: &[Meaning],
     forest: &Forest,

@@ -1,5 +1,5 @@
 //! SPARQL queries (SPARQL 1.1 Query Language, W3C Recommendation of 2013), in the profile of this project: SELECT over
-//! basic graph patterns, OPTIONAL, UNION, GRAPH and FILTER.
+//! basic graph patterns, OPTIONAL, UNION, GRAPH and FILTER, with ORDER BY, LIMIT and OFFSET.
 //!
 //! A query is kept as it is written, with its variables and blank node labels numbered. The definitions in `specs/` say
 //! what each type stands for as a tree that computes; copies are equal to what they copy.
@@ -22,6 +22,7 @@ mod lexeme;
 mod literals;
 mod meaning;
 mod names;
+mod order_reader;
 mod pattern;
 mod query;
 mod query_reader;
@@ -40,5 +41,5 @@ pub use lexeme::Lexeme;
 pub use meaning::{Meaning, TripleTokens};
 pub use names::{Named, Names};
 pub use pattern::{GraphName, Node, TriplePattern, copy_patterns};
-pub use query::{Part, Query, Selected};
+pub use query::{Key, Part, Query, Selected, Slice};
 pub use reading::{is_determined, leaves_out_words, read_query};

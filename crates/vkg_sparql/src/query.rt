@@ -24,6 +24,20 @@ pub enum Selected {
     Listed(Items<usize>),
 }
 
+/// A key of ORDER BY (SPARQL 1.1, 15.1): an expression, and whether the greater value comes first.
+#[derive(Drop)]
+pub struct Key {
+    pub condition: Condition,
+    pub descends: bool,
+}
+
+/// OFFSET and LIMIT (15.4 and 15.5). No OFFSET is one of 0.
+#[derive(Clone, Copy)]
+pub struct Slice {
+    pub offset: u32,
+    pub limit: Option<u32>,
+}
+
 /// A query. Variables and blank node labels are numbers: their places in `names`.
 #[derive(Drop)]
 pub struct Query {
@@ -34,4 +48,7 @@ pub struct Query {
     pub selected: Selected,
     /// The parts of the outermost group.
     pub group: Items<Part>,
+    /// What the answer is ordered by, the first key first.
+    pub keys: Items<Key>,
+    pub slice: Slice,
 }

@@ -5,6 +5,7 @@ ghost use Rattle.vkg_sparql.specs.Groups.{numbers_value, selection_value, is_dis
 use crate::all_triples::read_group_triples;
 use crate::group_reader::read_group;
 use crate::meaning::{Meaning, TripleTokens, first_token, number_of};
+use crate::order_reader::{no_slice, read_order, read_slice};
 use crate::query::{Query, Selected};
 use std::alloc::Global;
 use vkg_base::{Items, Memory, Text};
@@ -83,16 +84,25 @@ pub fn read_tree(
     let Node::Pair(selection, rest) = forest.node(rest) else {
         return no_query(alloc, names);
     };
-    let Node::Pair(_, group) = forest.node(rest) else {
+    let Node::Pair(_, rest) = forest.node(rest) else {
+        return no_query(alloc, names);
+    };
+    let Node::Pair(group, rest) = forest.node(rest) else {
+        return no_query(alloc, names);
+    };
+    let Node::Pair(order, slice) = forest.node(rest) else {
         return no_query(alloc, names);
     };
     let selected = read_selection(alloc, meanings, forest, selection)?;
     let group = read_group(alloc, meanings, forest, group)?;
+    let keys = read_order(alloc, meanings, forest, order)?;
     Ok(Query {
         names,
         distinct: is_distinct(forest, kind),
         selected,
         group,
+        keys,
+        slice: read_slice(meanings, forest, slice),
     })
 }
 
@@ -104,6 +114,8 @@ fn no_query(alloc: Global, names: Items<Text>) -> Result<Query, Memory>
         distinct: false,
         selected: Selected::All,
         group: Items::new(alloc),
+        keys: Items::new(alloc),
+        slice: no_slice(),
     })
 }
 
@@ -129,7 +141,10 @@ pub fn read_all_triples(
     let Node::Pair(_, rest) = forest.node(rest) else {
         return Ok(out);
     };
-    let Node::Pair(_, group) = forest.node(rest) else {
+    let Node::Pair(_, rest) = forest.node(rest) else {
+        return Ok(out);
+    };
+    let Node::Pair(group, _) = forest.node(rest) else {
         return Ok(out);
     };
     read_group_triples(forest, group, &mut out)?;

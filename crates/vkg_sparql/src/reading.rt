@@ -71,9 +71,6 @@ fn is_outside_word(kind: usize) -> bool
         || kind == kinds::BIND
         || kind == kinds::AS
         || kind == kinds::VALUES
-        || kind == kinds::ORDER
-        || kind == kinds::LIMIT
-        || kind == kinds::OFFSET
         || kind == kinds::ASK
         || kind == kinds::CONSTRUCT
 }
@@ -150,7 +147,8 @@ fn read_text(alloc: Global, bytes: &[u8], base: &str) -> Result<Query, QueryErro
 /// that is not declared; 5, an IRI that is not absolute, also one of the prologue; 6, a blank node label in a second basic
 /// graph pattern; 7, a string with the datatype xsd:double or xsd:float; 8, a well-typed integer or decimal literal past 38
 /// digits; 9, a limit: the subject of the 129th triple pattern, the 257th variable or blank node, the 1,025th node (a `{`,
-/// OPTIONAL, GRAPH, FILTER, UNION, an operator's sign, a call's word), 2147483647 for a longer text.
+/// OPTIONAL, GRAPH, FILTER, UNION, an operator's sign, a call's word), 2147483647 for a longer text; 12, the number of a slice that
+/// has a sign or is above 4,294,967,295: it is no literal, and so never one of 8.
 pub fn read_query(alloc: Global, bytes: &[u8], base: &str) -> Result<Query, QueryError>
     ensures ok { IfOk result (IsQuery bytes.now base.now) }
     ensures lawful { IfOk result (λ q. IsLawfulQuery (query_seen q)) }

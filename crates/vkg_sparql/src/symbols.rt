@@ -1,6 +1,6 @@
 //! The symbols of the grammar of queries: printed from tools/sparql.grammar by tools/grammar_table.py.
 
-/// `query = { BASE IRIREF | PREFIX PNAME_NS IRIREF } SELECT [ DISTINCT | REDUCED ] selection [ WHERE ] group`
+/// `query = { BASE IRIREF | PREFIX PNAME_NS IRIREF } SELECT [ DISTINCT | REDUCED ] selection [ WHERE ] group [ order ] [ slice ]`
 pub const QUERY: usize = 0;
 
 /// `BASE`
@@ -513,17 +513,101 @@ pub const GROUP_6: usize = 169;
 /// `[ block ] { part [ "." ] [ block ] } "}"`
 pub const GROUP_7: usize = 170;
 
-/// `[ WHERE ] group`
-pub const QUERY_9: usize = 171;
+/// `order = ORDER BY key { key }`
+pub const ORDER: usize = 171;
 
-/// `selection [ WHERE ] group`
-pub const QUERY_10: usize = 172;
+/// `ORDER`
+pub const TOKEN_ORDER: usize = 172;
 
-/// `[ DISTINCT | REDUCED ] selection [ WHERE ] group`
-pub const QUERY_11: usize = 173;
+/// `BY`
+pub const TOKEN_BY: usize = 173;
 
-/// `SELECT [ DISTINCT | REDUCED ] selection [ WHERE ] group`
-pub const QUERY_12: usize = 174;
+/// `key = VAR | call | bracketed | direction bracketed`
+pub const KEY: usize = 174;
+
+/// `direction = ASC | DESC`
+pub const DIRECTION: usize = 175;
+
+/// `ASC`
+pub const TOKEN_ASC: usize = 176;
+
+/// `DESC`
+pub const TOKEN_DESC: usize = 177;
+
+/// `direction bracketed`
+pub const KEY_1: usize = 178;
+
+/// `bracketed | direction bracketed`
+pub const KEY_FROM_3: usize = 179;
+
+/// `call | bracketed | direction bracketed`
+pub const KEY_FROM_2: usize = 180;
+
+/// `{ key }`
+pub const ORDER_1: usize = 181;
+
+/// `key { key }`
+pub const ORDER_2: usize = 182;
+
+/// `BY key { key }`
+pub const ORDER_3: usize = 183;
+
+/// `[ order ]`
+pub const QUERY_9: usize = 184;
+
+/// `slice = LIMIT INTEGER [ OFFSET INTEGER ] | OFFSET INTEGER [ LIMIT INTEGER ]`
+pub const SLICE: usize = 185;
+
+/// `LIMIT`
+pub const TOKEN_LIMIT: usize = 186;
+
+/// `OFFSET`
+pub const TOKEN_OFFSET: usize = 187;
+
+/// `OFFSET INTEGER`
+pub const SLICE_1: usize = 188;
+
+/// `[ OFFSET INTEGER ]`
+pub const SLICE_2: usize = 189;
+
+/// `INTEGER [ OFFSET INTEGER ]`
+pub const SLICE_3: usize = 190;
+
+/// `LIMIT INTEGER [ OFFSET INTEGER ]`
+pub const SLICE_4: usize = 191;
+
+/// `LIMIT INTEGER`
+pub const SLICE_5: usize = 192;
+
+/// `[ LIMIT INTEGER ]`
+pub const SLICE_6: usize = 193;
+
+/// `INTEGER [ LIMIT INTEGER ]`
+pub const SLICE_7: usize = 194;
+
+/// `OFFSET INTEGER [ LIMIT INTEGER ]`
+pub const SLICE_8: usize = 195;
+
+/// `[ slice ]`
+pub const QUERY_10: usize = 196;
+
+/// `[ order ] [ slice ]`
+pub const QUERY_11: usize = 197;
+
+/// `group [ order ] [ slice ]`
+pub const QUERY_12: usize = 198;
+
+/// `[ WHERE ] group [ order ] [ slice ]`
+pub const QUERY_13: usize = 199;
+
+/// `selection [ WHERE ] group [ order ] [ slice ]`
+pub const QUERY_14: usize = 200;
+
+/// `[ DISTINCT | REDUCED ] selection [ WHERE ] group [ order ] [ slice ]`
+pub const QUERY_15: usize = 201;
+
+/// `SELECT [ DISTINCT | REDUCED ] selection [ WHERE ] group [ order ] [ slice ]`
+pub const QUERY_16: usize = 202;
 
 /// How many symbols there are.
-pub const SYMBOL_COUNT: usize = 175;
+pub const SYMBOL_COUNT: usize = 203;

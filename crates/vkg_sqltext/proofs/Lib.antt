@@ -3,3 +3,4 @@ pub mod Heads
 pub mod LeftText
 pub mod Plans
 pub mod Sound
+pub mod Orders

@@ -1,6 +1,6 @@
 -- No two plans over one schema share a text.
 use Rattle.std.proofs.Common.{◌≡◌, ◌∙◌, ℕ, ◌==◌, true, if◌then◌else◌, suc, List, [], ◌∷◌, ◌++◌, flat_map, map, refl, sym, ap, arith, append_assoc, append-nil, lit<}
-use Rattle.std.specs.Prelude.{chars, codes, decimal}
+use Rattle.std.specs.Prelude.{IsTrue, chars, codes, decimal}
 use Rattle.std.specs.List.{list_all}
 use Rattle.std.specs.Str.{bytes_eq}
 use Rattle.std.proofs.lemmas.List.{append_cancel_left}
@@ -10,26 +10,29 @@ use Rattle.vkg_cells.specs.declared.cell.SqlType.{SqlType}
 use Rattle.vkg_cells.specs.declared.cell.SqlType.TheVariants as kind
 use Rattle.vkg_schema.specs.Names.{HasOwnNames, table_name}
 use Rattle.vkg_expr.specs.Expr.{Expr, exprs}
-use Rattle.vkg_plan.specs.Kinds.{Tables}
+use Rattle.vkg_plan.specs.Kinds.{Tables, is_well_typed}
 use Rattle.vkg_plan.specs.Plan.{Plan, Plans, Unit as Once, Empty, Scan, Select, Project, Join, Left, UnionAll, Distinct, Nil, More}
-use Rattle.vkg_sqltext.specs.Laws.{HaveOwnTexts}
+use Rattle.vkg_sqltext.specs.Laws.{HaveOwnTexts, HoldsPlan}
 use Rattle.vkg_sqltext.specs.Text.{column_text, commas, doubled, expr_text, in_brackets, kind_text, outputs, outputs_text, separated, sources, sql_text, sql_texts}
 use Rattle.vkg_sqltext.proofs.Cutting.{decimal_opens, within_same}
 use Rattle.vkg_sqltext.proofs.Heads.{Begins, Ends, SoundExprs, at_bracket, at_end, at_space, begins, class, expr_one, ends_stop, is_letter, kind_same, not_begun}
 use Rattle.vkg_sqltext.proofs.Sound.{SoundPlan, SoundPlans, sound_plan}
 
--- what may stand behind a plan
-data Closes : List ℕ → Type 0 where
+-- what may stand behind a plan: a bracket, or a word that does not begin with U, as UNION does
+pub data Closes : List ℕ → Type 0 where
   closes_end : Closes []
   closes_bracket : (x : List ℕ) → Closes (41 ∷ x)
+  closes_word : (c : ℕ) (x : List ℕ) → (c ≡ 85 → ⊥) → Closes (32 ∷ c ∷ x)
 
 closes_ends : {x : List ℕ} → Closes x → Ends x
 closes_ends closes_end = at_end
 closes_ends (closes_bracket x) = at_bracket x
+closes_ends (closes_word c x h) = at_space (c ∷ x)
 
-not_spaced : {x : List ℕ} (y : List ℕ) → Closes x → x ≡ 32 ∷ y → ⊥
-not_spaced y closes_end e = absurd (cc)
-not_spaced y (closes_bracket x) e = absurd (let bad = head_same 41 32 x y e in omega (arith, bad))
+not_union : {x : List ℕ} (y : List ℕ) → Closes x → x ≡ 32 ∷ 85 ∷ y → ⊥
+not_union y closes_end e = absurd (cc)
+not_union y (closes_bracket x) e = absurd (let bad = head_same 41 32 x (85 ∷ y) e in omega (arith, bad))
+not_union y (closes_word c x h) e = h (head_same c 85 x y (tail_same 32 32 (c ∷ x) (85 ∷ y) e))
 
 -- what stands behind a text in brackets
 bracketed : (t r x : List ℕ) → ((t ++ 41 ∷ []) ++ r) ++ x ≡ t ++ 41 ∷ (r ++ x)
@@ -232,8 +235,8 @@ module _ (schema : Tables) (names : HasOwnNames schema) where
 
   unions_one : (ps qs : Plans) (x y : List ℕ) → PlansAreOne ps → SoundPlans schema ps → SoundPlans schema qs → Closes x → Closes y → unions ps ++ x ≡ unions qs ++ y → (ps ≡ qs) × (x ≡ y)
   unions_one Nil Nil x y a s t u v e = (refl, e)
-  unions_one Nil (More q qs) x y a s t u v e = absurd (not_spaced _ u e)
-  unions_one (More p ps) Nil x y a s t u v e = absurd (not_spaced _ v (sym e))
+  unions_one Nil (More q qs) x y a s t u v e = absurd (not_union _ u e)
+  unions_one (More p ps) Nil x y a s t u v e = absurd (not_union _ v (sym e))
   unions_one (More p ps) (More q qs) x y a s t u v e =
       let joined = append_cancel_left (codes " UNION ALL (") _ _ e in
       let r = within p q (unions ps ++ x) (unions qs ++ y) a.0 s.0 t.0 (sym (bracketed (text p) (unions ps) x) ∙ joined ∙ bracketed (text q) (unions qs) y) in
@@ -403,3 +406,8 @@ module _ (schema : Tables) (names : HasOwnNames schema) where
 pub own_texts : HaveOwnTexts
 own_texts schema names p q h k w z e =
     (plan_one schema names p q [] [] (sound_plan schema p h w) (sound_plan schema q k z) closes_end closes_end (append-nil (sql_text schema p) ∙ e ∙ sym (append-nil (sql_text schema q)))).0
+
+-- and so it is with what stands behind them
+pub own_rests : (schema : Tables) → HasOwnNames schema → (p q : Plan) → IsTrue (is_well_typed schema p) → IsTrue (is_well_typed schema q) → HoldsPlan p → HoldsPlan q → (x y : List ℕ) → Closes x → Closes y
+    → sql_text schema p ++ x ≡ sql_text schema q ++ y → (p ≡ q) × (x ≡ y)
+own_rests schema names p q h k w z x y u v e = plan_one schema names p q x y (sound_plan schema p h w) (sound_plan schema q k z) u v e

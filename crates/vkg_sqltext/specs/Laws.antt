@@ -1,5 +1,5 @@
 -- No two plans share a text.
-use Rattle.std.specs.Prelude.{◌≡◌, ◌<◌, ◌^◌, suc, IsTrue, IsUtf8}
+use Rattle.std.specs.Prelude.{◌≡◌, ℕ, ◌<◌, ◌^◌, ◌++◌, suc, List, [], ◌∷◌, IfSome, IsTrue, IsUtf8}
 use Rattle.vkg_terms.specs.declared.term.Annotation.{Annotation}
 use Rattle.vkg_terms.specs.declared.term.Annotation.TheVariants.{Plain, Lang, Typed}
 use Rattle.vkg_terms.specs.NQuads.{term_text}
@@ -11,6 +11,9 @@ use Rattle.vkg_expr.specs.Expr.{Expr, Exprs, Col, Const, MakeIri, IriOf, MakeBla
 use Rattle.vkg_expr.specs.Expr as expr
 use Rattle.vkg_plan.specs.Kinds.{Tables, is_well_typed}
 use Rattle.vkg_plan.specs.Plan.{Plan, Plans, Unit as Once, Empty, Scan, Select, Project, Join, Left, UnionAll, Distinct, Nil, More}
+use Rattle.vkg_order.specs.declared.modifiers.Direction.{Direction}
+use Rattle.vkg_order.specs.declared.modifiers.Modifiers.{Modifiers}
+use Rattle.vkg_sqltext.specs.OrderText.{order_text}
 use Rattle.vkg_sqltext.specs.Text.{sql_text}
 
 -- What values of the program hold: numbers of 64 bits and texts in UTF-8. A column's text counts from 1.
@@ -74,3 +77,18 @@ abbrev mutual
 -- well-typed plans over one schema that have one text are one plan
 abbrev pub HaveOwnTexts : Type 0
 HaveOwnTexts = (schema : Tables) → HasOwnNames schema → (p q : Plan) → IsTrue (is_well_typed schema p) → IsTrue (is_well_typed schema q) → HoldsPlan p → HoldsPlan q → sql_text schema p ≡ sql_text schema q → p ≡ q
+
+-- what values of the program hold of an order: the numbers of its columns, which count from 1, are of 64 bits, and those of its slice of 32
+abbrev pub HoldsKeys : ℕ → List Direction → Type 0
+HoldsKeys at [] = Unit {0}
+HoldsKeys at (d ∷ ds) = (suc at < 2 ^ 64) × HoldsKeys (suc at) ds
+
+pub record HoldsOrder (at : ℕ) (m : Modifiers) : Type 0 where
+  pub keys : HoldsKeys at m.directions
+  pub offset : m.slice.offset < 2 ^ 64
+  pub limit : IfSome m.slice.limit (λ n. n < 2 ^ 64)
+
+-- and with their orders: what has one text is one plan in one order, of which one slice is asked
+abbrev pub HaveOwnOrders : Type 0
+HaveOwnOrders = (schema : Tables) → HasOwnNames schema → (p q : Plan) → IsTrue (is_well_typed schema p) → IsTrue (is_well_typed schema q) → HoldsPlan p → HoldsPlan q
+    → (at by : ℕ) (m n : Modifiers) → HoldsOrder at m → HoldsOrder by n → sql_text schema p ++ order_text at m ≡ sql_text schema q ++ order_text by n → (p ≡ q) × (m.directions ≡ n.directions) × (m.slice ≡ n.slice)

@@ -6,9 +6,10 @@ use std::test::Fail;
 use vkg_base::{Box, Items, Memory, Text};
 use vkg_cells::{Cell, SqlType};
 use vkg_expr::{Expr, Operator, Shared};
+use vkg_order::{Direction, Modifiers, Slice};
 use vkg_plan::{CheckedPlan, Plan, well_typed};
 use vkg_schema::{Schema, read_schema};
-use vkg_sqltext::sql_text;
+use vkg_sqltext::{order_text, sql_text};
 use vkg_terms::{Annotation, Term};
 use vkg_values::{Compare, Take};
 
@@ -219,5 +220,40 @@ fn each_node_has_its_text(rt: HostRuntime) -> Result<(), Fail> {
         let text = shown(rt.alloc(), &schema, plan.into_inner())?.ok_or("ill typed")?;
         assert_eq!(rt; text.as_str(), expected, "{node}");
     }
+    Ok(())
+}
+
+// The keys' columns stand from the first one on, which is numbered from 0.
+#[test]
+fn orders_stand_behind_plans(rt: HostRuntime) -> Result<(), Fail> {
+    let mut directions = Items::new(rt.alloc());
+    directions.push(Direction::Descending)?;
+    directions.push(Direction::Ascending)?;
+    let slice = Slice {
+        offset: 3,
+        limit: Some(2),
+    };
+    let asked = Modifiers {
+        directions,
+        distinct: false,
+        slice,
+    };
+    let text = order_text(rt.alloc(), 1, &asked)?;
+    assert_eq!(rt; text.as_str(), " ORDER BY c2 DESC, c3 ASC LIMIT 2 OFFSET 3");
+    Ok(())
+}
+
+#[test]
+fn no_order_has_no_text(rt: HostRuntime) -> Result<(), Fail> {
+    let slice = Slice {
+        offset: 0,
+        limit: None,
+    };
+    let asked = Modifiers {
+        directions: Items::new(rt.alloc()),
+        distinct: true,
+        slice,
+    };
+    assert_eq!(rt; order_text(rt.alloc(), 1, &asked)?.as_str(), "");
     Ok(())
 }

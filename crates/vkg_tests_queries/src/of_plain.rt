@@ -90,3 +90,24 @@ fn each_is_kept_once(rt: HostRuntime) -> Result<(), Fail> {
     assert_eq!(rt; text.as_str(), "?n\n\"Ann\"\n\"Bo\"\n");
     Ok(())
 }
+
+#[test]
+fn answers_are_ordered_and_sliced(rt: HostRuntime) -> Result<(), Fail> {
+    let rows = [
+        (
+            "SELECT ?n { ?x <name> ?n } ORDER BY DESC(?n)",
+            "?n\n\"Bo\"\n\"Ann\"\n",
+        ),
+        (
+            "SELECT ?n { ?x <name> ?n } ORDER BY DESC(?x) LIMIT 1",
+            "?n\n\"Bo\"\n",
+        ),
+        ("SELECT ?n { ?x <name> ?n } OFFSET 1", "?n\n\"Bo\"\n"),
+        ("SELECT ?n { ?x <name> ?n } LIMIT 0", "?n\n"),
+    ];
+    for (text, want) in rows.iter() {
+        let found = answer_to(rt.alloc(), text)?;
+        assert_eq!(rt; found.as_str(), *want, "at {text}");
+    }
+    Ok(())
+}

@@ -1,5 +1,5 @@
 use std::test::Fail;
-use vkg_sparql::{QueryError, read_query};
+use vkg_sparql::{QueryError, Slice, read_query};
 
 // The check and the place of the first fault, or the number of names and whether DISTINCT is asked.
 fn shown(rt: &HostRuntime, bytes: &[u8]) -> Result<String, Fail> {
@@ -13,7 +13,7 @@ fn shown(rt: &HostRuntime, bytes: &[u8]) -> Result<String, Fail> {
         Err(QueryError::Fault(fault)) => {
             let check = fault.check;
             let at = fault.at;
-            Ok(format!(in rt.alloc(); "Q0{check} {at}")?)
+            Ok(format!(in rt.alloc(); "Q{check:02} {at}")?)
         }
         Err(QueryError::Memory) => Err(Fail::new("memory")),
     }
@@ -107,13 +107,90 @@ fn words_to_come_are_refused(rt: HostRuntime) -> Result<(), Fail> {
         ("SELECT * { BIND(1 AS ?x) }", "Q07 11"),
         ("SELECT * { VALUES ?x { UNDEF } }", "Q07 11"),
         ("SELECT * { UNDEF }", "Q02 11"),
-        ("SELECT * {} ORDER BY ?x", "Q07 12"),
+        ("CONSTRUCT {} {}", "Q07 0"),
+    ];
+    for (text, want) in rows.iter() {
+        let found = shown(&rt, text.as_bytes())?;
+        assert_eq!(rt; found.as_str(), *want, "at {text}");
+    }
+    Ok(())
+}
+
+// The number of keys, and the slice.
+fn order_of(rt: &HostRuntime, text: &str) -> Result<(usize, Slice), QueryError> {
+    let query = read_query(rt.alloc(), text.as_bytes(), "http://h/")?;
+    Ok((query.keys.len(), query.slice))
+}
+
+// The number of keys, OFFSET, and LIMIT if there is one.
+fn ordered(rt: &HostRuntime, text: &str) -> Result<String, Fail> {
+    let Ok((keys, slice)) = order_of(rt, text) else {
+        return Err(Fail::new("refused"));
+    };
+    let offset = slice.offset;
+    match slice.limit {
+        Some(limit) => Ok(format!(in rt.alloc(); "{keys} {offset} {limit}")?),
+        None => Ok(format!(in rt.alloc(); "{keys} {offset} none")?),
+    }
+}
+
+#[test]
+fn orders_and_slices_are_read(rt: HostRuntime) -> Result<(), Fail> {
+    let rows = [
+        ("SELECT * {}", "0 0 none"),
+        ("SELECT * {} ORDER BY ?x", "1 0 none"),
+        (
+            "SELECT * {} order by desc(?x) ?y STR(?z) (?x < ?y) asc(?z)",
+            "5 0 none",
+        ),
+        ("SELECT * {} LIMIT 7", "0 0 7"),
+        ("SELECT * {} OFFSET 7", "0 7 none"),
+        ("SELECT * {} LIMIT 007 OFFSET 2", "0 2 7"),
+        ("SELECT * {} ORDER BY ?x OFFSET 2 LIMIT 0", "1 2 0"),
+        ("SELECT * {} LIMIT 4294967295", "0 0 4294967295"),
+        (
+            "SELECT * {} LIMIT 0000000000000000000000000000000000000001",
+            "0 0 1",
+        ),
+    ];
+    for (text, want) in rows.iter() {
+        let found = ordered(&rt, text)?;
+        assert_eq!(rt; found.as_str(), *want, "at {text}");
+    }
+    Ok(())
+}
+
+// The number of a slice is no literal; the checks of the rest of the query come first.
+#[test]
+fn faults_of_orders_and_slices_are_named(rt: HostRuntime) -> Result<(), Fail> {
+    let rows = [
+        ("SELECT * {} LIMIT -1", "Q12 18"),
+        ("SELECT * {} LIMIT +1", "Q12 18"),
+        ("SELECT * {} LIMIT 4294967296", "Q12 18"),
+        (
+            "SELECT * {} LIMIT 999999999999999999999999999999999999999",
+            "Q12 18",
+        ),
+        ("SELECT * {} OFFSET 1 LIMIT -1", "Q12 27"),
+        ("SELECT * { ?s ?p q:o } LIMIT -1", "Q04 17"),
+        (
+            "SELECT * {} ORDER BY (999999999999999999999999999999999999999) LIMIT -1",
+            "Q08 22",
+        ),
+        ("SELECT * {} ORDER BY", "Q02 20"),
+        ("SELECT * {} ORDER BY DESC ?x", "Q02 26"),
+        ("SELECT * {} ORDER ?x", "Q02 18"),
+        ("SELECT * {} LIMIT 1 LIMIT 2", "Q02 20"),
+        ("SELECT * {} LIMIT 1 OFFSET 2 LIMIT 3", "Q02 29"),
+        ("SELECT * {} LIMIT 1 ORDER BY ?x", "Q02 20"),
+        ("SELECT * {} LIMIT 1.0", "Q02 18"),
+        ("SELECT * {} LIMIT ?x", "Q02 18"),
+        ("SELECT * { ORDER BY ?x }", "Q02 11"),
+        ("SELECT * { LIMIT 1 }", "Q02 11"),
         ("SELECT * {} BY ?x", "Q02 12"),
         ("SELECT * {} ASC(?x)", "Q02 12"),
         ("SELECT * {} desc(?x)", "Q02 12"),
-        ("SELECT * {} LIMIT 1", "Q07 12"),
-        ("SELECT * {} offset 1", "Q07 12"),
-        ("CONSTRUCT {} {}", "Q07 0"),
+        ("SELECT * {} ORDER BY <http://e/f>(?x)", "Q02 21"),
     ];
     for (text, want) in rows.iter() {
         let found = shown(&rt, text.as_bytes())?;

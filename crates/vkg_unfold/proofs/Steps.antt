@@ -20,7 +20,7 @@ use Rattle.vkg_row_rules.specs.declared.row_rule.RowRule.{RowRule}
 use Rattle.vkg_unfolded.specs.declared.mode.Mode.{Mode}
 use Rattle.vkg_unfolded.specs.declared.mode.Mode.TheVariants.{Default, InGraph, Each}
 use Rattle.vkg_unfold.specs.declared.named.Named.{Named as NamedValue}
-use Rattle.vkg_unfolded.specs.Conditions.{gives_truth, truth_expr}
+use Rattle.vkg_unfolded.specs.Conditions.{gives_truth, truth_expr, value_expr}
 use Rattle.vkg_unfold.specs.Parts.{named_seen, some_or}
 use Rattle.vkg_unfolded.specs.Unfolded.{again, graph_terms, if_each, merged, Name, name_eq, Named, named, numbered, pattern_places, places, repeats, same_name, visible_column}
 use Rattle.vkg_unfold.proofs.Chains.{truth-and, truth-or}
@@ -103,6 +103,9 @@ truth_any a (c ∷ cs) = truth-or (Or a (condition_seen c)) (map condition_seen 
 -- a filter sees the columns of one algebra
 pub of_one_algebra : (vs : List ℕ) (c : Condition) → truth_expr (merged Default vs []) c ≡ truth_expr (visible_column vs) c
 of_one_algebra vs c = refl
+
+pub value_of_one_algebra : (vs : List ℕ) (c : Condition) → value_expr (merged Default vs []) c ≡ value_expr (visible_column vs) c
+value_of_one_algebra vs c = refl
 
 -- ---- columns of a pattern
 

@@ -4,7 +4,7 @@ ghost use Rattle.vkg_sparql.specs.Seen.{condition_seen};
 ghost use Rattle.vkg_expr.specs.Expr.{IsNull, Same, Sparql, exprs};
 ghost use Rattle.vkg_expr.specs.Expr as expr;
 ghost use Rattle.vkg_expr.specs.Seen.{expr_seen};
-ghost use Rattle.vkg_unfolded.specs.Conditions.{expr_of, gives_truth, to_term, to_truth, truth_expr};
+ghost use Rattle.vkg_unfolded.specs.Conditions.{expr_of, gives_truth, to_term, to_truth, truth_expr, value_expr};
 ghost use Rattle.vkg_unfold.specs.Parts.{all_of, any_of, chain_all, chain_any, some_or};
 ghost use Rattle.vkg_unfolded.specs.Unfolded.{merged, visible_column};
 
@@ -71,6 +71,20 @@ pub(crate) fn filter_expr(
 {
     let none = Items::new(alloc);
     truth_expr(alloc, &Mode::Default, variables, none.as_slice(), condition)
+}
+
+/// The value of an expression over the columns of one algebra, as a term.
+#[tactic(auto, using(crate::proofs::Steps::value_of_one_algebra))]
+pub(crate) fn value_expr(
+    alloc: Global,
+    variables: &[Var],
+    condition: &Condition,
+) -> Result<Expr, Memory>
+    ensures { IfOk result (λ e. expr_seen e ≡ value_expr (visible_column variables.now) (condition_seen condition.now)) }
+{
+    let none = Items::new(alloc);
+    let value = term(alloc, &Mode::Default, variables, none.as_slice(), condition)?;
+    Ok(value.into_inner())
 }
 
 #[cycle(conditions)]

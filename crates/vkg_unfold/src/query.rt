@@ -1,7 +1,8 @@
 // The plan of an algebra, and that of a query.
-ghost use Rattle.std.specs.Prelude.{IfOk, if◌then◌else◌, IsOkAnd, ℕ, ◌≡◌};
+ghost use Rattle.std.specs.Prelude.{◌++◌, IfOk, OnOk, if◌then◌else◌, IsOkAnd, map, ℕ, ◌≡◌};
+ghost use Rattle.vkg_expr.specs.Seen.{expr_seen};
 ghost use Rattle.vkg_sparql.specs.Lawful.{IsLawfulQuery};
-ghost use Rattle.vkg_sparql.specs.Seen.{condition_seen, query_seen};
+ghost use Rattle.vkg_sparql.specs.Seen.{condition_seen, key_seen, query_seen};
 ghost use Rattle.vkg_algebra.specs.Lawful.{IsLawfulAlgebra};
 ghost use Rattle.vkg_algebra.specs.Seen.{algebra_seen};
 ghost use Rattle.vkg_algebra.specs.Translation.{algebra_of};
@@ -12,21 +13,22 @@ ghost use Rattle.vkg_unfolded.specs.Conditions.{truth_expr};
 ghost use Rattle.vkg_unfolded.specs.FineRows.{Meets};
 ghost use Rattle.vkg_unfolded.specs.FittingRules.{FitJoins};
 ghost use Rattle.vkg_unfolded.specs.StandsFor.{StandsFor};
-ghost use Rattle.vkg_unfolded.specs.Unfolded.{bgp_plan, start_plan, unfolded, visible_column};
+ghost use Rattle.vkg_unfolded.specs.Unfolded.{bgp_plan, key_column, start_plan, unfolded, visible_column};
 ghost use Rattle.vkg_answers.specs.Answering.{GivesSolutions};
 
 use crate::bgp::bgp_plan;
-use crate::conditions::filter_expr;
+use crate::conditions::{filter_expr, value_expr};
 use crate::graph::{graph_of_each, graph_of_name};
 use crate::rule_terms::{RuleTerms, rule_terms};
 use crate::two::{join_plan, left_plan, union_plan, visible_columns};
 use std::alloc::Global;
-use vkg_algebra::{Algebra, selected_variables, visible};
-use vkg_base::{Box, Memory, Text};
+use vkg_algebra::{Algebra, Var, selected_variables, visible};
+use vkg_base::{Box, Items, Memory, Text};
+use vkg_expr::Expr;
 use vkg_plan::Plan;
 use vkg_row_rules::RowRule;
 use vkg_schema::Table;
-use vkg_sparql::{Condition, GraphName, Query, TriplePattern};
+use vkg_sparql::{Condition, GraphName, Key, Query, TriplePattern};
 use vkg_unfolded::Mode;
 
 /// The plan of an algebra in a mode. Its rows have a column for each visible variable, in the order in which they first appear, and in
@@ -148,8 +150,9 @@ fn filtered(
     Box::new(alloc, Plan::Select(test, p))
 }
 
-/// The plan of a query's algebra before any rewriting: its rows over the selected variables, each once under DISTINCT. Over every
-/// database whose rows are fine they are the solutions of a lawful query over the dataset of the rules (SPARQL 1.1, 18.2.5). The
+/// The plan of a query's algebra before any rewriting: its rows over the selected variables and behind them the values of the keys of
+/// ORDER BY, each once under DISTINCT. Over every database whose rows are fine they are the solutions of a lawful query over the
+/// dataset of the rules (SPARQL 1.1, 18.2.5). The
 /// rules' joins have to fit the tables.
 pub fn start_plan(
     alloc: Global,
@@ -166,7 +169,7 @@ pub fn start_plan(
     selected_plan(alloc, schema, rules, query, algebra)
 }
 
-/// The rows of a query's algebra over the selected variables, each once under DISTINCT.
+/// The rows of a query's algebra over the selected variables and the keys, each once under DISTINCT.
 fn selected_plan(
     alloc: Global,
     schema: &[Table],
@@ -180,10 +183,31 @@ fn selected_plan(
 {
     let variables = visible(alloc, algebra)?;
     let wanted = selected_variables(alloc, query, algebra)?;
-    let columns = visible_columns(alloc, variables.as_slice(), wanted.as_slice())?;
+    let mut columns = visible_columns(alloc, variables.as_slice(), wanted.as_slice())?;
+    push_keys(
+        alloc,
+        variables.as_slice(),
+        query.keys.as_slice(),
+        &mut columns,
+    )?;
     let rows = plan_over(alloc, schema, rules, algebra, &Mode::Default)?;
     let answer = Plan::Project(columns, rows);
     distinct_if(alloc, query.distinct, answer)
+}
+
+/// The columns of the keys, behind those of the selected variables.
+fn push_keys(
+    alloc: Global,
+    variables: &[Var],
+    keys: &[Key],
+    columns: &mut Items<Expr>,
+) -> Result<(), Memory>
+    ensures { OnOk result (map expr_seen columns.new ≡ map expr_seen columns.old ++ map (key_column variables.now) (map key_seen keys.now)) }
+{
+    for key in keys {
+        columns.push(value_expr(alloc, variables, &key.condition)?)?;
+    }
+    Ok(())
 }
 
 fn distinct_if(alloc: Global, distinct: bool, plan: Plan) -> Result<Plan, Memory>

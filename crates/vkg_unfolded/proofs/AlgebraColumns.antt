@@ -34,9 +34,9 @@ use Rattle.vkg_plan.specs.Plan.{Plan, Select, Project, Join, Left, plans, Distin
 use Rattle.vkg_row_rules.specs.declared.row_rule.RowRule.{RowRule}
 use Rattle.vkg_unfolded.specs.declared.mode.Mode.{Mode}
 use Rattle.vkg_unfolded.specs.declared.mode.Mode.TheVariants.{Default, InGraph, Each}
-use Rattle.vkg_unfolded.specs.Conditions.{condition_of, expr_of, gives_truth, to_term, to_truth, truth_expr}
+use Rattle.vkg_unfolded.specs.Conditions.{condition_of, expr_of, gives_truth, to_term, to_truth, truth_expr, value_expr}
 use Rattle.vkg_unfolded.specs.FittingRules.{AreFitting, HasTermColumns, HasAnswerColumns}
-use Rattle.vkg_unfolded.specs.Unfolded.{Name, Named, after, agreement, bgp_plan, column, columns_in, each_graph, exists_plan, graph_column, if_each, in_its_graph, in_mode, is_pattern, join_plan, left_column, left_plan, merged, merged_columns, name_eq, named_graph, names_plan, node_names, null_term, numbered, or_null, pattern_names, pattern_plan, patterns_plan, repeats, right_column, union_member, union_plan, unfolded, visible_column}
+use Rattle.vkg_unfolded.specs.Unfolded.{Name, Named, after, agreement, answer_columns, answer_width, bgp_plan, column, columns_in, each_graph, exists_plan, graph_column, if_each, in_its_graph, in_mode, is_pattern, join_plan, left_column, left_plan, merged, merged_columns, name_eq, named_graph, names_plan, node_names, null_term, numbered, or_null, pattern_names, pattern_plan, patterns_plan, repeats, right_column, union_member, union_plan, unfolded, visible_column, key_column}
 use Rattle.vkg_unfolded.proofs.TermKinds.{IsTerm, IsTruth, and_truth, first_term, not_truth, null_truth, or_truth, same_truth, term_at}
 use Rattle.vkg_unfolded.proofs.PlanColumns.{HasTermKinds, checked_truth, exists_plan_kinds, names_plan_kinds, pattern_plan_kinds, project_kinds, repeats_truth, union_kinds}
 use Rattle.vkg_algebra.specs.Translation.{algebra_of}
@@ -70,6 +70,9 @@ expr_kind ks at h (Or a b) = λ i. then_some (are_all kind.Bool (with_first (to_
 
 filter_truth : (ks : Kinds) (at : ℕ → Expr) → ((v : ℕ) → IsTerm ks (at v)) → (c : Condition) → IsTruth ks (truth_expr at c)
 filter_truth ks at h c = to_truth_kind ks (gives_truth c) (expr_of at c) (expr_kind ks at h c)
+
+value_term : (ks : Kinds) (at : ℕ → Expr) → ((v : ℕ) → IsTerm ks (at v)) → (c : Condition) → IsTerm ks (value_expr at c)
+value_term ks at h c = to_term_kind ks (gives_truth c) (expr_of at c) (expr_kind ks at h c)
 
 condition_truth : (ks : Kinds) (at : ℕ → Expr) → ((v : ℕ) → IsTerm ks (at v)) → (c : Option Condition) → AllByRecursion (IsTruth ks) (condition_of at c)
 condition_truth ks at h None = tt
@@ -402,21 +405,27 @@ module _ (schema : Tables) (rules : List RowRule) (fit : AreFitting schema rules
   pub start_plan_kinds : HasAnswerColumns schema rules
   start_plan_kinds query = by query.distinct
     where
-      a : Algebra
-      a = algebra_of query
-
       vs : List ℕ
-      vs = selected_variables query
+      vs = visible (algebra_of query)
+
+      ks : Kinds
+      ks = replicate (length vs) kind.Term
 
       p : Plan
-      p = Project (map (visible_column (visible a)) vs) (unfolded schema rules a Default)
+      p = Project (answer_columns query) (unfolded schema rules (algebra_of query) Default)
 
-      kinds : HasTermKinds schema (length vs) p
+      variable_is : (v : ℕ) → IsTerm ks (visible_column vs v)
+      variable_is v = visible_term schema (length vs) vs v (omega arith)
+
+      kinds : HasTermKinds schema (answer_width query) p
       kinds =
-          project_kinds schema (map (visible_column (visible a)) vs) (unfolded schema rules a Default) (replicate (length (visible a)) kind.Term) (unfolded_kinds a Default)
-          (map_each (IsTerm (replicate (length (visible a)) kind.Term)) (visible_column (visible a)) vs (λ v c. visible_term schema (length (visible a)) (visible a) v (omega arith)))
-          ∙ ap (λ n. Some (replicate n kind.Term)) (length-map vs (visible_column (visible a)))
+          project_kinds schema (answer_columns query) (unfolded schema rules (algebra_of query) Default) ks (unfolded_kinds (algebra_of query) Default)
+          (recursion_append (IsTerm ks) (map (visible_column vs) (selected_variables query)) (map (key_column vs) query.keys)
+          (map_each (IsTerm ks) (visible_column vs) (selected_variables query) (λ v c. variable_is v))
+          (map_each (IsTerm ks) (key_column vs) query.keys (λ k c. value_term ks (visible_column vs) variable_is k.condition)))
+          ∙ ap (λ n. Some (replicate n kind.Term)) (length-append (map (visible_column vs) (selected_variables query)) (map (key_column vs) query.keys)
+          ∙ (λ i. length-map (selected_variables query) (visible_column vs) i + length-map query.keys (key_column vs) i))
 
-      by : (b : Bool) → HasTermKinds schema (length vs) (if b then Distinct p else p)
+      by : (b : Bool) → HasTermKinds schema (answer_width query) (if b then Distinct p else p)
       by true = kinds
       by false = kinds

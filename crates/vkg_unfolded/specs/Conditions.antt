@@ -41,6 +41,10 @@ expr_of at (Or a b) = expr.Or (exprs (to_truth (gives_truth a) (expr_of at a) �
 abbrev pub truth_expr : (ℕ → Expr) → Condition → Expr
 truth_expr at c = to_truth (gives_truth c) (expr_of at c)
 
+-- an expression's value, as a term
+abbrev pub value_expr : (ℕ → Expr) → Condition → Expr
+value_expr at c = to_term (gives_truth c) (expr_of at c)
+
 -- SPARQL 1.1, 18.2.2.6: an OPTIONAL without a filter has no condition
 abbrev pub condition_of : (ℕ → Expr) → Option Condition → List Expr
 condition_of at None = []

@@ -6,7 +6,6 @@ use Rattle.vkg_schema.specs.Kinds.{table_kinds}
 use Rattle.vkg_maps.specs.declared.quad_rule.Join.{Join}
 use Rattle.vkg_sparql.specs.Query.{Query}
 use Rattle.vkg_algebra.specs.Algebra.{Algebra}
-use Rattle.vkg_algebra.specs.Answer.{selected_variables}
 use Rattle.vkg_algebra.specs.Visible.{visible}
 use Rattle.vkg_expr.specs.declared.term_expr.Piece.{Piece}
 use Rattle.vkg_expr.specs.declared.term_expr.Piece.TheVariants.{Chars, Hole}
@@ -16,7 +15,7 @@ use Rattle.vkg_expr.specs.Typing.{equality_kind, same_kind}
 use Rattle.vkg_plan.specs.Kinds.{Kinds, Tables, plan_kinds}
 use Rattle.vkg_row_rules.specs.declared.row_rule.RowRule.{RowRule}
 use Rattle.vkg_unfolded.specs.declared.mode.Mode.{Mode}
-use Rattle.vkg_unfolded.specs.Unfolded.{columns_in, start_plan, unfolded}
+use Rattle.vkg_unfolded.specs.Unfolded.{answer_width, columns_in, start_plan, unfolded}
 use Rattle.vkg_maps.specs.Within.{kinds_at}
 
 -- a hole is a column of its kind, which holds no terms
@@ -69,7 +68,7 @@ abbrev pub HasTermColumns : Tables → List RowRule → Type 0
 HasTermColumns schema rules =
     (a : Algebra) (mode : Mode) → plan_kinds schema (unfolded schema rules a mode) ≡ Some (replicate (columns_in mode (visible a)) kind.Term)
 
--- and that of each query one for each selected variable
+-- and that of each query one for each selected variable, and one for each key
 abbrev pub HasAnswerColumns : Tables → List RowRule → Type 0
 HasAnswerColumns schema rules =
-    (query : Query) → plan_kinds schema (start_plan schema rules query) ≡ Some (replicate (length (selected_variables query)) kind.Term)
+    (query : Query) → plan_kinds schema (start_plan schema rules query) ≡ Some (replicate (answer_width query) kind.Term)

@@ -13,7 +13,7 @@ use Rattle.vkg_sparql.specs.declared.pattern.Node.{Node}
 use Rattle.vkg_sparql.specs.declared.pattern.Node.TheVariants.{Variable, Label, Fixed}
 use Rattle.vkg_sparql.specs.declared.pattern.GraphName.TheVariants as name
 use Rattle.vkg_sparql.specs.declared.pattern.TriplePattern.{TriplePattern}
-use Rattle.vkg_sparql.specs.Query.{Condition, Query}
+use Rattle.vkg_sparql.specs.Query.{Condition, Key, Query}
 use Rattle.vkg_algebra.specs.Algebra.{Algebra, Bgp, LeftJoin, Filter, Graph}
 use Rattle.vkg_algebra.specs.Algebra as algebra
 use Rattle.vkg_algebra.specs.Visible.{each_once, has, visible}
@@ -32,7 +32,7 @@ use Rattle.vkg_row_rules.specs.RowDataset.{conditions}
 use Rattle.vkg_expr.specs.Logic.{truth_const, and_of, or_of}
 use Rattle.vkg_unfolded.specs.declared.mode.Mode.{Mode}
 use Rattle.vkg_unfolded.specs.declared.mode.Mode.TheVariants.{Default, InGraph, Each}
-use Rattle.vkg_unfolded.specs.Conditions.{truth_expr, condition_of}
+use Rattle.vkg_unfolded.specs.Conditions.{truth_expr, value_expr, condition_of}
 
 -- what stands in mode each alone
 abbrev pub if_each : {X : Type 0} → Mode → X → List X
@@ -225,6 +225,19 @@ agreement mode vs ws =
 abbrev pub visible_column : List ℕ → ℕ → Expr
 visible_column vs v = if has vs v then left_column vs v else null_term
 
+-- the value of a key, where these variables are visible
+abbrev pub key_column : List ℕ → Key → Expr
+key_column vs k = value_expr (visible_column vs) k.condition
+
+-- the columns of a query's answer: the selected variables, and behind them the keys
+abbrev pub answer_columns : Query → List Expr
+answer_columns query =
+    let vs = visible (algebra_of query) in
+    map (visible_column vs) (selected_variables query) ++ map (key_column vs) query.keys
+
+abbrev pub answer_width : Query → ℕ
+answer_width query = length (selected_variables query) + length query.keys
+
 -- SPARQL 1.1, 18.5, Join: the pairs that agree
 abbrev pub join_plan : Mode → List ℕ → List ℕ → Plan → Plan → Plan
 join_plan mode vs ws p q = Project (merged_columns mode vs ws) (Join (plans (p ∷ q ∷ [])) (and_of (agreement mode vs ws)))
@@ -287,6 +300,5 @@ module _ (schema : Tables) (rules : List RowRule) where
   -- the plan of a query before any rewriting
   abbrev pub start_plan : Query → Plan
   start_plan query =
-      let a = algebra_of query in
-      let p = Project (map (visible_column (visible a)) (selected_variables query)) (unfolded a Default) in
+      let p = Project (answer_columns query) (unfolded (algebra_of query) Default) in
       if query.distinct then Distinct p else p

@@ -3,8 +3,8 @@ import re
 
 from random_inputs.cases import add_query, random_case
 from reference.calls import Ending, expected, lines_text
-from reference.evaluation import answer_lines
-from reference.plans import plan_lines
+from reference.evaluation import answer_lines, lines_of_rows
+from reference.plans import plan_rows
 from reference.query_syntax import read_query
 from reference.rdf import dataset_of, in_byte_order
 from reference.refusal import Refused
@@ -53,10 +53,11 @@ def compare_query(comparison, case, query, folder):
         compare_rdflib(comparison, case, folder, ours)
 
 
-def with_rows(ending, tables):
-    """How a call of `sql` ended, with the lines of the rows of the plan in the place of its text."""
+def with_rows(ending, case):
+    """How a call of `sql` ended, with the query's output over the rows of the plan in the place of its text."""
     try:
-        return ending._replace(output=lines_text(plan_lines(ending.output, tables)))
+        query = read_query(case.files["query.rq"].encode(), case.base)
+        return ending._replace(output=lines_text(lines_of_rows(query, plan_rows(ending.output, case.tables))))
     except Exception as error:  # a text that is no plan fails anywhere in it
         return ending._replace(output=f"no plan: {error!r}\n")
 
@@ -66,8 +67,7 @@ def compare_rows(comparison, case, folder, ours, answer):
     if ours is None or len(ours.output) > comparison.options.plan:
         comparison.count("plans that are too long to be run")
     else:
-        rows = Ending(0, answer.output.partition("\n")[2])
-        comparison.check("rows of the plan", case.words("sql"), folder, with_rows(ours, case.tables), rows)
+        comparison.check("rows of the plan", case.words("sql"), folder, with_rows(ours, case), answer)
 
 
 def compare_rdflib(comparison, case, folder, ours):

@@ -5,8 +5,8 @@ answers have solutions.
 """
 from random_inputs.terms import IRIS, LITERALS, can_be_written
 from reference.evaluation import extension
-from reference.queries import (ACCESSORS, COMPARISONS, STRING_TESTS, TESTS, Call, FilterElement, GraphElement, OptionalElement,
-                               Query, TriplesBlock, UnionElement, Var)
+from reference.queries import (ACCESSORS, COMPARISONS, STRING_TESTS, TESTS, Call, FilterElement, GraphElement, Key, Modifiers,
+                               OptionalElement, Query, TriplesBlock, UnionElement, Var)
 from reference.rdf import DEFAULT_GRAPH, RDF_TYPE, XSD, Term, dataset_of, iri, literal
 
 NAMES = ["s", "p", "o", "x", "y", "é", "n_1", "1", "Name", "g"]
@@ -200,6 +200,20 @@ class QueryMaker:
             elements.insert(self.chance.randint(0, len(elements)), FilterElement(self.expression(2)))
         return elements
 
+    # ---- modifiers (15) ----
+
+    def modifiers(self):
+        """Keys of an order, and a slice, for a part of the queries."""
+        found = Modifiers()
+        for _ in range(self.chance.choice([0, 0, 0, 1, 1, 2])):
+            key = self.some_variable() if self.chance.happens(0.7) else self.expression(1)
+            found.keys.append(Key(key, self.chance.happens(0.4)))
+        if self.chance.happens(0.2):
+            found.limit = self.chance.choice([0, 1, 1, 2, 3, 2**32 - 1])
+        if self.chance.happens(0.15):
+            found.offset = self.chance.choice([0, 1, 1, 2, 2**32 - 1])
+        return found
+
     def query(self):
         """A query; most groups ask the default graph."""
         graph = self.chance.choice(self.graphs) if self.graphs and self.chance.happens(0.25) else None
@@ -208,4 +222,4 @@ class QueryMaker:
             names = [*self.names, "nope"] if not self.names or self.chance.happens(0.1) else self.names
             selected = self.chance.sample(names, self.chance.randint(1, min(len(names), 4)))
             selected += selected[:1] if self.chance.happens(0.03) else []
-        return Query(selected, self.chance.happens(0.3), group, [])
+        return Query(selected, self.chance.happens(0.3), group, [], self.modifiers())

@@ -40,14 +40,39 @@ class QueryWriter:
         tokens = [self.word("BASE"), f"<{self.own_base}>"] if self.own_base else []
         for prefix, text in self.terms.prefixes.items():
             tokens += [self.word("PREFIX"), prefix + ":", f"<{text}>"]
-        tokens.append(self.word("SELECT"))
+        tokens += self.head() + ([self.word("WHERE")] if self.chance.happens(0.5) else [])
+        return joined(self.chance, tokens + self.group(self.query.group) + self.modifiers(), self.escapes == 0)
+
+    def head(self):
+        """The tokens before the group: SELECT, what is to come once, and the variables."""
+        tokens = [self.word("SELECT")]
         if self.query.is_distinct:
             tokens.append(self.word("DISTINCT"))
         elif self.escapes and self.chance.happens(0.05):
             tokens.append(self.word("REDUCED"))
-        tokens += ["*"] if self.query.selected is None else [self.variable(name) for name in self.query.selected]
-        tokens += [self.word("WHERE")] if self.chance.happens(0.5) else []
-        return joined(self.chance, tokens + self.group(self.query.group), self.escapes == 0)
+        return tokens + (["*"] if self.query.selected is None else [self.variable(name) for name in self.query.selected])
+
+    def modifiers(self):
+        """The tokens of the order and of the slice, whose parts may stand in either order."""
+        found = self.query.modifiers
+        tokens = [self.word("ORDER"), self.word("BY")] if found.keys else []
+        for key in found.keys:
+            tokens += self.key(key)
+        parts = [[self.word("LIMIT"), str(found.limit)]] if found.limit is not None else []
+        parts += [[self.word("OFFSET"), str(found.offset)]] if found.offset is not None else []
+        self.chance.shuffle(parts)
+        return tokens + [token for part in parts for token in part]
+
+    def key(self, key):
+        """The tokens of a key of the order."""
+        in_brackets = ["(", *self.expression(key.expression), ")"]
+        if key.is_descending:
+            return [self.word("DESC"), *in_brackets]
+        if self.chance.happens(0.2):
+            return [self.word("ASC"), *in_brackets]
+        if isinstance(key.expression, Var) and self.chance.happens(0.8):
+            return [self.variable(key.expression.name)]
+        return self.constraint(key.expression)
 
     # ---- words and terms ----
 

@@ -6,7 +6,7 @@ from reference.direct_mapping import direct_graph, direct_maps
 from reference.evaluation import answer_lines
 from reference.iris import iri_safe, is_absolute
 from reference.mapping_graph import read_mapping
-from reference.plan_nodes import plan_text
+from reference.plan_nodes import order_text, plan_text
 from reference.quad_rules import quad_rules
 from reference.query_syntax import read_query
 from reference.r2rml import output_dataset
@@ -75,7 +75,7 @@ class Command:
         maps = self.maps(tables) if "--mapping" in self.options else direct_maps(tables, self.base)
         query = read_query(self.load("--query"), self.base)
         plan = start_plan(query, tables, quad_rules(maps, tables, self.base))
-        return lines_text([plan_text(end_of(plan, tables, rules), tables)])
+        return lines_text([plan_text(end_of(plan, tables, rules), tables) + order_text(query)])
 
     def output(self):
         """The output; refused at the first fault."""

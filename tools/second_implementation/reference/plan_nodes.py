@@ -348,3 +348,12 @@ def plan_text(plan, tables):
             return " UNION ALL ".join(f"({text})" for text in texts)
         case Distinct(_):
             return f"SELECT DISTINCT * FROM ({texts[0]}) AS t"
+
+
+def order_text(query):
+    """What stands behind the text of a query's plan: the columns of the keys, which come behind those of its variables, and the slice. OFFSET 0 is no offset."""
+    found, first = query.modifiers, len(query.header()) + 1
+    keys = [f"c{number} {'DESC' if key.is_descending else 'ASC'}" for number, key in enumerate(found.keys, first)]
+    text = f" ORDER BY {', '.join(keys)}" if keys else ""
+    text += "" if found.limit is None else f" LIMIT {found.limit}"
+    return text + (f" OFFSET {found.offset}" if found.offset else "")

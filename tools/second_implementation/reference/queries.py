@@ -1,6 +1,6 @@
 """Queries as they are written (SPARQL 1.1 Query, 19.8), in the profile of docs/DIAGNOSTICS.md (Q07)."""
 from collections import namedtuple
-from dataclasses import dataclass
+from dataclasses import dataclass, field
 
 # An expression is a variable, a term, or a call: `name` is `||`, `&&`, `!`, BOUND, SAMETERM or one of these, in capitals.
 COMPARISONS = ("=", "!=", "<", ">", "<=", ">=")
@@ -19,6 +19,21 @@ GraphElement = namedtuple("GraphElement", "name group")
 UnionElement = namedtuple("UnionElement", "groups")  # one group, or several with UNION between them
 FilterElement = namedtuple("FilterElement", "condition")
 
+# A key of ORDER BY, and whether it is asked for from the greatest on (rule 24).
+Key = namedtuple("Key", "expression is_descending")
+
+
+@dataclass
+class Modifiers:
+    """What stands behind the group (rule 18): the keys of the order, how many solutions at most, and how many are left out before these.
+
+    The two numbers are None where they are not asked for.
+    """
+
+    keys: list[Key] = field(default_factory=list)
+    limit: int | None = None
+    offset: int | None = None
+
 
 @dataclass
 class Query:
@@ -28,6 +43,7 @@ class Query:
     is_distinct: bool
     group: list
     visible: list[str]
+    modifiers: Modifiers = field(default_factory=Modifiers)
 
     def header(self):
         """The variables of the answer, each once: those selected, or all that are visible in the group (18.2.1)."""

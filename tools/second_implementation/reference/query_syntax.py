@@ -1,10 +1,10 @@
-"""Reads queries by the grammar of SPARQL 1.1 Query, 19.8, or tells their first fault Q01 to Q08 (docs/DIAGNOSTICS.md).
+"""Reads queries by the grammar of SPARQL 1.1 Query, 19.8, or tells their first fault Q01 to Q08 or Q12 (docs/DIAGNOSTICS.md).
 
 The limits of Q09 are not looked at: no random query comes near them.
 """
 from reference.datatypes import is_wide_number
-from reference.queries import (ACCESSORS, COMPARISONS, STRING_TESTS, TESTS, Call, FilterElement, GraphElement, OptionalElement,
-                               Query, TriplesBlock, UnionElement, Var)
+from reference.queries import (ACCESSORS, COMPARISONS, STRING_TESTS, TESTS, Call, FilterElement, GraphElement, Key, Modifiers,
+                               OptionalElement, Query, TriplesBlock, UnionElement, Var)
 from reference.rdf import RDF_TYPE, XSD, Term
 from reference.refusal import Refused, refuse_first
 from reference.tokens import Token, check_depth, cut_bytes
@@ -14,12 +14,13 @@ SIGNS = [
     ("SIGN", r"\^\^|!=|<=|>=|&&|\|\||[{}()\[\].;,=<>!*/|^+?-]"),
     ("VAR", f"[?$][{BASE_CHARS}_0-9][{BASE_CHARS}_0-9\u00b7\u0300-\u036f\u203f-\u2040]*"),
 ]
-WORDS = [*"BASE PREFIX SELECT DISTINCT REDUCED WHERE OPTIONAL GRAPH FILTER UNION BOUND SAMETERM".split(), *TESTS, *ACCESSORS,
+WORDS = [*"BASE PREFIX SELECT DISTINCT REDUCED WHERE OPTIONAL GRAPH FILTER UNION".split(),
+         *"ORDER BY ASC DESC LIMIT OFFSET BOUND SAMETERM".split(), *TESTS, *ACCESSORS,
          *STRING_TESTS]
 
 # The words and signs of Q07; some (SELECT, `*`, `(`) are outside the profile in other places than those where they are taken.
 OUTSIDE_WORDS = (
-    "ASK CONSTRUCT DESCRIBE SELECT FROM SERVICE MINUS VALUES BIND AS ORDER LIMIT OFFSET GROUP HAVING COUNT SUM MIN MAX AVG "
+    "ASK CONSTRUCT DESCRIBE SELECT FROM SERVICE MINUS VALUES BIND AS GROUP HAVING COUNT SUM MIN MAX AVG "
     "SAMPLE GROUP_CONCAT EXISTS NOT IN REGEX IF COALESCE LANGMATCHES INSERT DELETE LOAD CLEAR"
 ).split()
 OUTSIDE_SIGNS = "( / | ^ * + - ?".split()
@@ -34,6 +35,10 @@ def with_keyword(token):
     if token.text.lower() in ("true", "false"):
         return Token("KEYWORD", token.text.lower(), token.at)
     return Token("KEYWORD", token.text.upper(), token.at) if token.text.upper() in WORDS else token
+
+
+# The greatest number that LIMIT and OFFSET take.
+MOST_SOLUTIONS = 2**32 - 1
 
 
 class QueryCursor(TriplesCursor):
@@ -57,14 +62,19 @@ class QueryCursor(TriplesCursor):
         while self.sees("BASE", "PREFIX"):
             self.declaration(self.expect("BASE", "PREFIX").text == "PREFIX")
         self.expect("SELECT")
+        selected, is_distinct = self.head()
+        self.takes("WHERE")
+        group = self.group()
+        modifiers = self.modifiers()
+        self.take("END")
+        return Query(selected, is_distinct, group, self.visible, modifiers)
+
+    def head(self):
+        """Reads what stands behind SELECT (rule 9)."""
         is_distinct = self.takes("DISTINCT")
         if not is_distinct:
             self.takes("REDUCED")
-        selected = None if self.takes("*") else self.selection()
-        self.takes("WHERE")
-        group = self.group()
-        self.take("END")
-        return Query(selected, is_distinct, group, self.visible)
+        return (None if self.takes("*") else self.selection()), is_distinct
 
     def selection(self):
         """Reads the selected variables."""
@@ -72,6 +82,40 @@ class QueryCursor(TriplesCursor):
         while self.sees_kind("VAR"):
             names.append(self.take("VAR").text[1:])
         return names
+
+    # ---- order and slice (rules 18 to 27) ----
+
+    def modifiers(self):
+        """Reads ORDER BY, and LIMIT and OFFSET in either order."""
+        found = Modifiers()
+        if self.takes("ORDER"):
+            self.expect("BY")
+            found.keys.append(self.key())
+            while self.sees("(", "ASC", "DESC") or self.sees_kind("VAR") or self.sees_call():
+                found.keys.append(self.key())
+        slices = {}
+        while self.sees(*{"LIMIT", "OFFSET"} - set(slices)):
+            word = self.expect("LIMIT", "OFFSET").text
+            slices[word] = self.slice_number()
+        found.limit, found.offset = slices.get("LIMIT"), slices.get("OFFSET")
+        return found
+
+    def key(self):
+        """Reads a key of the order (rule 24)."""
+        if self.sees("ASC", "DESC"):
+            is_descending = self.expect("ASC", "DESC").text == "DESC"
+            return Key(self.bracketed(), is_descending)
+        if self.sees_kind("VAR"):
+            return Key(Var(self.take("VAR").text[1:]), False)
+        return Key(self.bracketed() if self.sees("(") else self.call(), False)
+
+    def slice_number(self):
+        """Reads the number of LIMIT or OFFSET; it is no literal, so its own fault alone is told of it."""
+        token = self.take("INTEGER")
+        if not token.text.isdigit() or int(token.text) > MOST_SOLUTIONS:
+            self.faults.append(("Q12", token.at))
+            return 0
+        return int(token.text)
 
     # ---- groups (rules 53 to 68) ----
 
@@ -207,6 +251,10 @@ class QueryCursor(TriplesCursor):
             return self.iri()
         is_literal = self.sees_kind("STRING", *self.NUMBER_KINDS) or self.sees("true", "false")
         return self.literal() if is_literal else self.call()
+
+    def sees_call(self):
+        """Whether a BuiltInCall comes next."""
+        return self.sees("BOUND", "SAMETERM", *TESTS, *ACCESSORS, *STRING_TESTS)
 
     def call(self):
         """Reads a BuiltInCall."""

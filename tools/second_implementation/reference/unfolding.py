@@ -274,8 +274,10 @@ def merged(names, others, mode):
 
 
 def start_plan(query, tables, rules):
-    """The plan of a query over the rules of a mapping: its algebra, the selected variables, and DISTINCT (18.2.5)."""
+    """The plan of a query over the rules of a mapping: its algebra, the selected variables and the keys, and DISTINCT (18.2.4, 18.2.5)."""
     algebra = algebra_of(query.group)
     names = visible(algebra)
-    plan = Project(tuple(column_or_null(names, name) for name in query.header()), Unfolder(tables, rules).plan(algebra, DEFAULT))
+    columns = [column_or_null(names, name) for name in query.header()]
+    columns += [as_term(key.expression, lambda name: column_or_null(names, name)) for key in query.modifiers.keys]
+    plan = Project(tuple(columns), Unfolder(tables, rules).plan(algebra, DEFAULT))
     return Distinct(plan) if query.is_distinct else plan

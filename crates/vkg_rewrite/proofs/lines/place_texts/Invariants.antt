@@ -4,4 +4,4 @@ use Rattle.vkg_expr.specs.Value.{term_of}
 use Rattle.vkg_rewrite.proofs.lines.place_texts.Given as goal
 
 abbrev pub invariant-loop-cell : goal.invariant-loop-cell
-invariant-loop-cell l = l.texts ≡ map (λ c. place_text (term_of c)) (take l.cell-index l.row)
+invariant-loop-cell l = l.texts ≡ map place_text (map term_of (take l.cell-index l.row))
