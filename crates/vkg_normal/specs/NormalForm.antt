@@ -1,4 +1,8 @@
 -- The rules in their order, and the normal form of a plan under them.
+use Rattle.vkg_key_lefts.specs.ReferenceLeft.{reference_left}
+use Rattle.vkg_key_lefts.specs.ReferenceLeftLaw.{reference_left-falls, reference_left-keeps}
+use Rattle.vkg_key_lefts.specs.SelfLeft.{self_left}
+use Rattle.vkg_key_lefts.specs.SelfLeftLaw.{self_left-falls, self_left-keeps}
 use Rattle.vkg_plan.specs.Kinds.{Tables}
 use Rattle.vkg_plan.specs.Plan.{Plan}
 use Rattle.vkg_rules.specs.Either.{either, either-falls, either-keeps}
@@ -36,6 +40,10 @@ use Rattle.vkg_shapes.specs.SelectTrue.{select_true}
 use Rattle.vkg_shapes.specs.SelectTrueLaw.{select_true-falls, select_true-keeps}
 use Rattle.vkg_spreads.specs.DistributeUnion.{distribute_union}
 use Rattle.vkg_spreads.specs.DistributeUnionLaw.{distribute_union-falls, distribute_union-keeps}
+use Rattle.vkg_sure.specs.FirstKnown.{first_known}
+use Rattle.vkg_sure.specs.FirstKnownLaw.{first_known-falls, first_known-keeps}
+use Rattle.vkg_sure.specs.SureNull.{sure_null}
+use Rattle.vkg_sure.specs.SureNullLaw.{sure_null-falls, sure_null-keeps}
 use Rattle.vkg_unions.specs.DistinctDistinct.{distinct_distinct}
 use Rattle.vkg_unions.specs.DistinctDistinctLaw.{distinct_distinct-falls, distinct_distinct-keeps}
 use Rattle.vkg_unions.specs.EqualMembers.{equal_members}
@@ -73,6 +81,10 @@ removals = either distincts (either key_joins left_joins)
 unfoldable pub conditions : Rule
 conditions = either term_equality (either simplify_condition simplify_null)
 
+-- rules of our own: on what is never NULL, and on left joins over keys
+unfoldable pub own_rules : Rule
+own_rules = either sure_null (either first_known (either self_left reference_left))
+
 -- the rules in the order in which they are asked: the first that applies to a plan is taken
 unfoldable pub all_rules : Rule
 all_rules =
@@ -83,7 +95,8 @@ all_rules =
     (either flatten
     (either distribute_union
     (either removals
-    conditions))))))
+    (either conditions
+    own_rules)))))))
 
 -- the plan after the rules' last step: each is taken at the first subplan in preorder that a rule changes, by the first such rule
 unfoldable pub normal_form : Tables → Plan → Plan
@@ -167,6 +180,20 @@ conditions-fall =
     either-falls term_equality _ term_equality-falls
     (either-falls simplify_condition simplify_null simplify_condition-falls simplify_null-falls)
 
+own_rules-keep : KeepsAll own_rules
+unfolding own_rules
+own_rules-keep =
+    either-keeps sure_null _ sure_null-keeps
+    (either-keeps first_known _ first_known-keeps
+    (either-keeps self_left reference_left self_left-keeps reference_left-keeps))
+
+own_rules-fall : FallsAll own_rules
+unfolding own_rules
+own_rules-fall =
+    either-falls sure_null _ sure_null-falls
+    (either-falls first_known _ first_known-falls
+    (either-falls self_left reference_left self_left-falls reference_left-falls))
+
 pub rules-keep : KeepsAll all_rules
 unfolding all_rules
 rules-keep =
@@ -176,7 +203,8 @@ rules-keep =
     (either-keeps propagate_empty _ propagate_empty-keeps
     (either-keeps flatten _ flatten-keeps
     (either-keeps distribute_union _ distribute_union-keeps
-    (either-keeps removals conditions removals-keep conditions-keep))))))
+    (either-keeps removals _ removals-keep
+    (either-keeps conditions own_rules conditions-keep own_rules-keep)))))))
 
 pub rules-fall : FallsAll all_rules
 unfolding all_rules
@@ -187,4 +215,5 @@ rules-fall =
     (either-falls propagate_empty _ propagate_empty-falls
     (either-falls flatten _ flatten-falls
     (either-falls distribute_union _ distribute_union-falls
-    (either-falls removals conditions removals-fall conditions-fall))))))
+    (either-falls removals _ removals-fall
+    (either-falls conditions own_rules conditions-fall own_rules-fall)))))))

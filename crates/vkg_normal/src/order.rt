@@ -1,17 +1,19 @@
 // The rules, in the order in which they are asked.
 ghost use Rattle.std.specs.Prelude.{◌≡◌};
-ghost use Rattle.vkg_normal.specs.NormalForm.{all_rules, conditions as all_conditions, distincts as all_distincts, flatten as all_flattening, key_joins as all_key_joins, left_joins as all_left_joins, moves as all_moves, removals as all_removals};
+ghost use Rattle.vkg_normal.specs.NormalForm.{all_rules, conditions as all_conditions, distincts as all_distincts, flatten as all_flattening, key_joins as all_key_joins, left_joins as all_left_joins, moves as all_moves, own_rules as all_own, removals as all_removals};
 
 use vkg_conditions::SimplifyCondition;
 use vkg_equalities::TermEquality;
 use vkg_joins::JoinInJoin;
 use vkg_key_joins::{ParentJoin, SelfJoin};
+use vkg_key_lefts::{ReferenceLeft, SelfLeft};
 use vkg_lifts::LiftProjects;
 use vkg_moves::{LeftToJoin, MergeProjects, MergeSelects};
 use vkg_nulls::SimplifyNull;
 use vkg_rules::{Either, Rewrite};
 use vkg_shapes::{FalseCondition, FewMembers, FlatUnion, PropagateEmpty, SelectTrue};
 use vkg_spreads::DistributeUnion;
+use vkg_sure::{FirstKnown, SureNull};
 use vkg_unions::{DistinctDistinct, EqualMembers};
 use vkg_unique::{DistinctUnique, UnusedLeft};
 
@@ -28,7 +30,10 @@ pub type AfterMoves = Either<PropagateEmpty, Either<Flatten, AfterFlatten>>;
 pub type Flatten = Either<JoinInJoin, Either<FewMembers, FlatUnion>>;
 
 /// The rules that are asked behind those.
-pub type AfterFlatten = Either<DistributeUnion, Either<Removals, Conditions>>;
+pub type AfterFlatten = Either<DistributeUnion, Either<Removals, AfterRemovals>>;
+
+/// The rules that are asked last.
+pub type AfterRemovals = Either<Conditions, OwnRules>;
 
 /// The rules by which a distinct, a table in a join, or a left join goes.
 pub type Removals = Either<Distincts, Either<KeyJoins, LeftJoins>>;
@@ -45,6 +50,9 @@ pub type LeftJoins = Either<LeftToJoin, Either<EqualMembers, UnusedLeft>>;
 /// The rules on conditions: equalities of terms, what is decided, and tests for NULL.
 pub type Conditions = Either<TermEquality, Either<SimplifyCondition, SimplifyNull>>;
 
+/// Rules of our own: on what is never NULL, and on left joins over keys.
+pub type OwnRules = Either<SureNull, Either<FirstKnown, Either<SelfLeft, ReferenceLeft>>>;
+
 /// The rules in their order.
 #[tactic(auto, unfolding(crate::specs::NormalForm::all_rules))]
 pub fn rules() -> Rules
@@ -54,7 +62,9 @@ pub fn rules() -> Rules
     let flatten = flatten();
     let removals = removals();
     let conditions = conditions();
-    let fewer = or_else(removals, conditions);
+    let own = own_rules();
+    let last = or_else(conditions, own);
+    let fewer = or_else(removals, last);
     let unions = or_else(DistributeUnion, fewer);
     let flat = or_else(flatten, unions);
     let empty = or_else(PropagateEmpty, flat);
@@ -118,6 +128,15 @@ fn conditions() -> Conditions
 {
     let simpler = or_else(SimplifyCondition, SimplifyNull);
     or_else(TermEquality, simpler)
+}
+
+#[tactic(auto, unfolding(crate::specs::NormalForm::own_rules))]
+fn own_rules() -> OwnRules
+    ensures { ⟦<OwnRules as Rewrite>⟧.becomes result ≡ all_own }
+{
+    let lefts = or_else(SelfLeft, ReferenceLeft);
+    let known = or_else(FirstKnown, lefts);
+    or_else(SureNull, known)
 }
 
 fn or_else<A, B>(first: A, second: B) -> Either<A, B>

@@ -84,6 +84,12 @@ pub fn or(alloc: Global, a: MadeExpr, b: MadeExpr) -> MadeExpr {
     Box::new(alloc, Expr::Or(es))
 }
 
+// The first of two values that is not NULL.
+pub fn coalesce(alloc: Global, a: MadeExpr, b: MadeExpr) -> MadeExpr {
+    let es = both(alloc, a, b)?;
+    Box::new(alloc, Expr::Coalesce(es))
+}
+
 pub fn table(alloc: Global, place: usize) -> Made {
     Box::new(alloc, Plan::Scan(place))
 }

@@ -5,8 +5,9 @@ changes nothing at the root. A row is kept where a condition is true, not where 
 """
 import math
 
-from reference.conditions import is_strict, simplify_condition, simplify_null
+from reference.conditions import first_known, is_strict, simplify_condition, simplify_null, sure_null
 from reference.key_joins import parent_join, self_join
+from reference.key_lefts import reference_left, self_left, self_left_member
 from reference.plan_nodes import (FALSE, TRUE, Call, Column, Distinct, Empty, Join, Left, Project, Scan, Select, Unit, UnionAll, columns_in,
                                   conjunction, conjuncts, first_changed, kinds_of, moved, null, put_in, subplans, width, with_subplans)
 from reference.term_equalities import term_equality
@@ -269,10 +270,10 @@ def unused_left(plan, tables):
 # The program's rules: of two that change a plan the first one does.
 RULES = [select_true, false_condition, merge_selects, merge_projects, lift_projects, propagate_empty, flatten, distribute_union,
          distinct_unique, distinct_distinct, self_join, parent_join, left_to_join, equal_members, unused_left, term_equality,
-         simplify_condition, simplify_null]
+         simplify_condition, simplify_null, sure_null, first_known, self_left, reference_left]
 
 # What the program does not have yet, in the order in which it is to follow.
-LATER = []
+LATER = [self_left_member]
 
 
 # ---- the end ----
