@@ -1,14 +1,13 @@
--- Nodes over a left join to which no rule applies: none applies with another left side of these columns, where they may rest.
+-- Nodes over a left join to which none of the first rules applies: none applies with another left side of these columns, where they may rest.
 use Rattle.std.proofs.Common.{◌≡◌, true, false, List, [], ◌++◌, length, Option, Some, None, refl, sym, ap, subst}
-use Rattle.std.specs.Prelude.{Bool, ◌&&◌, ◌||◌, not, option_map, if◌then◌else◌}
+use Rattle.std.specs.Prelude.{Bool, ◌&&◌, not, option_map, if◌then◌else◌}
 use Rattle.std.specs.Bool.{then_some}
 use Rattle.std.specs.List.{list_all, list_any}
 use Rattle.std.specs.Option.{option_map_or, option_or}
-use Rattle.vkg_lists.proofs.Bools.{neither as neither_true}
 use Rattle.vkg_lists.proofs.Onto.{map_lacking}
 use Rattle.vkg_lists.proofs.Results.{some_of}
 use Rattle.vkg_lists.specs.Options.{joined}
-use Rattle.vkg_expr.specs.Expr.{Expr, exprs}
+use Rattle.vkg_expr.specs.Expr.{Expr}
 use Rattle.vkg_expr.specs.Logic.{and_then, conjuncts}
 use Rattle.vkg_expr.specs.Places.{first_place}
 use Rattle.vkg_plan.specs.Kinds.{Kinds, Tables, checked, plan_kinds, width}
@@ -25,8 +24,6 @@ use Rattle.vkg_equalities.proofs.Conjuncts.{none_asked}
 use Rattle.vkg_equalities.specs.Decided.{asks_terms}
 use Rattle.vkg_equalities.specs.TermEquality.{term_equality}
 use Rattle.vkg_key_joins.specs.ParentJoin.{parent_join}
-use Rattle.vkg_key_lefts.specs.ReferenceLeft.{reference_left, with_right as referring}
-use Rattle.vkg_key_lefts.specs.SelfLeft.{self_left, with_right as returning}
 use Rattle.vkg_lifts.specs.LiftProjects.{Parts, above, keeps_nulls, lift_projects, parts_between}
 use Rattle.vkg_moves.specs.LeftToJoin.{left_to_join}
 use Rattle.vkg_moves.specs.MergeProjects.{are_in_place, merge_projects}
@@ -39,12 +36,10 @@ use Rattle.vkg_shapes.specs.Parts.{padded}
 use Rattle.vkg_shapes.specs.PropagateEmpty.{is_nothing, propagate_empty}
 use Rattle.vkg_shapes.specs.SelectTrue.{select_true}
 use Rattle.vkg_spreads.specs.DistributeUnion.{distribute_union}
-use Rattle.vkg_sure.proofs.NoneAsked.{no_coalesce, no_test}
-use Rattle.vkg_sure.specs.Asked.{asks, one_asks}
 use Rattle.vkg_unions.specs.EqualMembers.{equal_members}
 use Rattle.vkg_unique.specs.UnusedLeft.{is_over_first, keys_of, ties_key, unused_left, without_right}
-use Rattle.vkg_normal.specs.NormalForm.{all_rules, conditions, distincts, flatten, key_joins, left_joins, moves, own_rules, removals}
-use Rattle.vkg_normal.specs.Resting.{may_rest, rests_beside, rests_over}
+use Rattle.vkg_normal.specs.NormalForm.{conditions, distincts, first_rules, flatten, key_joins, left_joins, moves, removals}
+use Rattle.vkg_normal.specs.Resting.{may_rest}
 use Rattle.vkg_normal.proofs.Flags.{left-flags}
 
 -- ---- the rules one by one
@@ -59,8 +54,8 @@ pub record NoneOf (s : Tables) (p : Plan) : Type 0 where
   pub condition : simplify_condition s p ≡ None
   pub null : simplify_null s p ≡ None
 
-none_of : (s : Tables) (p : Plan) → all_rules s p ≡ None → NoneOf s p
-unfolding all_rules moves removals left_joins conditions
+none_of : (s : Tables) (p : Plan) → first_rules s p ≡ None → NoneOf s p
+unfolding first_rules moves removals left_joins conditions
 none_of s p e =
     let a = neither (select_true s p) _ e in
     let b = neither (false_condition s p) _ a.1 in
@@ -70,13 +65,12 @@ none_of s p e =
     let h = neither (propagate_empty s p) _ m.1 in
     let f = neither (flatten s p) _ h.1 in
     let u = neither (distribute_union s p) _ f.1 in
-    let v = neither (removals s p) _ u.1 in
-    let o = neither (conditions s p) (own_rules s p) v.1 in
+    let v = neither (removals s p) (conditions s p) u.1 in
     let d = neither (distincts s p) _ v.0 in
     let j = neither (key_joins s p) (left_joins s p) d.1 in
     let w = neither (left_to_join s p) _ j.1 in
     let x = neither (equal_members s p) (unused_left s p) w.1 in
-    let t = neither (term_equality s p) _ o.0 in
+    let t = neither (term_equality s p) _ v.1 in
     let y = neither (simplify_condition s p) (simplify_null s p) t.1 in
     record {
       never = b.0;
@@ -91,23 +85,15 @@ none_of s p e =
 
 -- ---- of a left join
 
-left-none : (s : Tables) (p q : Plan) (c : Expr) → NoneOf s (Left p q c) → term_equality s (Left p q c) ≡ None → distribute_union s (Left p q c) ≡ None → asks c ≡ false → reference_left s (Left p q c) ≡ None →
-    all_rules s (Left p q c) ≡ None
-unfolding all_rules moves flatten removals distincts key_joins left_joins conditions own_rules
-left-none s p q c n t u a r =
-    let sure = no_test s (Left p q c) a in
-    let known = no_coalesce s (Left p q c) a in
-    λ i. option_or (n.never i) (option_or (option_or (n.selects i) (n.lifts i)) (option_or (n.empty i) (option_or (u i)
-    (option_or (option_or (t i) (option_or (n.condition i) (n.null i))) (option_or (sure i) (option_or (known i) (r i)))))))
+left-none : (s : Tables) (p q : Plan) (c : Expr) → NoneOf s (Left p q c) → term_equality s (Left p q c) ≡ None → distribute_union s (Left p q c) ≡ None → first_rules s (Left p q c) ≡ None
+unfolding first_rules moves flatten removals distincts key_joins left_joins conditions
+left-none s p q c n t u =
+    λ i. option_or (n.never i) (option_or (option_or (n.selects i) (n.lifts i)) (option_or (n.empty i) (option_or (u i) (option_or (t i) (option_or (n.condition i) (n.null i))))))
 
-project-none : (s : Tables) (es : List Expr) (p : Plan) → NoneOf s (Project es p) → parent_join s (Project es p) ≡ None → distribute_union s (Project es p) ≡ None → one_asks (exprs es) ≡ false → self_left s (Project es p) ≡ None →
-    all_rules s (Project es p) ≡ None
-unfolding all_rules moves flatten removals distincts key_joins left_joins conditions own_rules
-project-none s es p n j u a r =
-    let sure = no_test s (Project es p) a in
-    let known = no_coalesce s (Project es p) a in
-    λ i. option_or (option_or (n.projects i) (n.lifts i)) (option_or (n.empty i) (option_or (u i) (option_or (option_or (j i) (n.unused i))
-    (option_or (option_or (n.condition i) (n.null i)) (option_or (sure i) (option_or (known i) (option_or (r i) None)))))))
+project-none : (s : Tables) (es : List Expr) (p : Plan) → NoneOf s (Project es p) → parent_join s (Project es p) ≡ None → distribute_union s (Project es p) ≡ None → first_rules s (Project es p) ≡ None
+unfolding first_rules moves flatten removals distincts key_joins left_joins conditions
+project-none s es p n j u =
+    λ i. option_or (option_or (n.projects i) (n.lifts i)) (option_or (n.empty i) (option_or (u i) (option_or (option_or (j i) (n.unused i)) (option_or (n.condition i) (n.null i)))))
 
 -- ---- what depends on the number of columns alone, and on the rest of the node
 
@@ -123,28 +109,6 @@ padded-none : (o n : Option Kinds) (p q : Plan) → padded o n p ≡ None → pa
 padded-none None n p q e = refl
 padded-none (Some ks) None p q e = refl
 padded-none (Some ks) (Some ls) p q e = cc
-
--- ---- nothing is asked for NULL, and on the right is no table
-
-is-not : (b : Bool) → not b ≡ true → b ≡ false
-is-not true e = cc
-is-not false e = refl
-
-not-asked : (q : Plan) (c : Expr) → rests_beside q c ≡ true → (list_any asks_terms (conjuncts c) ≡ false) × (asks c ≡ false)
-not-asked (Scan table) c h = cc
-not-asked _ c h = neither_true (list_any asks_terms (conjuncts c)) (asks c) (is-not (list_any asks_terms (conjuncts c) || asks c) h)
-
-not-referring : (s : Tables) (p : Plan) (c : Expr) (q : Plan) → rests_beside q c ≡ true → referring s p c q ≡ None
-not-referring s p c (Scan table) h = cc
-not-referring s p c _ h = refl
-
-none-asked : (q : Plan) (es : List Expr) → rests_over q es ≡ true → one_asks (exprs es) ≡ false
-none-asked (Scan table) es h = cc
-none-asked _ es h = is-not (one_asks (exprs es)) h
-
-not-returning : (s : Tables) (es : List Expr) (p : Plan) (c : Expr) (q : Plan) → rests_over q es ≡ true → returning s es p c q ≡ None
-not-returning s es p c (Scan table) h = cc
-not-returning s es p c _ h = refl
 
 -- another left side of these columns
 module _ (s : Tables) (x l y : Plan) (d : Expr) (same : plan_kinds s l ≡ plan_kinds s x) where
@@ -196,9 +160,8 @@ module _ (s : Tables) (x l y : Plan) (d : Expr) (same : plan_kinds s l ≡ plan_
         let strict = changed-left of_strict b.1 in
         λ i. option_or (known i) (option_or (constant i) (strict i))
 
-    left-rests : IsTyped s x → rests_beside q c ≡ true → all_rules s (Left old q c) ≡ None → all_rules s (Left new q c) ≡ None
+    left-rests : IsTyped s x → list_any asks_terms (conjuncts c) ≡ false → first_rules s (Left old q c) ≡ None → first_rules s (Left new q c) ≡ None
     left-rests t h e =
-        let m = not-asked q c h in
         let n = none_of s (Left old q c) e in
         left-none s new q c
         (record {
@@ -211,10 +174,8 @@ module _ (s : Tables) (x l y : Plan) (d : Expr) (same : plan_kinds s l ≡ plan_
           condition = condition-stays s 0 [] (Left new q c) ((old, Nil), n.condition);
           null = null-left t n.null;
         })
-        (ap (option_map (λ (z : Expr). (Left new q z, fell.Equalities))) (none_asked s (Left new q c) c m.0))
+        (ap (option_map (λ (z : Expr). (Left new q z, fell.Equalities))) (none_asked s (Left new q c) c h))
         refl
-        m.1
-        (not-referring s new c q h)
 
   -- ---- below a Project
   module _ (es : List Expr) where
@@ -244,8 +205,8 @@ module _ (s : Tables) (x l y : Plan) (d : Expr) (same : plan_kinds s l ≡ plan_
         let strict = changed-project of_strict b.1 in
         λ i. option_or (known i) (option_or (constant i) (strict i))
 
-    project-rests : IsTyped s x → rests_over y es ≡ true → all_rules s (Project es old) ≡ None → all_rules s (Project es new) ≡ None
-    project-rests t h e =
+    project-rests : IsTyped s x → first_rules s (Project es old) ≡ None → first_rules s (Project es new) ≡ None
+    project-rests t e =
         let n = none_of s (Project es old) e in
         project-none s es new
         (record {
@@ -260,18 +221,20 @@ module _ (s : Tables) (x l y : Plan) (d : Expr) (same : plan_kinds s l ≡ plan_
         })
         refl
         refl
-        (none-asked y es h)
-        (not-returning s es l d y h)
 
--- ---- the rules rest where they may
+-- ---- the first rules rest where they may
 
-pub all-rest : (s : Tables) (p : Plan) → IsTyped s p → all_rules s p ≡ None → may_rest p ≡ true → Rests s (all_rules s) p
-all-rest s (Left (Left x y d) q c) t e m =
+is-not : (b : Bool) → not b ≡ true → b ≡ false
+is-not true e = cc
+is-not false e = refl
+
+pub first-rest : (s : Tables) (p : Plan) → IsTyped s p → first_rules s p ≡ None → may_rest p ≡ true → Rests s (first_rules s) p
+first-rest s (Left (Left x y d) q c) t e m =
     let inner = (typed_left s x y d (typed_left s (Left x y d) q c t).0).0 in
-    λ l k. left-rests s x l y d k q c inner m e
-all-rest s (Left _ q c) t e m = cc
-all-rest s (Project es (Left x y d)) t e m =
+    λ l k. left-rests s x l y d k q c inner (is-not (list_any asks_terms (conjuncts c)) m) e
+first-rest s (Left _ q c) t e m = cc
+first-rest s (Project es (Left x y d)) t e m =
     let inner = (typed_left s x y d (typed_project s es (Left x y d) t)).0 in
-    λ l k. project-rests s x l y d k es inner m e
-all-rest s (Project es _) t e m = cc
-all-rest s _ t e m = cc
+    λ l k. project-rests s x l y d k es inner e
+first-rest s (Project es _) t e m = cc
+first-rest s _ t e m = cc

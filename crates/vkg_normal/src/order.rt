@@ -1,6 +1,6 @@
 // The rules, in the order in which they are asked.
 ghost use Rattle.std.specs.Prelude.{◌≡◌};
-ghost use Rattle.vkg_normal.specs.NormalForm.{all_rules, conditions as all_conditions, distincts as all_distincts, flatten as all_flattening, key_joins as all_key_joins, left_joins as all_left_joins, moves as all_moves, own_rules as all_own, removals as all_removals};
+ghost use Rattle.vkg_normal.specs.NormalForm.{all_rules, conditions as all_conditions, distincts as all_distincts, first_rules as all_first_rules, flatten as all_flattening, key_joins as all_key_joins, left_joins as all_left_joins, moves as all_moves, own_rules as all_own_rules, removals as all_removals};
 
 use vkg_conditions::SimplifyCondition;
 use vkg_equalities::TermEquality;
@@ -17,8 +17,11 @@ use vkg_sure::{FirstKnown, SureNull};
 use vkg_unions::{DistinctDistinct, EqualMembers};
 use vkg_unique::{DistinctUnique, UnusedLeft};
 
-/// The rules, one behind the other: the first that applies to a plan is taken.
-pub type Rules = Either<SelectTrue, Either<FalseCondition, Either<Moves, AfterMoves>>>;
+/// The rules, one behind the other, our own last: the first that applies to a plan is taken.
+pub type Rules = Either<First, OwnRules>;
+
+/// The rules that are taken to their end first.
+pub type First = Either<SelectTrue, Either<FalseCondition, Either<Moves, AfterMoves>>>;
 
 /// The rules on selections and projections.
 pub type Moves = Either<MergeSelects, Either<MergeProjects, LiftProjects>>;
@@ -30,10 +33,7 @@ pub type AfterMoves = Either<PropagateEmpty, Either<Flatten, AfterFlatten>>;
 pub type Flatten = Either<JoinInJoin, Either<FewMembers, FlatUnion>>;
 
 /// The rules that are asked behind those.
-pub type AfterFlatten = Either<DistributeUnion, Either<Removals, AfterRemovals>>;
-
-/// The rules that are asked last.
-pub type AfterRemovals = Either<Conditions, OwnRules>;
+pub type AfterFlatten = Either<DistributeUnion, Either<Removals, Conditions>>;
 
 /// The rules by which a distinct, a table in a join, or a left join goes.
 pub type Removals = Either<Distincts, Either<KeyJoins, LeftJoins>>;
@@ -58,13 +58,21 @@ pub type OwnRules = Either<SureNull, Either<FirstKnown, Either<SelfLeft, Referen
 pub fn rules() -> Rules
     ensures { ⟦<Rules as Rewrite>⟧.becomes result ≡ all_rules }
 {
+    let first = first_rules();
+    let own = own_rules();
+    or_else(first, own)
+}
+
+/// Those that are taken to their end first.
+#[tactic(auto, unfolding(crate::specs::NormalForm::first_rules))]
+pub fn first_rules() -> First
+    ensures { ⟦<First as Rewrite>⟧.becomes result ≡ all_first_rules }
+{
     let moves = moves();
     let flatten = flatten();
     let removals = removals();
     let conditions = conditions();
-    let own = own_rules();
-    let last = or_else(conditions, own);
-    let fewer = or_else(removals, last);
+    let fewer = or_else(removals, conditions);
     let unions = or_else(DistributeUnion, fewer);
     let flat = or_else(flatten, unions);
     let empty = or_else(PropagateEmpty, flat);
@@ -132,7 +140,7 @@ fn conditions() -> Conditions
 
 #[tactic(auto, unfolding(crate::specs::NormalForm::own_rules))]
 fn own_rules() -> OwnRules
-    ensures { ⟦<OwnRules as Rewrite>⟧.becomes result ≡ all_own }
+    ensures { ⟦<OwnRules as Rewrite>⟧.becomes result ≡ all_own_rules }
 {
     let lefts = or_else(SelfLeft, ReferenceLeft);
     let known = or_else(FirstKnown, lefts);
