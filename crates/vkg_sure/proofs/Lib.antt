@@ -1,4 +1,4 @@
 pub mod Found
 pub mod Lists
-pub mod NoneAsked
 pub mod Places
+pub mod InCondition

@@ -1,4 +1,3 @@
-pub mod Asked
 pub mod AtPlaces
 pub mod FirstKnown
 pub mod FirstKnownLaw

@@ -1,19 +1,24 @@
-ghost use Rattle.std.specs.Prelude.{◌≡◌, ◌∷◌, [], IfOk, if◌then◌else◌, map, not, option_map};
+ghost use Rattle.std.specs.Prelude.{◌≡◌, ◌∷◌, [], IfOk, if◌then◌else◌, map, not, option_and_then, option_map};
 ghost use Rattle.vkg_conditions.specs.Conditions.{if_so};
+ghost use Rattle.vkg_conditions.specs.NodeCondition.{condition_of};
 ghost use Rattle.vkg_expr.specs.Expr.{Coalesce, exprs};
+ghost use Rattle.vkg_expr.specs.Places.{first_place as at_first_place};
 ghost use Rattle.vkg_expr.specs.Seen.{expr_seen};
 ghost use Rattle.vkg_expr.specs.Typing.{is_column as column_alone};
+ghost use Rattle.vkg_plan.specs.Seen.{plan_seen};
 ghost use Rattle.vkg_sure.specs.FirstKnown.{coalesce_of, first_known, first_known_of, of_members as of_known_members};
 ghost use Rattle.vkg_sure.specs.FirstKnownLaw.{first_known-keeps, first_known-falls};
+ghost use Rattle.vkg_sure.specs.NeverNull.{own_never_null as own_flags};
 
 use crate::members::{any_makes_term, fewer};
 use crate::own_columns::OwnColumns;
 use std::alloc::Global;
 use vkg_base::{Box, Items, Memory};
-use vkg_conditions::{Change, in_own};
+use vkg_conditions::node_condition::{condition, conditioned, has_condition};
+use vkg_conditions::{Change, first_place, in_own};
 use vkg_expr::{Expr, copy_boxed};
 use vkg_plan::Plan;
-use vkg_rules::{Fell, Rewrite};
+use vkg_rules::{Answer, Fell, Rewrite, answered};
 use vkg_schema::Schema;
 
 /// The first COALESCE in a plan's own expressions that has a member that is never its value loses it; of one member it is that one.
@@ -34,9 +39,52 @@ impl Rewrite for FirstKnown {
         in_own(alloc, &Fewer { own }, plan)
     }
 
+    // What is below a condition stays in memory once.
+    #[tactic(auto, using(crate::proofs::InCondition::first_known_is))]
+    fn apply_again(
+        &self,
+        alloc: Global,
+        schema: &Schema,
+        plan: Box<Plan>,
+        _: &[usize],
+    ) -> Result<Answer, Memory> {
+        if has_condition(&plan) {
+            let c = fewer_condition(alloc, schema, &plan)?;
+            return conditioned(alloc, plan, c, Fell::Size);
+        }
+        let made = self.apply(alloc, schema, &plan)?;
+        answered(alloc, plan, made)
+    }
+
     ghost keeps = { λ r. first_known-keeps };
 
     ghost falls = { λ r. first_known-falls };
+}
+
+/// The condition of the plan's first node with its first such COALESCE shorter, if there is one.
+fn fewer_condition(
+    alloc: Global,
+    schema: &Schema,
+    plan: &Plan,
+) -> Result<Option<Box<Expr>>, Memory>
+    ensures { IfOk result (λ o. option_map expr_seen o ≡ option_and_then (at_first_place (first_known_of (own_flags schema.now (plan_seen plan.now)))) (condition_of (plan_seen plan.now))) }
+{
+    match condition(plan) {
+        None => Ok(None),
+        Some(c) => fewer_in(alloc, schema, plan, c),
+    }
+}
+
+fn fewer_in(
+    alloc: Global,
+    schema: &Schema,
+    plan: &Plan,
+    c: &Expr,
+) -> Result<Option<Box<Expr>>, Memory>
+    ensures { IfOk result (λ o. option_map expr_seen o ≡ at_first_place (first_known_of (own_flags schema.now (plan_seen plan.now))) (expr_seen c.now)) }
+{
+    let own = OwnColumns::of(schema, plan);
+    first_place(alloc, &Fewer { own }, c)
 }
 
 /// A COALESCE without a member that is never its value.

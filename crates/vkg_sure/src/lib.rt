@@ -9,13 +9,11 @@
 //! - `FirstKnown`: the first COALESCE there that has such a member loses it. A member is never the value if it is NULL itself, stands there
 //!   before, or stands behind one that is NULL in no row; of one member the COALESCE is that one.
 //! - `OwnColumns`: of the columns over which a plan's own expressions are, whether they are never NULL, each told when it is asked for.
-//! - `asks`: whether an expression has a test for NULL of a column, or a COALESCE. Where none of a plan's own does, neither rule applies (`proofs/NoneAsked.antt`).
 //!
 //! Stands on vkg_nulls for the step on one test, on vkg_unique for what conditions say of NULL, on vkg_equalities for flags of columns,
 //! on vkg_same for equal expressions, on vkg_conditions for changes at places of a plan's expressions, and on vkg_rules for rules and their laws.
 #![tactic(auto)]
 
-mod asked;
 mod columns;
 mod first_known;
 mod members;
@@ -25,7 +23,6 @@ mod placed;
 mod sure_null;
 mod told;
 
-pub use asked::{asks, one_asks};
 pub use first_known::FirstKnown;
 pub use own_columns::OwnColumns;
 pub use sure_null::SureNull;

@@ -267,10 +267,13 @@ def unused_left(plan, tables):
     return Project(plan.expressions, left.left)
 
 
-# The program's rules: of two that change a plan the first one does.
-RULES = [select_true, false_condition, merge_selects, merge_projects, lift_projects, propagate_empty, flatten, distribute_union,
+# The program's rules: of two that change a plan the first one does. These are taken to their end first.
+FIRST = [select_true, false_condition, merge_selects, merge_projects, lift_projects, propagate_empty, flatten, distribute_union,
          distinct_unique, distinct_distinct, self_join, parent_join, left_to_join, equal_members, unused_left, term_equality,
-         simplify_condition, simplify_null, sure_null, first_known, self_left, reference_left]
+         simplify_condition, simplify_null]
+
+# Rules of its own, behind these, once none of them changes anything.
+OWN = [sure_null, first_known, self_left, reference_left]
 
 # What the program does not have yet, in the order in which it is to follow.
 LATER = [self_left_member]
@@ -296,3 +299,8 @@ def end_of(plan, tables, rules):
         if found is None:
             return plan
         plan = found
+
+
+def normal_form(plan, tables, own):
+    """The plan to which the rules lead: the first to their end, and from there all of them, with these of our own."""
+    return end_of(end_of(plan, tables, FIRST), tables, FIRST + own)
