@@ -18,6 +18,9 @@ keeps_typed s p q t k = typed-kept s p q t k.kinds
 pub keeps_then : (s : Tables) (p q r : Plan) → Keeps s p q → Keeps s q r → Keeps s p r
 keeps_then s p q r a b = record { kinds = b.kinds ∙ a.kinds; rows = λ db m. IsPermutation-trans _ _ _ (a.rows db m) (b.rows db m) }
 
+pub ends_then : (s : Tables) (p q r : Plan) → IsEndOf first_rules s p q → IsEndOf all_rules s q r → IsNormalFormOf s p r
+ends_then s p q r a b = record { between = q; of_first = a; of_all = b }
+
 module _ (s : Tables) (form : IsWellFormed s) (p : Plan) (t : IsTyped s p) where
   abbrev between : Plan
   between = end_of first_rules s p
@@ -36,7 +39,7 @@ module _ (s : Tables) (form : IsWellFormed s) (p : Plan) (t : IsTyped s p) where
   last-end = end-is all_rules rules-keep rules-fall s form between between-typed
 
   pub normal-end : IsNormalFormOf s p (normal_form s p)
-  normal-end = record { between = between; of_first = first-end; of_all = last-end }
+  normal-end = ends_then s p between (normal_form s p) first-end last-end
 
   only-normal : (q : Plan) → IsNormalFormOf s p q → q ≡ normal_form s p
   only-normal q e =
