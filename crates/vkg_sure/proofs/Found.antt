@@ -11,7 +11,7 @@ use Rattle.vkg_expr.specs.Seen.{expr_seen}
 use Rattle.vkg_conditions.proofs.ListLemmas.{drop_here, seen_more}
 use Rattle.vkg_equalities.specs.Decided.{makes_term}
 use Rattle.vkg_sure.specs.NeverNull.{is_known}
-use Rattle.vkg_sure.specs.FirstKnown.{adds_nothing, coalesce_of, fewer, fewer_at, of_members}
+use Rattle.vkg_sure.specs.FirstKnown.{adds_nothing, coalesce_of, fewer, fewer_at, of_members, shorter}
 
 -- the members before i stay
 abbrev pub Kept : List Bool → List ExprValue → ℕ → Type 0
@@ -68,7 +68,7 @@ module _ (flags : List Bool) (list : List ExprValue) (i : ℕ) (e : ExprValue) (
 
 -- of two or more members
 pub of_many : (flags : List Bool) (es : List ExprValue) → 2 ≤ length es →
-    option_map (coalesce_of (list_any makes_term (map expr_seen es))) (fewer flags [] (map expr_seen es)) ≡ of_members flags (map expr_seen es)
+    option_map (coalesce_of (list_any makes_term (map expr_seen es))) (shorter flags (map expr_seen es)) ≡ of_members flags (map expr_seen es)
 of_many flags [] h = absurd (omega arith)
 of_many flags (e ∷ []) h = absurd (omega arith)
 of_many flags (e ∷ f ∷ es) h = refl

@@ -1,5 +1,5 @@
 -- The laws of the rule: the plan's columns and rows stay, and the size of its expressions falls.
-use Rattle.std.proofs.Common.{◌≡◌, ◌∙◌, ◌<◌, ◌≤◌, Bool, true, false, not, cond, ◌&&◌, ◌||◌, List, [], ◌∷◌, ◌++◌, refl, sym, ap, subst, arith}
+use Rattle.std.proofs.Common.{◌≡◌, ◌∙◌, inl, inr, ◌<◌, ◌≤◌, Bool, true, false, not, cond, ◌&&◌, ◌||◌, List, [], ◌∷◌, ◌++◌, refl, sym, ap, subst, arith}
 use Rattle.std.specs.Prelude.{Option, Some, None, find, option_map, unwrap_or, if◌then◌else◌}
 use Rattle.std.specs.Bool.{then_some}
 use Rattle.std.specs.List.{AllByRecursion, list_all, list_any}
@@ -23,12 +23,13 @@ use Rattle.vkg_expr.proofs.ValueFits.{common_given, kind_same}
 use Rattle.vkg_plan.specs.Kinds.{Tables}
 use Rattle.vkg_plan.specs.Plan.{Plan}
 use Rattle.vkg_rules.specs.InNodes.{IsLawful}
-use Rattle.vkg_rules.specs.Measure.{equalities_each, sizes}
+use Rattle.vkg_rules.specs.Measure.{equalities, equalities_each, size, sizes}
 use Rattle.vkg_rules.specs.Steps.{FallsAll, IsTyped, KeepsAll, Step}
 use Rattle.vkg_same.specs.SameExpr.{same_expr}
 use Rattle.vkg_same.specs.SameExprLaw.{same_expr-is}
 use Rattle.vkg_conditions.specs.Cases.{smaller}
 use Rattle.vkg_conditions.specs.ConditionsLaw.{if_so-given}
+use Rattle.vkg_conditions.specs.FirstPlace.{or_cases}
 use Rattle.vkg_conditions.specs.Junctions.{SimplerOn, exprs_each}
 use Rattle.vkg_conditions.specs.MembersLaw.{size_positive}
 use Rattle.vkg_conditions.specs.SimplifyCondition.{in_own}
@@ -38,7 +39,7 @@ use Rattle.vkg_sure.specs.NeverNull.{is_known, own_never_null}
 use Rattle.vkg_sure.specs.NeverNullLaw.{known-value}
 use Rattle.vkg_sure.specs.SureNullLaw.{own-known}
 use Rattle.vkg_sure.specs.AtPlaces.{sound-lawful}
-use Rattle.vkg_sure.specs.FirstKnown.{adds_nothing, coalesce_of, fewer, first_known, first_known_of, is_null_constant, of_members}
+use Rattle.vkg_sure.specs.FirstKnown.{adds_nothing, coalesce_of, fewer, first_alone, first_known, first_known_of, first_value, is_null_constant, of_first, of_members, shorter}
 
 -- ---- the first of some cells that is not NULL
 
@@ -155,9 +156,71 @@ module _ (flags : List Bool) (ks : List SqlType) (k : SqlType) where
   })
   dropped before e es ys false i t rec h = closed before e es ys (is_known flags e && not (is_empty es)) refl t rec h
 
-  shorter : (before xs ys : List Expr) → AreOf ks k xs → fewer flags before xs ≡ Some ys → Shorter On ks k before xs ys
-  shorter before [] ys t h = cc
-  shorter before (e ∷ es) ys t h = dropped before e es ys (adds_nothing before e) refl t (λ ds i. shorter (before ++ e ∷ []) es ds t.1 i) h
+  fewer-shorter : (before xs ys : List Expr) → AreOf ks k xs → fewer flags before xs ≡ Some ys → Shorter On ks k before xs ys
+  fewer-shorter before [] ys t h = cc
+  fewer-shorter before (e ∷ es) ys t h = dropped before e es ys (adds_nothing before e) refl t (λ ds i. fewer-shorter (before ++ e ∷ []) es ds t.1 i) h
+
+  -- ---- the first value
+
+  record IsFirst (e d : Expr) : Type 0 where
+    of_kind : kind_of d ks ≡ Some k
+    most : size d ≤ size e
+    no_more : equalities ks d ≤ equalities ks e
+    value : (row : Row) → On row → value_of e row ≡ value_of d row
+    known : (row : Row) → On row → is_null (value_of d row) ≡ false
+
+  first-itself : (e d : Expr) → kind_of e ks ≡ Some k → if_so (is_known flags e) e ≡ Some d → IsFirst e d
+  first-itself e d t h =
+      let g = if_so-given (is_known flags e) e d h in
+      subst (IsFirst e) g.1 (record {
+        of_kind = t;
+        most = omega arith;
+        no_more = omega arith;
+        value = λ row w. refl;
+        known = λ row w. known-value ks row w.0 flags e k w.1 t g.0;
+      })
+
+  mutual
+    first-is : (e d : Expr) → kind_of e ks ≡ Some k → first_value flags e ≡ Some d → IsFirst e d
+    first-is (Coalesce es) d t h = first-of es d t h
+    first-is e d t h = first-itself e d t h
+
+    first-of : (es : Exprs) (d : Expr) → kind_of (Coalesce es) ks ≡ Some k → of_first flags es ≡ Some d → IsFirst (Coalesce es) d
+    first-of Nil d t h = cc
+    first-of (More e es) d t h =
+        let of = of-common ks k (More e es) t in
+        let r = first-is e d of.0 h in
+        let a = r.most in let b = r.no_more in
+        record {
+          of_kind = r.of_kind;
+          most = omega (arith, a);
+          no_more = omega (arith, b);
+          value = λ row w. known-first (value_of e row) (values_of es row) (ap is_null (r.value row w) ∙ r.known row w) ∙ r.value row w;
+          known = r.known;
+        }
+
+  first-shorter : (e d f : Expr) (es : List Expr) → IsFirst e d → Shorter On ks k [] (e ∷ f ∷ es) (d ∷ [])
+  first-shorter e d f es r =
+      let p = size_positive f in let a = r.most in let b = r.no_more in
+      record {
+        of_kind = (r.of_kind, tt);
+        less = omega (arith, p, a);
+        no_more = omega (arith, b);
+        value = λ row w z.
+            let n = ap is_null (r.value row w) ∙ r.known row w in
+            known-first (value_of d row) [] (r.known row w) ∙ sym (r.value row w) ∙ sym (known-first (value_of e row) (values_of (exprs (f ∷ es)) row) n);
+      }
+
+  alone-shorter : (e f : Expr) (es ys : List Expr) → AreOf ks k (e ∷ f ∷ es) → first_alone flags (e ∷ f ∷ es) ≡ Some ys → Shorter On ks k [] (e ∷ f ∷ es) ys
+  alone-shorter e f es ys t h =
+      let m = map_given (λ (d : Expr). d ∷ []) (first_value flags e) ys h in
+      subst (Shorter On ks k [] (e ∷ f ∷ es)) m.2 (first-shorter e m.0 f es (first-is e m.0 t.0 m.1))
+
+  all-shorter : (e f : Expr) (es ys : List Expr) → AreOf ks k (e ∷ f ∷ es) → shorter flags (e ∷ f ∷ es) ≡ Some ys → Shorter On ks k [] (e ∷ f ∷ es) ys
+  all-shorter e f es ys t h = elim (or_cases (first_alone flags (e ∷ f ∷ es)) (fewer flags [] (e ∷ f ∷ es)) ys h) [
+    | inl i ↦ alone-shorter e f es ys t i
+    | inr i ↦ fewer-shorter [] (e ∷ f ∷ es) ys t i
+  ]
 
   -- of two or more something is left
   left-some : (e f : Expr) (es : List Expr) (b c : Bool) (o : Option (List Expr)) → (if b then Some (f ∷ es) else (if c then Some (e ∷ []) else option_map (λ ds. e ∷ ds) o)) ≡ Some [] → ⊥
@@ -165,6 +228,16 @@ module _ (flags : List Bool) (ks : List SqlType) (k : SqlType) where
   left-some e f es false true o h = cc
   left-some e f es false false None h = cc
   left-some e f es false false (Some ds) h = cc
+
+  some-alone : (o : Option Expr) → option_map (λ (d : Expr). d ∷ []) o ≡ Some [] → ⊥
+  some-alone None h = cc
+  some-alone (Some d) h = cc
+
+  some-left : (e f : Expr) (es : List Expr) → shorter flags (e ∷ f ∷ es) ≡ Some [] → ⊥
+  some-left e f es h = elim (or_cases (first_alone flags (e ∷ f ∷ es)) (fewer flags [] (e ∷ f ∷ es)) [] h) [
+    | inl i ↦ some-alone (first_value flags e) i
+    | inr i ↦ left-some e f es (adds_nothing [] e) (is_known flags e && not (is_empty (f ∷ es))) (fewer flags (e ∷ []) (f ∷ es)) i
+  ]
 
   -- the COALESCE of fewer members, or its one member
   fewer-simpler : (xs ys : List Expr) (y : Expr) (all : Exprs) → each all ≡ xs → kind_of (Coalesce all) ks ≡ Some k → Shorter On ks k [] xs (y ∷ ys) → SimplerOn On ks (Coalesce all) (Coalesce (exprs (y ∷ ys)))
@@ -204,12 +277,12 @@ module _ (flags : List Bool) (ks : List SqlType) (k : SqlType) where
   ]
   made-simpler terms xs (z ∷ ys) y all i t r = fewer-simpler xs (z ∷ ys) y all i t r
 
-  several-simpler : (e f : Expr) (es : List Expr) (all : Exprs) (terms : Bool) (ys : List Expr) → each all ≡ e ∷ f ∷ es → kind_of (Coalesce all) ks ≡ Some k → fewer flags [] (e ∷ f ∷ es) ≡ Some ys
+  several-simpler : (e f : Expr) (es : List Expr) (all : Exprs) (terms : Bool) (ys : List Expr) → each all ≡ e ∷ f ∷ es → kind_of (Coalesce all) ks ≡ Some k → shorter flags (e ∷ f ∷ es) ≡ Some ys
       → SimplerOn On ks (Coalesce all) (coalesce_of terms ys)
-  several-simpler e f es all terms [] i t h = absurd (left-some e f es (adds_nothing [] e) (is_known flags e && not (is_empty (f ∷ es))) (fewer flags (e ∷ []) (f ∷ es)) h)
+  several-simpler e f es all terms [] i t h = absurd (some-left e f es h)
   several-simpler e f es all terms (y ∷ ys) i t h =
       let of = subst (AreOf ks k) i (of-common ks k all t) in
-      made-simpler terms (e ∷ f ∷ es) ys y all i t (shorter [] (e ∷ f ∷ es) (y ∷ ys) of h)
+      made-simpler terms (e ∷ f ∷ es) ys y all i t (all-shorter e f es (y ∷ ys) of h)
 
   one-simpler : (e : Expr) (all : Exprs) → each all ≡ e ∷ [] → kind_of (Coalesce all) ks ≡ Some k → SimplerOn On ks (Coalesce all) e
   one-simpler e all i t =
@@ -232,7 +305,7 @@ module _ (flags : List Bool) (ks : List SqlType) (k : SqlType) where
       subst (SimplerOn On ks (Coalesce all)) g.1 (one-simpler e all i t)
   members-simpler (e ∷ f ∷ es) all d i t h =
       let terms = list_any makes_term (e ∷ f ∷ es) in
-      let m = map_given (coalesce_of terms) (fewer flags [] (e ∷ f ∷ es)) d h in
+      let m = map_given (coalesce_of terms) (shorter flags (e ∷ f ∷ es)) d h in
       subst (SimplerOn On ks (Coalesce all)) m.2 (several-simpler e f es all terms m.0 i t m.1)
 
 known-simpler : (flags : List Bool) (ks : List SqlType) (e d : Expr) (k : SqlType) → kind_of e ks ≡ Some k → first_known_of flags e ≡ Some d → SimplerOn (Known flags ks) ks e d
@@ -269,7 +342,7 @@ members-bare flags ks [] d t h = cc
 members-bare flags ks (e ∷ []) d t h = let g = if_so-given (not (is_column e)) e d h in subst (λ x. not (is_column x) ≡ true) g.1 g.0
 members-bare flags ks (e ∷ f ∷ es) d t h =
     let terms = list_any makes_term (e ∷ f ∷ es) in
-    let m = map_given (coalesce_of terms) (fewer flags [] (e ∷ f ∷ es)) d h in
+    let m = map_given (coalesce_of terms) (shorter flags (e ∷ f ∷ es)) d h in
     subst (λ x. not (is_column x) ≡ true) m.2
     (elim terms as (λ b. terms ≡ b → not (is_column (coalesce_of b m.0)) ≡ true) [
       | true ↦ λ i. absurd (no-term ks (e ∷ f ∷ es) t i)

@@ -10,7 +10,7 @@ ghost use Rattle.vkg_sure.specs.FirstKnown.{coalesce_of, first_known, first_know
 ghost use Rattle.vkg_sure.specs.FirstKnownLaw.{first_known-keeps, first_known-falls};
 ghost use Rattle.vkg_sure.specs.NeverNull.{own_never_null as own_flags};
 
-use crate::members::{any_makes_term, fewer};
+use crate::members::{any_makes_term, shorter};
 use crate::own_columns::OwnColumns;
 use std::alloc::Global;
 use vkg_base::{Box, Items, Memory};
@@ -117,7 +117,7 @@ fn of_members(alloc: Global, own: &OwnColumns, list: &[Expr]) -> Result<Option<B
     match list {
         [] => Ok(None),
         [e] => unless_column(alloc, e),
-        [_, _, ..] => coalesce_if(alloc, any_makes_term(list), fewer(alloc, own, list)?),
+        [_, _, ..] => coalesce_if(alloc, any_makes_term(list), shorter(alloc, own, list)?),
     }
 }
 

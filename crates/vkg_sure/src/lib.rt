@@ -7,7 +7,8 @@
 //!
 //! - `SureNull`: the first test of such a column in a plan's own expressions is false.
 //! - `FirstKnown`: the first COALESCE there that has such a member loses it. A member is never the value if it is NULL itself, stands there
-//!   before, or stands behind one that is NULL in no row; of one member the COALESCE is that one.
+//!   before, or stands behind one that is NULL in no row; of one member the COALESCE is that one. Where the first is NULL in no row, it is the value,
+//!   also of COALESCEs one in another.
 //! - `OwnColumns`: of the columns over which a plan's own expressions are, whether they are never NULL, each told when it is asked for.
 //!
 //! Stands on vkg_nulls for the step on one test, on vkg_unique for what conditions say of NULL, on vkg_equalities for flags of columns,
@@ -16,6 +17,7 @@
 
 mod columns;
 mod first_known;
+mod first_value;
 mod members;
 mod never_null;
 mod own_columns;

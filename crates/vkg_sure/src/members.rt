@@ -5,19 +5,56 @@ ghost use Rattle.vkg_equalities.specs.Decided.{makes_term as term_made};
 ghost use Rattle.vkg_expr.specs.Seen.{expr_seen};
 ghost use Rattle.vkg_lists.specs.Lists.{is_empty as has_none};
 ghost use Rattle.vkg_same.specs.SameExpr.{same_expr as one_expr};
-ghost use Rattle.vkg_sure.specs.FirstKnown.{adds_nothing as gives_nothing, fewer as without_one, fewer_at, is_null_constant as constant_null};
+ghost use Rattle.vkg_sure.specs.FirstKnown.{adds_nothing as gives_nothing, fewer as without_one, fewer_at, first_alone as alone_of, is_null_constant as constant_null, shorter as made_shorter};
 ghost use Rattle.vkg_sure.specs.NeverNull.{is_known as known_by};
 
+use crate::first_value::first_value;
 use crate::own_columns::OwnColumns;
 use std::alloc::Global;
-use vkg_base::{Items, Memory};
+use vkg_base::{Box, Items, Memory};
 use vkg_cells::SqlType;
 use vkg_conditions::is_null;
 use vkg_expr::{Expr, copy_exprs, same_kind};
 use vkg_same::same_expr;
 
+/// The value of the first member alone, if that is never NULL, or else the list without a member that is never its value.
+pub fn shorter(alloc: Global, own: &OwnColumns, list: &[Expr]) -> Result<Option<Items<Expr>>, Memory>
+    ensures { IfOk result (λ o. option_map (map expr_seen) o ≡ made_shorter own.now (map expr_seen list.now)) }
+{
+    match first_alone(alloc, own, list)? {
+        Some(one) => Ok(Some(one)),
+        None => fewer(alloc, own, list),
+    }
+}
+
+fn first_alone(alloc: Global, own: &OwnColumns, list: &[Expr]) -> Result<Option<Items<Expr>>, Memory>
+    ensures { IfOk result (λ o. option_map (map expr_seen) o ≡ alone_of own.now (map expr_seen list.now)) }
+{
+    match list {
+        [] => Ok(None),
+        [e, ..] => alone(alloc, first_value(alloc, own, e)?),
+    }
+}
+
+fn alone(alloc: Global, e: Option<Box<Expr>>) -> Result<Option<Items<Expr>>, Memory>
+    ensures { IfOk result (λ o. option_map (map expr_seen) o ≡ option_map (λ d. d ∷ []) (option_map expr_seen e)) }
+{
+    match e {
+        None => Ok(None),
+        Some(e) => Ok(Some(single(alloc, e)?)),
+    }
+}
+
+fn single(alloc: Global, e: Box<Expr>) -> Result<Items<Expr>, Memory>
+    ensures { IfOk result (λ es. map expr_seen es ≡ expr_seen e ∷ []) }
+{
+    let mut one = Items::new(alloc);
+    one.push(e.into_inner())?;
+    Ok(one)
+}
+
 /// The list without the first member that adds nothing, or without all behind the first that is never NULL, whichever stands first.
-pub fn fewer(alloc: Global, own: &OwnColumns, list: &[Expr]) -> Result<Option<Items<Expr>>, Memory>
+fn fewer(alloc: Global, own: &OwnColumns, list: &[Expr]) -> Result<Option<Items<Expr>>, Memory>
     ensures { IfOk result (λ o. option_map (map expr_seen) o ≡ without_one own.now [] (map expr_seen list.now)) }
 {
     for i in 0..list.len() {

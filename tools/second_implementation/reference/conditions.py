@@ -248,6 +248,19 @@ def fewer_members(members, flags):
     return None
 
 
+def first_value(expression, flags):
+    """An expression that is never NULL, or what the first member of a COALESCE is; or None."""
+    if isinstance(expression, Call) and expression.name == "COALESCE":
+        return first_value(expression.arguments[0], flags) if expression.arguments else None
+    return expression if is_known(expression, flags) else None
+
+
+def shorter(members, flags):
+    """The first value alone, where the first of several members has one, or else fewer members; or None."""
+    first = first_value(members[0], flags)
+    return fewer_members(members, flags) if first is None else (first,)
+
+
 def makes_term(expression):
     """Whether an expression makes a term, of whatever: then each member beside it in a COALESCE is one."""
     return expression.kind == "term" if isinstance(expression, Constant) else getattr(expression, "name", None) in ("IRI", "BLANK", "LIT")
@@ -260,7 +273,7 @@ def first_known_member(flags):
         if not isinstance(expression, Call) or expression.name != "COALESCE":
             return None
         members = expression.arguments
-        found = members if len(members) == 1 else fewer_members(members, flags)
+        found = shorter(members, flags) if len(members) > 1 else members
         if found is None:
             return None
         if len(found) == 1 and (not isinstance(found[0], Column) or len(members) > 1 and any(map(makes_term, members))):
