@@ -62,11 +62,7 @@ impl Rewrite for FirstKnown {
 }
 
 /// The condition of the plan's first node with its first such COALESCE shorter, if there is one.
-fn fewer_condition(
-    alloc: Global,
-    schema: &Schema,
-    plan: &Plan,
-) -> Result<Option<Box<Expr>>, Memory>
+fn fewer_condition(alloc: Global, schema: &Schema, plan: &Plan) -> Result<Option<Box<Expr>>, Memory>
     ensures { IfOk result (λ o. option_map expr_seen o ≡ option_and_then (at_first_place (first_known_of (own_flags schema.now (plan_seen plan.now)))) (condition_of (plan_seen plan.now))) }
 {
     match condition(plan) {

@@ -18,7 +18,11 @@ use vkg_expr::{Expr, copy_exprs, same_kind};
 use vkg_same::same_expr;
 
 /// The value of the first member alone, if that is never NULL, or else the list without a member that is never its value.
-pub fn shorter(alloc: Global, own: &OwnColumns, list: &[Expr]) -> Result<Option<Items<Expr>>, Memory>
+pub fn shorter(
+    alloc: Global,
+    own: &OwnColumns,
+    list: &[Expr],
+) -> Result<Option<Items<Expr>>, Memory>
     ensures { IfOk result (λ o. option_map (map expr_seen) o ≡ made_shorter own.now (map expr_seen list.now)) }
 {
     match first_alone(alloc, own, list)? {
@@ -27,7 +31,11 @@ pub fn shorter(alloc: Global, own: &OwnColumns, list: &[Expr]) -> Result<Option<
     }
 }
 
-fn first_alone(alloc: Global, own: &OwnColumns, list: &[Expr]) -> Result<Option<Items<Expr>>, Memory>
+fn first_alone(
+    alloc: Global,
+    own: &OwnColumns,
+    list: &[Expr],
+) -> Result<Option<Items<Expr>>, Memory>
     ensures { IfOk result (λ o. option_map (map expr_seen) o ≡ alone_of own.now (map expr_seen list.now)) }
 {
     match list {

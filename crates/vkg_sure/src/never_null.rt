@@ -21,12 +21,7 @@ use vkg_plan::Plan;
 use vkg_schema::Schema;
 
 /// What is told of a column by those over which a plan's own expressions are.
-pub fn own_told(
-    alloc: Global,
-    schema: &Schema,
-    plan: &Plan,
-    column: usize,
-) -> Result<Told, Memory>
+pub fn own_told(alloc: Global, schema: &Schema, plan: &Plan, column: usize) -> Result<Told, Memory>
     ensures { IfOk result (λ t. t ≡ told_at (own_flags schema.now (plan_seen plan.now)) column) }
 {
     match plan {
@@ -39,13 +34,7 @@ pub fn own_told(
 }
 
 #[tactic(auto, using(crate::proofs::Places::append_here, crate::proofs::Places::append_past))]
-fn of_two(
-    alloc: Global,
-    schema: &Schema,
-    p: &Plan,
-    q: &Plan,
-    column: usize,
-) -> Result<Told, Memory>
+fn of_two(alloc: Global, schema: &Schema, p: &Plan, q: &Plan, column: usize) -> Result<Told, Memory>
     ensures { IfOk result (λ t. t ≡ told_at (flags_of schema.now (plan_seen p.now) ++ flags_of schema.now (plan_seen q.now)) column) }
 {
     match never_null(alloc, schema, p, column)? {

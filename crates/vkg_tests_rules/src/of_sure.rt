@@ -113,7 +113,11 @@ fn it_is_told_which_columns_are_never_null(rt: HostRuntime) -> Result<(), Fail> 
     let plan = select(rt.alloc(), truth(rt.alloc(), true), padded(rt.alloc()))?;
     let own = OwnColumns::of(&schema, &plan);
     for (column, expected) in [(0, true), (1, false), (2, false), (3, false), (4, false)] {
-        assert_eq!(rt; own.is_never_null(rt.alloc(), column)?, expected, "{column}");
+        assert_eq!(rt;
+            own.is_never_null(rt.alloc(), column)?,
+            expected,
+            "{column}"
+        );
     }
     let strict = form(rt.alloc(), 0)?;
     assert!(rt; own.is_known(rt.alloc(), &strict)?);
