@@ -27,6 +27,10 @@ fn of_members(alloc: Global, name: &str) -> MadeExpr {
         "a member twice" => coalesce(alloc, form(alloc, 1), form(alloc, 1)),
         "what is never NULL first" => coalesce(alloc, form(alloc, 0), form(alloc, 1)),
         "what is never NULL behind" => coalesce(alloc, form(alloc, 1), form(alloc, 0)),
+        "one in another" => {
+            let inner = coalesce(alloc, form(alloc, 0), form(alloc, 1));
+            coalesce(alloc, inner, form(alloc, 1))
+        }
         "one member" => alone(alloc, form(alloc, 1)),
         _ => alone(alloc, column(alloc, 1)),
     }
@@ -47,7 +51,7 @@ fn made(alloc: Global, name: &str) -> Made {
 }
 
 // The members, and the texts of what the rule makes of the plan. A column that is not told to be a term stays in its COALESCE.
-const OUTCOMES: [(&str, &str); 9] = [
+const OUTCOMES: [(&str, &str); 10] = [
     ("NULL first", "SELECT LEX(c2) AS c1 FROM (TABLE \"t\") AS t"),
     (
         "NULL behind",
@@ -66,6 +70,10 @@ const OUTCOMES: [(&str, &str); 9] = [
         "SELECT LEX(c1) AS c1 FROM (TABLE \"t\") AS t",
     ),
     ("what is never NULL behind", "none"),
+    (
+        "one in another",
+        "SELECT LEX(c1) AS c1 FROM (TABLE \"t\") AS t",
+    ),
     ("one member", "SELECT LEX(c2) AS c1 FROM (TABLE \"t\") AS t"),
     ("one column", "none"),
     (
