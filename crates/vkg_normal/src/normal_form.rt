@@ -12,7 +12,7 @@ use vkg_schema::Schema;
 
 /// The plan's normal form: what the rules lead to, our own once none of the others applies, where none of them applies any more. It has the
 /// plan's columns, and its bag of rows over every database that meets the schema.
-#[tactic(auto, using(crate::proofs::Normal::ends_then, crate::proofs::Normal::keeps_then, crate::proofs::Normal::keeps_typed), unfolding(crate::specs::NormalForm::normal_form))]
+#[tactic(auto, unfolding(crate::specs::NormalForm::normal_form))]
 pub fn normalise(alloc: Global, schema: &Schema, plan: Box<Plan>) -> Result<Box<Plan>, Memory>
     requires { IsTyped schema.now (plan_seen plan) }
     ensures value { IfOk result (λ q. plan_seen q ≡ normal_form schema.now (plan_seen plan)) }
