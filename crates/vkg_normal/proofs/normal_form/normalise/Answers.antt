@@ -13,3 +13,7 @@ returns-clause-end c =
 pub returns-clause-keeps : goal.returns-clause-keeps
 returns-clause-keeps c =
     keeps_then c.args.schema.now (plan_seen c.args.plan) (plan_seen c.in_ok-between.between) (plan_seen c.in_ok-end.end) c.in_ok-between.ensures.keeps c.in_ok-end.ensures.keeps
+
+pub returns-clause-typed : goal.returns-clause-typed
+returns-clause-typed c =
+    keeps_typed c.args.schema.now (plan_seen c.in_ok-between.between) (plan_seen c.in_ok-end.end) (normalise-requires-2 c) c.in_ok-end.ensures.keeps
