@@ -24,6 +24,7 @@ pub fn first_value(alloc: Global, own: &OwnColumns, e: &Expr) -> Result<Option<B
 }
 
 #[cycle(first)]
+#[tactic(auto, using(crate::proofs::Lists::head_first))]
 fn of_first(alloc: Global, own: &OwnColumns, list: &[Expr]) -> Result<Option<Box<Expr>>, Memory>
     ensures { IfOk result (λ o. option_map expr_seen o ≡ value_of_first own.now (exprs (map expr_seen list.now))) }
 {

@@ -31,6 +31,7 @@ pub fn shorter(
     }
 }
 
+#[tactic(auto, using(crate::proofs::Lists::head_alone))]
 fn first_alone(
     alloc: Global,
     own: &OwnColumns,
