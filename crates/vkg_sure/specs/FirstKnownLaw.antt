@@ -28,6 +28,7 @@ use Rattle.vkg_rules.specs.Steps.{FallsAll, IsTyped, KeepsAll, Step}
 use Rattle.vkg_same.specs.SameExpr.{same_expr}
 use Rattle.vkg_same.specs.SameExprLaw.{same_expr-is}
 use Rattle.vkg_conditions.specs.Cases.{smaller}
+use Rattle.vkg_conditions.specs.Conditions.{if_so}
 use Rattle.vkg_conditions.specs.ConditionsLaw.{if_so-given}
 use Rattle.vkg_conditions.specs.FirstPlace.{or_cases}
 use Rattle.vkg_conditions.specs.Junctions.{SimplerOn, exprs_each}
