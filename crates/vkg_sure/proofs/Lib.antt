@@ -1,0 +1,4 @@
+pub mod Found
+pub mod Lists
+pub mod Places
+pub mod InCondition
