@@ -1,4 +1,5 @@
 pub mod Found
-pub mod Lists
-pub mod Places
 pub mod InCondition
+pub mod Lists
+pub mod Nodes
+pub mod Places

@@ -1,23 +1,16 @@
 -- A condition says nothing of places.
-use Rattle.std.proofs.Common.{◌∙◌, map, sym, ap}
-use Rattle.vkg_equalities.specs.TableColumns.{flags_beside}
-use Rattle.vkg_expr.specs.Seen.{expr_seen}
-use Rattle.vkg_plan.specs.Plan.{plans}
-use Rattle.vkg_plan.specs.Seen.{plan_seen}
-use Rattle.vkg_sure.specs.NeverNull.{never_null, never_null_each}
-use Rattle.vkg_sure.specs.ToldAt.{or_behind, told_at, unsaid}
-use Rattle.vkg_sure.proofs.Places.{placed_condition, placed_two}
+use Rattle.vkg_sure.proofs.Nodes.{placed_join, placed_left, placed_select}
 use Rattle.vkg_sure.proofs.placed.+placed.Goals as goal
 
 pub placed-returns-in-Select : goal.placed-returns-in-Select
 placed-returns-in-Select t c =
-    c.placed.ensures ∙ sym (placed_condition (never_null c.args.schema.now (plan_seen c.in-Select.p)) (expr_seen c.in-Select.field-0) c.args.column)
+    placed_select c.args.schema.now c.args.plan.now c.in-Select.p c.deref.result.now c.in-Select.field-0 c.args.column c.placed.result c.in-Select.is c.deref.ensures c.placed.ensures
 
 pub placed-returns-in-Join : goal.placed-returns-in-Join
 placed-returns-in-Join t c =
-    c.beside.ensures ∙ sym (placed_condition (flags_beside (never_null_each c.args.schema.now (plans (map plan_seen c.in-Join.ps)))) (expr_seen c.in-Join.field-1) c.args.column)
+    placed_join c.args.schema.now c.args.plan.now c.in-Join.ps c.as_slice-in-Join.result.now c.in-Join.field-1 c.args.column c.beside.result c.in-Join.is c.as_slice-in-Join.ensures c.beside.ensures
 
 pub placed-returns-in-Left : goal.placed-returns-in-Left
 placed-returns-in-Left t c =
-    c.or_placed.ensures ∙ ap (λ z. or_behind z (λ n. unsaid (told_at (never_null c.args.schema.now (plan_seen c.in-Left.q)) n))) c.placed.ensures
-    ∙ sym (placed_two (never_null c.args.schema.now (plan_seen c.in-Left.p)) (never_null c.args.schema.now (plan_seen c.in-Left.q)) c.args.column)
+    placed_left c.args.schema.now c.args.plan.now c.in-Left.p c.in-Left.q c.deref-in-Left.result.now c.deref-in-Left-2.result.now c.in-Left.field-2 c.args.column c.or_placed.result
+    c.placed-told.result c.in-Left.is c.deref-in-Left.ensures c.deref-in-Left-2.ensures c.placed-told.ensures c.or_placed.ensures
