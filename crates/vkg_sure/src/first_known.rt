@@ -40,7 +40,6 @@ impl Rewrite for FirstKnown {
     }
 
     // What is below a condition stays in memory once.
-    #[tactic(auto, using(crate::proofs::InCondition::first_known_is))]
     fn apply_again(
         &self,
         alloc: Global,

@@ -31,7 +31,6 @@ pub fn shorter(
     }
 }
 
-#[tactic(auto, using(crate::proofs::Lists::head_alone))]
 fn first_alone(
     alloc: Global,
     own: &OwnColumns,

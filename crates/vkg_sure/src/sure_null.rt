@@ -39,7 +39,6 @@ impl Rewrite for SureNull {
     }
 
     // What is below a condition stays in memory once.
-    #[tactic(auto, using(crate::proofs::InCondition::sure_is))]
     fn apply_again(
         &self,
         alloc: Global,
