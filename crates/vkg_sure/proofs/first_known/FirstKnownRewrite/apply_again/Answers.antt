@@ -20,7 +20,7 @@ returns-then-has_condition-clause-value c =
     (λ x. AreAs (plan_seen x.plan, x.fell) (outcome p (conditioned fell.Size p changed)))
     (λ x. AreAs (plan_seen x.plan, x.fell) (outcome p (first_known s p)))
     (λ x h. h ∙ ap (outcome p) (
-      first_known_again s c.args.plan c.deref.result.now c.deref-then-has_condition.result.now c.in_ok-c.c c.has_condition.result c.deref.ensures c.deref-then-has_condition.ensures c.has_condition.ensures
-      c.if-has_condition.true c.in_ok-c.ensures
+    first_known_again s c.args.plan c.deref.result.now c.deref-then-has_condition.result.now c.in_ok-c.c c.has_condition.result c.deref.ensures c.deref-then-has_condition.ensures c.has_condition.ensures
+    c.if-has_condition.true c.in_ok-c.ensures
     ))
     c.conditioned.ensures.value
