@@ -84,6 +84,9 @@ met pass rs l q c t = elim (cases_Bool (is_alone pass rs l)) [
   | inr f ↦ f
 ]
 
+its-reference : (s : Tables) (n : ℕ) (t : Table) (r : Reference) → slice_get s n ≡ Some t → Contains (references_of s n) r → Contains t.references r
+its-reference s n t r is c = subst (λ rs. Contains rs r) (ap (λ o. option_map_or (λ (x : Table). x.references) o []) is) c
+
 module _ (s : Tables) (form : IsWellFormed s) (p : Plan) (table : ℕ) (c : Expr) where
   -- the Scan and its foreign key
   record IsByReference : Type 0 where
@@ -112,7 +115,7 @@ module _ (s : Tables) (form : IsWellFormed s) (p : Plan) (table : ℕ) (c : Expr
         child = t.0;
         is_child = t.1;
         reference = g.1;
-        of_child = subst (λ rs. Contains rs g.1) (ap (λ o. option_map_or (λ (x : Table). x.references) o []) t.1) (get_member (references_of s f.1.table) g.0 g.1 l.at);
+        of_child = its-reference s f.1.table t.0 g.1 t.1 (get_member (references_of s f.1.table) g.0 g.1 l.at);
         to = eqb-true g.1.table table a.0;
         full = t.2;
         all = b.1;
