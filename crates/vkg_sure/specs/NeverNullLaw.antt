@@ -1,7 +1,7 @@
 -- Over a database that meets the schema no such column is NULL in any row of the plan.
 use Rattle.std.proofs.Common.{◌≡◌, ◌∙◌, ◌+◌, ℕ, zero, suc, arith, Bool, true, false, cond, inl, inr, List, [], ◌∷◌, ◌++◌, length, length-append, map, refl, sym, ap, subst}
 use Rattle.std.specs.Prelude.{Option, Some, None, fold, option_map, replicate, slice_get}
-use Rattle.std.specs.List.{AllByRecursion, Contains, filter, flat_map, list_all}
+use Rattle.std.specs.List.{Contains, filter, flat_map, list_all}
 use Rattle.std.specs.Option.{option_map_or}
 use Rattle.std.proofs.lemmas.List.{length-map, length-replicate, length-set}
 use Rattle.std.proofs.lemmas.List.Elements.{Contains-append_cases}
