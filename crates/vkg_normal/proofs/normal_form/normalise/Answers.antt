@@ -16,4 +16,5 @@ returns-clause-keeps c =
 
 pub returns-clause-typed : goal.returns-clause-typed
 returns-clause-typed c =
-    keeps_typed c.args.schema.now (plan_seen c.in_ok-between.between) (plan_seen c.in_ok-end.end) (normalise-requires-2 c) c.in_ok-end.ensures.keeps
+    let typed = keeps_typed c.args.schema.now (plan_seen c.args.plan) (plan_seen c.in_ok-between.between) c.requires c.in_ok-between.ensures.keeps in
+    keeps_typed c.args.schema.now (plan_seen c.in_ok-between.between) (plan_seen c.in_ok-end.end) typed c.in_ok-end.ensures.keeps
