@@ -9,17 +9,18 @@ use Rattle.vkg_plan.specs.Plan.{Plan, Select, Join, Left, Nil, More}
 use Rattle.vkg_rules.specs.declared.rewrite.Fell.TheVariants as fell
 use Rattle.vkg_rules.specs.Steps.{Rule, Step}
 use Rattle.vkg_moves.specs.Columns.{is_null_behind}
+use Rattle.vkg_moves.specs.Unknown.{is_unknown_behind}
 
 -- SQL-92, 8.6, a test for NULL that is true where the cells behind the first n are NULL
 abbrev pub finds_null : ℕ → Expr → Bool
 finds_null n (IsNull e) = is_null_behind n e
 finds_null n e = false
 
--- a condition that is not true there: something is not NULL, or is equal to something (8.2)
+-- a condition that is not true there: something is not NULL, or is equal to something (8.2), or it is unknown
 abbrev pub fails_on_nulls : ℕ → Expr → Bool
-fails_on_nulls n (Not e) = finds_null n e
+fails_on_nulls n (Not e) = finds_null n e || is_unknown_behind n e
 fails_on_nulls n (Same a b) = is_null_behind n a || is_null_behind n b
-fails_on_nulls n c = false
+fails_on_nulls n c = is_unknown_behind n c
 
 -- SQL-92, 7.5: a left join without the rows that are with NULLs is the join
 abbrev pub over_left : Tables → Expr → Plan → Option Step

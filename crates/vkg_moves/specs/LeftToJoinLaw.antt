@@ -37,6 +37,8 @@ use Rattle.vkg_moves.specs.Conditions.{checked-given}
 use Rattle.vkg_moves.specs.LeftRows.{padded}
 use Rattle.vkg_moves.specs.LeftToJoin.{fails_on_nulls, finds_null, left_to_join, over_left}
 use Rattle.vkg_moves.specs.SelectLaw.{kinds-wide}
+use Rattle.vkg_moves.specs.Unknown.{is_unknown_behind}
+use Rattle.vkg_moves.specs.UnknownLaw.{unknown-fails}
 
 -- ---- conjuncts on a row whose cells behind the first n are NULL
 
@@ -58,14 +60,14 @@ module _ (n : ℕ) (row : Row) (nulls : AreNullBehind n row) where
   not-found _ h = cc
 
   fails : (c : Expr) → fails_on_nulls n c ≡ true → holds c row ≡ false
-  fails (Not e) h = not-found e h
+  fails (Not e) h = elim (or_cases (finds_null n e) (is_unknown_behind n e) h) [ inl i ↦ not-found e i | inr i ↦ unknown-fails n row nulls (Not e) i ]
   fails (Same a b) h = elim (or_cases (is_null_behind n a) (is_null_behind n b) h) [
     | inl i ↦ ap (λ v. is_known_true (truth_of (truth_cell (same v (value_of b row))))) (null-behind n row nulls a i)
     | inr i ↦
         ap (λ v. is_known_true (truth_of (truth_cell (same (value_of a row) v)))) (null-behind n row nulls b i)
         ∙ ap (λ o. is_known_true (truth_of (truth_cell o))) (same-null (value_of a row))
   ]
-  fails _ h = cc
+  fails c h = unknown-fails n row nulls c h
 
   one-fails : (cs : List Expr) → list_any (fails_on_nulls n) cs ≡ true → list_all (λ c. holds c row) cs ≡ false
   one-fails [] h = cc

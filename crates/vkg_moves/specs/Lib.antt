@@ -12,3 +12,5 @@ pub mod MergeProjectsLaw
 pub mod LeftToJoin
 pub mod LeftToJoinLaw
 pub mod PartsSeen
+pub mod Unknown
+pub mod UnknownLaw

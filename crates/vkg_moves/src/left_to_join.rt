@@ -13,6 +13,7 @@ ghost use Rattle.vkg_moves.specs.LeftToJoinLaw.{left_to_join-keeps, left_to_join
 
 use crate::columns::is_null_behind;
 use crate::kinds::width;
+use crate::unknown::is_unknown_behind;
 use std::alloc::Global;
 use vkg_base::{Box, Items, Memory};
 use vkg_expr::Expr;
@@ -120,14 +121,14 @@ fn any_fails(list: &[Expr], n: usize) -> bool
     false
 }
 
-/// Whether the condition says that something that is NULL there is not NULL, or is equal to something.
+/// Whether the condition says that something that is NULL there is not NULL, or is equal to something, or is NULL there itself.
 fn fails_on_nulls(c: &Expr, n: usize) -> bool
     ensures { result ≡ fails_behind n (expr_seen c.now) }
 {
     match c {
-        Expr::Not(e) => finds_null(e, n),
+        Expr::Not(e) => finds_null(e, n) || is_unknown_behind(e, n),
         Expr::Same(a, b) => is_null_behind(a, n) || is_null_behind(b, n),
-        _ => false,
+        _ => is_unknown_behind(c, n),
     }
 }
 

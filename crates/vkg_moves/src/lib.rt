@@ -9,7 +9,7 @@
 //! - `MergeSelects`: a condition over a selection or a join is one with its condition, one of a member stands in the join's, one on
 //!   the right of a left join in the left join's; one on the left columns of a left join selects left rows.
 //! - `MergeProjects`: a projection of a projection is one, and one of all columns in place is what it projects.
-//! - `LeftToJoin`: a left join is the join where a condition over it fails on NULLs for the right row.
+//! - `LeftToJoin`: a left join is the join where a condition over it fails on NULLs for the right row, as an operator of SPARQL's over one of its columns does.
 //!
 //! Stands on vkg_rules for rules and their laws, on vkg_columns for moved columns, expressions put in and joined conditions, and on
 //! vkg_joins for products of which a part was kept by a test.
@@ -23,6 +23,7 @@ mod merge_projects;
 mod merge_selects;
 mod taken_apart;
 mod under_both;
+mod unknown;
 
 pub use left_to_join::LeftToJoin;
 pub use merge_projects::MergeProjects;

@@ -1,4 +1,4 @@
--- Nodes over a left join to which no rule applies: none applies with another left side of these columns, where they may rest.
+-- Nodes over a left join to which none of the first rules applies: none applies with another left side of these columns, where they may rest.
 use Rattle.std.proofs.Common.{◌≡◌, true, false, List, [], ◌++◌, length, Option, Some, None, refl, sym, ap, subst}
 use Rattle.std.specs.Prelude.{Bool, ◌&&◌, not, option_map, if◌then◌else◌}
 use Rattle.std.specs.Bool.{then_some}
@@ -38,7 +38,7 @@ use Rattle.vkg_shapes.specs.SelectTrue.{select_true}
 use Rattle.vkg_spreads.specs.DistributeUnion.{distribute_union}
 use Rattle.vkg_unions.specs.EqualMembers.{equal_members}
 use Rattle.vkg_unique.specs.UnusedLeft.{is_over_first, keys_of, ties_key, unused_left, without_right}
-use Rattle.vkg_normal.specs.NormalForm.{all_rules, conditions, distincts, flatten, key_joins, left_joins, moves, removals}
+use Rattle.vkg_normal.specs.NormalForm.{conditions, distincts, first_rules, flatten, key_joins, left_joins, moves, removals}
 use Rattle.vkg_normal.specs.Resting.{may_rest}
 use Rattle.vkg_normal.proofs.Flags.{left-flags}
 
@@ -54,8 +54,8 @@ pub record NoneOf (s : Tables) (p : Plan) : Type 0 where
   pub condition : simplify_condition s p ≡ None
   pub null : simplify_null s p ≡ None
 
-none_of : (s : Tables) (p : Plan) → all_rules s p ≡ None → NoneOf s p
-unfolding all_rules moves removals left_joins conditions
+none_of : (s : Tables) (p : Plan) → first_rules s p ≡ None → NoneOf s p
+unfolding first_rules moves removals left_joins conditions
 none_of s p e =
     let a = neither (select_true s p) _ e in
     let b = neither (false_condition s p) _ a.1 in
@@ -85,13 +85,13 @@ none_of s p e =
 
 -- ---- of a left join
 
-left-none : (s : Tables) (p q : Plan) (c : Expr) → NoneOf s (Left p q c) → term_equality s (Left p q c) ≡ None → distribute_union s (Left p q c) ≡ None → all_rules s (Left p q c) ≡ None
-unfolding all_rules moves flatten removals distincts key_joins left_joins conditions
+left-none : (s : Tables) (p q : Plan) (c : Expr) → NoneOf s (Left p q c) → term_equality s (Left p q c) ≡ None → distribute_union s (Left p q c) ≡ None → first_rules s (Left p q c) ≡ None
+unfolding first_rules moves flatten removals distincts key_joins left_joins conditions
 left-none s p q c n t u =
     λ i. option_or (n.never i) (option_or (option_or (n.selects i) (n.lifts i)) (option_or (n.empty i) (option_or (u i) (option_or (t i) (option_or (n.condition i) (n.null i))))))
 
-project-none : (s : Tables) (es : List Expr) (p : Plan) → NoneOf s (Project es p) → parent_join s (Project es p) ≡ None → distribute_union s (Project es p) ≡ None → all_rules s (Project es p) ≡ None
-unfolding all_rules moves flatten removals distincts key_joins left_joins conditions
+project-none : (s : Tables) (es : List Expr) (p : Plan) → NoneOf s (Project es p) → parent_join s (Project es p) ≡ None → distribute_union s (Project es p) ≡ None → first_rules s (Project es p) ≡ None
+unfolding first_rules moves flatten removals distincts key_joins left_joins conditions
 project-none s es p n j u =
     λ i. option_or (option_or (n.projects i) (n.lifts i)) (option_or (n.empty i) (option_or (u i) (option_or (option_or (j i) (n.unused i)) (option_or (n.condition i) (n.null i)))))
 
@@ -160,7 +160,7 @@ module _ (s : Tables) (x l y : Plan) (d : Expr) (same : plan_kinds s l ≡ plan_
         let strict = changed-left of_strict b.1 in
         λ i. option_or (known i) (option_or (constant i) (strict i))
 
-    left-rests : IsTyped s x → list_any asks_terms (conjuncts c) ≡ false → all_rules s (Left old q c) ≡ None → all_rules s (Left new q c) ≡ None
+    left-rests : IsTyped s x → list_any asks_terms (conjuncts c) ≡ false → first_rules s (Left old q c) ≡ None → first_rules s (Left new q c) ≡ None
     left-rests t h e =
         let n = none_of s (Left old q c) e in
         left-none s new q c
@@ -205,7 +205,7 @@ module _ (s : Tables) (x l y : Plan) (d : Expr) (same : plan_kinds s l ≡ plan_
         let strict = changed-project of_strict b.1 in
         λ i. option_or (known i) (option_or (constant i) (strict i))
 
-    project-rests : IsTyped s x → all_rules s (Project es old) ≡ None → all_rules s (Project es new) ≡ None
+    project-rests : IsTyped s x → first_rules s (Project es old) ≡ None → first_rules s (Project es new) ≡ None
     project-rests t e =
         let n = none_of s (Project es old) e in
         project-none s es new
@@ -222,19 +222,19 @@ module _ (s : Tables) (x l y : Plan) (d : Expr) (same : plan_kinds s l ≡ plan_
         refl
         refl
 
--- ---- the rules rest where they may
+-- ---- the first rules rest where they may
 
 is-not : (b : Bool) → not b ≡ true → b ≡ false
 is-not true e = cc
 is-not false e = refl
 
-pub all-rest : (s : Tables) (p : Plan) → IsTyped s p → all_rules s p ≡ None → may_rest p ≡ true → Rests s (all_rules s) p
-all-rest s (Left (Left x y d) q c) t e m =
+pub first-rest : (s : Tables) (p : Plan) → IsTyped s p → first_rules s p ≡ None → may_rest p ≡ true → Rests s (first_rules s) p
+first-rest s (Left (Left x y d) q c) t e m =
     let inner = (typed_left s x y d (typed_left s (Left x y d) q c t).0).0 in
     λ l k. left-rests s x l y d k q c inner (is-not (list_any asks_terms (conjuncts c)) m) e
-all-rest s (Left _ q c) t e m = cc
-all-rest s (Project es (Left x y d)) t e m =
+first-rest s (Left _ q c) t e m = cc
+first-rest s (Project es (Left x y d)) t e m =
     let inner = (typed_left s x y d (typed_project s es (Left x y d) t)).0 in
     λ l k. project-rests s x l y d k es inner e
-all-rest s (Project es _) t e m = cc
-all-rest s _ t e m = cc
+first-rest s (Project es _) t e m = cc
+first-rest s _ t e m = cc

@@ -3,7 +3,7 @@ use Rattle.vkg_plan.specs.Kinds.{Tables}
 use Rattle.vkg_plan.specs.Plan.{Plan}
 use Rattle.vkg_rules.specs.Either.{either, either-falls, either-keeps}
 use Rattle.vkg_rules.specs.Steps.{FallsAll, KeepsAll, Rule}
-use Rattle.vkg_chains.specs.Ends.{Settled, end_of}
+use Rattle.vkg_chains.specs.Ends.{IsEndOf, Settled, end_of}
 use Rattle.vkg_conditions.specs.SimplifyCondition.{simplify_condition}
 use Rattle.vkg_conditions.specs.SimplifyConditionLaw.{simplify_condition-falls, simplify_condition-keeps}
 use Rattle.vkg_equalities.specs.TermEquality.{term_equality}
@@ -14,6 +14,10 @@ use Rattle.vkg_key_joins.specs.ParentJoin.{parent_join}
 use Rattle.vkg_key_joins.specs.ParentJoinLaw.{parent_join-falls, parent_join-keeps}
 use Rattle.vkg_key_joins.specs.SelfJoin.{self_join}
 use Rattle.vkg_key_joins.specs.SelfJoinLaw.{self_join-falls, self_join-keeps}
+use Rattle.vkg_key_lefts.specs.ReferenceLeft.{reference_left}
+use Rattle.vkg_key_lefts.specs.ReferenceLeftLaw.{reference_left-falls, reference_left-keeps}
+use Rattle.vkg_key_lefts.specs.SelfLeft.{self_left}
+use Rattle.vkg_key_lefts.specs.SelfLeftLaw.{self_left-falls, self_left-keeps}
 use Rattle.vkg_lifts.specs.LiftProjects.{lift_projects}
 use Rattle.vkg_lifts.specs.LiftProjectsLaw.{lift_projects-falls, lift_projects-keeps}
 use Rattle.vkg_moves.specs.LeftToJoin.{left_to_join}
@@ -36,6 +40,10 @@ use Rattle.vkg_shapes.specs.SelectTrue.{select_true}
 use Rattle.vkg_shapes.specs.SelectTrueLaw.{select_true-falls, select_true-keeps}
 use Rattle.vkg_spreads.specs.DistributeUnion.{distribute_union}
 use Rattle.vkg_spreads.specs.DistributeUnionLaw.{distribute_union-falls, distribute_union-keeps}
+use Rattle.vkg_sure.specs.FirstKnown.{first_known}
+use Rattle.vkg_sure.specs.FirstKnownLaw.{first_known-falls, first_known-keeps}
+use Rattle.vkg_sure.specs.SureNull.{sure_null}
+use Rattle.vkg_sure.specs.SureNullLaw.{sure_null-falls, sure_null-keeps}
 use Rattle.vkg_unions.specs.DistinctDistinct.{distinct_distinct}
 use Rattle.vkg_unions.specs.DistinctDistinctLaw.{distinct_distinct-falls, distinct_distinct-keeps}
 use Rattle.vkg_unions.specs.EqualMembers.{equal_members}
@@ -73,9 +81,9 @@ removals = either distincts (either key_joins left_joins)
 unfoldable pub conditions : Rule
 conditions = either term_equality (either simplify_condition simplify_null)
 
--- the rules in the order in which they are asked: the first that applies to a plan is taken
-unfoldable pub all_rules : Rule
-all_rules =
+-- the rules that are taken to their end first, in the order in which they are asked: the first that applies to a plan is taken
+unfoldable pub first_rules : Rule
+first_rules =
     either select_true
     (either false_condition
     (either moves
@@ -85,9 +93,24 @@ all_rules =
     (either removals
     conditions))))))
 
--- the plan after the rules' last step: each is taken at the first subplan in preorder that a rule changes, by the first such rule
+-- rules of our own: on what is never NULL, and on left joins over keys
+unfoldable pub own_rules : Rule
+own_rules = either sure_null (either first_known (either self_left reference_left))
+
+-- all rules in the order in which they are asked, our own behind the others
+unfoldable pub all_rules : Rule
+all_rules = either first_rules own_rules
+
+-- the plan after the rules' last step: each is taken at the first subplan in preorder that a rule changes, by the first such rule. Our own
+-- rules are asked once none of the others applies anywhere
 unfoldable pub normal_form : Tables → Plan → Plan
-normal_form schema p = end_of all_rules schema p
+normal_form schema p = end_of all_rules schema (end_of first_rules schema p)
+
+-- the first rules lead from p to their end, and all rules from there to q
+pub record IsNormalFormOf (schema : Tables) (p q : Plan) : Type 0 where
+  pub between : Plan
+  pub of_first : IsEndOf first_rules schema p between
+  pub of_all : IsEndOf all_rules schema between q
 
 -- no rule applies at any subplan
 abbrev pub IsNormal : Tables → Plan → Type 0
@@ -167,9 +190,9 @@ conditions-fall =
     either-falls term_equality _ term_equality-falls
     (either-falls simplify_condition simplify_null simplify_condition-falls simplify_null-falls)
 
-pub rules-keep : KeepsAll all_rules
-unfolding all_rules
-rules-keep =
+pub first_rules-keep : KeepsAll first_rules
+unfolding first_rules
+first_rules-keep =
     either-keeps select_true _ select_true-keeps
     (either-keeps false_condition _ false_condition-keeps
     (either-keeps moves _ moves-keep
@@ -178,9 +201,9 @@ rules-keep =
     (either-keeps distribute_union _ distribute_union-keeps
     (either-keeps removals conditions removals-keep conditions-keep))))))
 
-pub rules-fall : FallsAll all_rules
-unfolding all_rules
-rules-fall =
+pub first_rules-fall : FallsAll first_rules
+unfolding first_rules
+first_rules-fall =
     either-falls select_true _ select_true-falls
     (either-falls false_condition _ false_condition-falls
     (either-falls moves _ moves-fall
@@ -188,3 +211,25 @@ rules-fall =
     (either-falls flatten _ flatten-falls
     (either-falls distribute_union _ distribute_union-falls
     (either-falls removals conditions removals-fall conditions-fall))))))
+
+own_rules-keep : KeepsAll own_rules
+unfolding own_rules
+own_rules-keep =
+    either-keeps sure_null _ sure_null-keeps
+    (either-keeps first_known _ first_known-keeps
+    (either-keeps self_left reference_left self_left-keeps reference_left-keeps))
+
+own_rules-fall : FallsAll own_rules
+unfolding own_rules
+own_rules-fall =
+    either-falls sure_null _ sure_null-falls
+    (either-falls first_known _ first_known-falls
+    (either-falls self_left reference_left self_left-falls reference_left-falls))
+
+pub rules-keep : KeepsAll all_rules
+unfolding all_rules
+rules-keep = either-keeps first_rules own_rules first_rules-keep own_rules-keep
+
+pub rules-fall : FallsAll all_rules
+unfolding all_rules
+rules-fall = either-falls first_rules own_rules first_rules-fall own_rules-fall

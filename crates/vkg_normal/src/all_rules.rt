@@ -1,19 +1,16 @@
 // The rules as one.
-ghost use Rattle.std.specs.Prelude.{◌≡◌};
-ghost use Rattle.vkg_plan.specs.Seen.{plan_seen};
 ghost use Rattle.vkg_normal.specs.NormalForm.{all_rules, rules-fall, rules-keep};
-ghost use Rattle.vkg_normal.specs.Resting.{is_left as a_left, may_rest as resting};
 
 use crate::order::rules;
 use std::alloc::Global;
 use vkg_base::{Box, Memory};
-use vkg_equalities::may_decide;
 use vkg_plan::Plan;
 use vkg_rules::{Answer, Fell, Rewrite};
 use vkg_schema::Schema;
 use vkg_steps::Resting;
 
-/// The rules in their order: the first that applies to a plan is taken.
+/// All rules in their order, our own behind the others: the first that applies to a plan is taken. What is never NULL may come to be known by a
+/// step anywhere below, so they rest nowhere.
 #[derive(Drop)]
 pub struct AllRules;
 
@@ -47,26 +44,7 @@ impl Rewrite for AllRules {
 }
 
 impl Resting for AllRules {
-    fn rests(&self, _: &Schema, plan: &Plan) -> bool {
-        may_rest(plan)
+    fn rests(&self, _: &Schema, _: &Plan) -> bool {
+        false
     }
-}
-
-/// Whether the plan is a node over a left join, of which its first levels tell that no rule comes to apply to it by steps on the left of that.
-#[tactic(auto, using(vkg_rules::proofs::Seen::seen_nodes))]
-fn may_rest(plan: &Plan) -> bool
-    ensures { result ≡ resting (plan_seen plan.now) }
-{
-    match plan {
-        Plan::Left(p, _, c) => is_left(p) && !may_decide(c),
-        Plan::Project(_, p) => is_left(p),
-        _ => false,
-    }
-}
-
-#[tactic(auto, using(vkg_rules::proofs::Seen::seen_nodes))]
-fn is_left(p: &Plan) -> bool
-    ensures { result ≡ a_left (plan_seen p.now) }
-{
-    matches!(p, Plan::Left(_, _, _))
 }

@@ -1,22 +1,27 @@
 // The rules, in the order in which they are asked.
 ghost use Rattle.std.specs.Prelude.{◌≡◌};
-ghost use Rattle.vkg_normal.specs.NormalForm.{all_rules, conditions as all_conditions, distincts as all_distincts, flatten as all_flattening, key_joins as all_key_joins, left_joins as all_left_joins, moves as all_moves, removals as all_removals};
+ghost use Rattle.vkg_normal.specs.NormalForm.{all_rules, conditions as all_conditions, distincts as all_distincts, first_rules as all_first_rules, flatten as all_flattening, key_joins as all_key_joins, left_joins as all_left_joins, moves as all_moves, own_rules as all_own_rules, removals as all_removals};
 
 use vkg_conditions::SimplifyCondition;
 use vkg_equalities::TermEquality;
 use vkg_joins::JoinInJoin;
 use vkg_key_joins::{ParentJoin, SelfJoin};
+use vkg_key_lefts::{ReferenceLeft, SelfLeft};
 use vkg_lifts::LiftProjects;
 use vkg_moves::{LeftToJoin, MergeProjects, MergeSelects};
 use vkg_nulls::SimplifyNull;
 use vkg_rules::{Either, Rewrite};
 use vkg_shapes::{FalseCondition, FewMembers, FlatUnion, PropagateEmpty, SelectTrue};
 use vkg_spreads::DistributeUnion;
+use vkg_sure::{FirstKnown, SureNull};
 use vkg_unions::{DistinctDistinct, EqualMembers};
 use vkg_unique::{DistinctUnique, UnusedLeft};
 
-/// The rules, one behind the other: the first that applies to a plan is taken.
-pub type Rules = Either<SelectTrue, Either<FalseCondition, Either<Moves, AfterMoves>>>;
+/// The rules, one behind the other, our own last: the first that applies to a plan is taken.
+pub type Rules = Either<First, OwnRules>;
+
+/// The rules that are taken to their end first.
+pub type First = Either<SelectTrue, Either<FalseCondition, Either<Moves, AfterMoves>>>;
 
 /// The rules on selections and projections.
 pub type Moves = Either<MergeSelects, Either<MergeProjects, LiftProjects>>;
@@ -45,10 +50,23 @@ pub type LeftJoins = Either<LeftToJoin, Either<EqualMembers, UnusedLeft>>;
 /// The rules on conditions: equalities of terms, what is decided, and tests for NULL.
 pub type Conditions = Either<TermEquality, Either<SimplifyCondition, SimplifyNull>>;
 
+/// Rules of our own: on what is never NULL, and on left joins over keys.
+pub type OwnRules = Either<SureNull, Either<FirstKnown, Either<SelfLeft, ReferenceLeft>>>;
+
 /// The rules in their order.
 #[tactic(auto, unfolding(crate::specs::NormalForm::all_rules))]
 pub fn rules() -> Rules
     ensures { ⟦<Rules as Rewrite>⟧.becomes result ≡ all_rules }
+{
+    let first = first_rules();
+    let own = own_rules();
+    or_else(first, own)
+}
+
+/// Those that are taken to their end first.
+#[tactic(auto, unfolding(crate::specs::NormalForm::first_rules))]
+pub fn first_rules() -> First
+    ensures { ⟦<First as Rewrite>⟧.becomes result ≡ all_first_rules }
 {
     let moves = moves();
     let flatten = flatten();
@@ -118,6 +136,15 @@ fn conditions() -> Conditions
 {
     let simpler = or_else(SimplifyCondition, SimplifyNull);
     or_else(TermEquality, simpler)
+}
+
+#[tactic(auto, unfolding(crate::specs::NormalForm::own_rules))]
+fn own_rules() -> OwnRules
+    ensures { ⟦<OwnRules as Rewrite>⟧.becomes result ≡ all_own_rules }
+{
+    let lefts = or_else(SelfLeft, ReferenceLeft);
+    let known = or_else(FirstKnown, lefts);
+    or_else(SureNull, known)
 }
 
 fn or_else<A, B>(first: A, second: B) -> Either<A, B>

@@ -16,9 +16,8 @@ use Rattle.vkg_unfolded.specs.FittingRules.{FitJoins, FitsJoin, IsFitting}
 use Rattle.vkg_unfolded.proofs.AlgebraColumns.{start_plan_kinds}
 use Rattle.vkg_fine_rules.proofs.FittingRules.{has_fitting_rules}
 use Rattle.vkg_rules.specs.Steps.{Keeps}
-use Rattle.vkg_chains.specs.Ends.{IsEndOf}
 use Rattle.vkg_chains.specs.FixLaw.{typed-kept}
-use Rattle.vkg_normal.specs.NormalForm.{IsNormal, all_rules}
+use Rattle.vkg_normal.specs.NormalForm.{IsNormal, IsNormalFormOf}
 use Rattle.vkg_normal.proofs.Normal.{normal-end, normal-keeps, normal-settled}
 use Rattle.vkg_rewrite.specs.Rewritten.{rewritten}
 
@@ -33,7 +32,7 @@ module _ (schema : Tables) (mapping : Mapping) (query : Query) (well : IsWellFor
   unfolding rewritten
   kept = normal-keeps schema well start start_typed
 
-  pub is_end : IsEndOf all_rules schema start (rewritten schema mapping query)
+  pub is_end : IsNormalFormOf schema start (rewritten schema mapping query)
   unfolding rewritten
   is_end = normal-end schema well start start_typed
 
@@ -55,7 +54,7 @@ module _ (schema : Tables) (mapping : Mapping) (query : Query) (well : IsWellFor
   pub typed_as : (plan : Plan) → plan ≡ rewritten schema mapping query → IsTrue (is_well_typed schema plan)
   typed_as plan e = rw e typed
 
-  pub end_as : (plan : Plan) → plan ≡ rewritten schema mapping query → IsEndOf all_rules schema start plan
+  pub end_as : (plan : Plan) → plan ≡ rewritten schema mapping query → IsNormalFormOf schema start plan
   end_as plan e = rw e is_end
 
   pub settled_as : (plan : Plan) → plan ≡ rewritten schema mapping query → IsNormal schema plan

@@ -8,8 +8,7 @@ ghost use Rattle.vkg_maps.specs.Within.{IsWithin};
 ghost use Rattle.vkg_unfolded.specs.FittingRules.{FitJoins};
 ghost use Rattle.vkg_unfolded.specs.Unfolded.{start_plan as plan_of_query};
 ghost use Rattle.vkg_rules.specs.Steps.{IsTyped};
-ghost use Rattle.vkg_chains.specs.Ends.{IsEndOf};
-ghost use Rattle.vkg_normal.specs.NormalForm.{IsNormal, all_rules, normal_form};
+ghost use Rattle.vkg_normal.specs.NormalForm.{IsNormal, IsNormalFormOf, normal_form};
 ghost use Rattle.vkg_rewrite.specs.Rewritten.{HasSolutions, rewritten};
 
 use std::alloc::Global;
@@ -36,7 +35,7 @@ pub fn rewrite(
     requires { IsWithin schema.now mapping.now }
     ensures plan { IfOk result (λ p. plan_seen p ≡ rewritten schema.now mapping.now (query_seen query.now)) }
     ensures typed { IfOk result (λ p. IsTrue (is_well_typed schema.now (plan_seen p))) }
-    ensures end { IfOk result (λ p. IsEndOf all_rules schema.now (plan_of_query schema.now (rules_over_rows schema.now mapping.now) (query_seen query.now)) (plan_seen p)) }
+    ensures end { IfOk result (λ p. IsNormalFormOf schema.now (plan_of_query schema.now (rules_over_rows schema.now mapping.now) (query_seen query.now)) (plan_seen p)) }
     ensures settled { IfOk result (λ p. IsNormal schema.now (plan_seen p)) }
     ensures solutions { IfOk result (λ p. HasSolutions schema.now mapping.now (query_seen query.now) (plan_seen p)) }
 {

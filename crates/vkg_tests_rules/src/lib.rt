@@ -5,8 +5,8 @@
 //! the libraries since a crate with tests is proved twice, with them and without.
 //!
 //! - `vkg_shapes`, and the rules of rules of `vkg_rules`: plans and what each rule makes of them, as texts.
-//! - `vkg_conditions`, `vkg_nulls`, `vkg_unions`, `vkg_equalities`, `vkg_moves`, `vkg_lifts`, `vkg_spreads`, `vkg_key_joins` and `vkg_unique`:
-//!   the same of their rules.
+//! - `vkg_conditions`, `vkg_nulls`, `vkg_unions`, `vkg_equalities`, `vkg_moves`, `vkg_lifts`, `vkg_spreads`, `vkg_key_joins`, `vkg_unique`,
+//!   `vkg_sure` and `vkg_key_lefts`: the same of their rules.
 #![tactic(auto)]
 
 #[cfg(test)]
@@ -18,6 +18,10 @@ mod of_equalities;
 #[cfg(test)]
 mod of_key_joins;
 #[cfg(test)]
+mod of_key_lefts;
+#[cfg(test)]
+mod of_known;
+#[cfg(test)]
 mod of_lifts;
 #[cfg(test)]
 mod of_moves;
@@ -27,6 +31,8 @@ mod of_nulls;
 mod of_shapes;
 #[cfg(test)]
 mod of_spreads;
+#[cfg(test)]
+mod of_sure;
 #[cfg(test)]
 mod of_unions;
 #[cfg(test)]

@@ -4,11 +4,12 @@
 use std::alloc::Global;
 use vkg_base::{Box, Items, Memory, Text};
 use vkg_cells::{Cell, SqlType};
-use vkg_expr::{Expr, Shared};
+use vkg_expr::{Expr, Operator, Shared};
 use vkg_plan::{CheckedPlan, Plan, well_typed};
 use vkg_rules::Rewrite;
 use vkg_schema::Schema;
 use vkg_sqltext::sql_text;
+use vkg_values::Test;
 
 pub type MadeExpr = Result<Box<Expr>, Memory>;
 
@@ -82,6 +83,20 @@ pub fn and(alloc: Global, a: MadeExpr, b: MadeExpr) -> MadeExpr {
 pub fn or(alloc: Global, a: MadeExpr, b: MadeExpr) -> MadeExpr {
     let es = both(alloc, a, b)?;
     Box::new(alloc, Expr::Or(es))
+}
+
+// The first of two values that is not NULL.
+pub fn coalesce(alloc: Global, a: MadeExpr, b: MadeExpr) -> MadeExpr {
+    let es = both(alloc, a, b)?;
+    Box::new(alloc, Expr::Coalesce(es))
+}
+
+// Whether the IRI of a number is an IRI.
+pub fn is_iri(alloc: Global, at: usize) -> MadeExpr {
+    let e = numbered(alloc, "http://e/", at)?;
+    let mut es = Items::new(alloc);
+    es.push(e.into_inner())?;
+    Box::new(alloc, Expr::Sparql(Operator::Test(Test::IsIri), es))
 }
 
 pub fn table(alloc: Global, place: usize) -> Made {

@@ -1,5 +1,6 @@
 use crate::made::{
-    Made, MadeExpr, by, column, join, left, not, project, same, scan, select, turned, unknown,
+    Made, MadeExpr, by, column, is_iri, join, left, not, project, same, scan, select, turned,
+    unknown,
 };
 use std::alloc::Global;
 use std::test::Fail;
@@ -28,6 +29,9 @@ fn of_left_join(alloc: Global, plan: &str) -> Made {
         "right columns" => select(alloc, unknown(alloc, 2), beside(alloc)),
         "known left columns" => select(alloc, not(alloc, unknown(alloc, 1)), beside(alloc)),
         "known right columns" => select(alloc, not(alloc, unknown(alloc, 2)), beside(alloc)),
+        "an operator over right columns" => select(alloc, is_iri(alloc, 3), beside(alloc)),
+        "one that is negated" => select(alloc, not(alloc, is_iri(alloc, 3)), beside(alloc)),
+        "an operator over left columns" => select(alloc, is_iri(alloc, 1), beside(alloc)),
         _ => select(alloc, equal(alloc, 3, 1), beside(alloc)),
     }
 }
@@ -64,7 +68,7 @@ fn outcome(alloc: Global, schema: &Schema, rule: &str, plan: &Plan) -> Result<St
 }
 
 // Rules, plans, and the texts of what the rules make of them.
-const OUTCOMES: [(&str, &str, &str); 14] = [
+const OUTCOMES: [(&str, &str, &str); 17] = [
     (
         "MergeSelects",
         "selection of a selection",
@@ -111,6 +115,17 @@ const OUTCOMES: [(&str, &str, &str); 14] = [
         "SELECT * FROM (SELECT * FROM (TABLE \"t\") AS t1 CROSS JOIN (TABLE \"t\") AS t2 WHERE SAME(c1, c3)) AS t WHERE SAME(c4, c2)",
     ),
     ("LeftToJoin", "known left columns", "none"),
+    (
+        "LeftToJoin",
+        "an operator over right columns",
+        "SELECT * FROM (SELECT * FROM (TABLE \"t\") AS t1 CROSS JOIN (TABLE \"t\") AS t2 WHERE SAME(c1, c3)) AS t WHERE IS_IRI(IRI(CONCAT('http://e/', SAFE(LEX(c4)))))",
+    ),
+    (
+        "LeftToJoin",
+        "one that is negated",
+        "SELECT * FROM (SELECT * FROM (TABLE \"t\") AS t1 CROSS JOIN (TABLE \"t\") AS t2 WHERE SAME(c1, c3)) AS t WHERE NOT(IS_IRI(IRI(CONCAT('http://e/', SAFE(LEX(c4))))))",
+    ),
+    ("LeftToJoin", "an operator over left columns", "none"),
 ];
 
 #[test]

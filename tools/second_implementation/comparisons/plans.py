@@ -4,7 +4,7 @@ from random_inputs.cases import random_case
 from random_inputs.chance import Chance
 from random_inputs.near_default import add_near_default
 from reference.calls import Command, Ending, expected
-from reference.rules import RULES
+from reference.rules import OWN
 
 
 # A query for the quads of all named graphs, the first one over mappings with names of graphs near rr:defaultGraph.
@@ -28,7 +28,7 @@ def compare_plan(comparison, case, folder):
     """One query: the plan's text, which is the end of the rewrite rules or the start plan, and its rows."""
     words = case.words("sql")
     ours, command = comparison.call(words, folder), Command(words, folder)
-    start, end = command.plan([]), command.plan(RULES)
+    start, end = command.plan(), command.plan(OWN)
     comparison.check("text of the plan", words, folder, ours, Ending(0, start if comparison.options.start else end))
     comparison.count("plans that rules change" if start != end else "plans that no rule changes")
     compare_rows(comparison, case, folder, ours, expected(case.words("query"), folder))

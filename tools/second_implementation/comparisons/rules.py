@@ -14,15 +14,15 @@ from random_inputs.tables import random_tables
 from reference.calls import Command, Ending, expected, lines_text
 from reference.plan_nodes import kinds_of, plan_text, subplans
 from reference.plans import PlanRunner
-from reference.rules import LATER, RULES, end_of
+from reference.rules import FIRST, LATER, OWN, normal_form
 
-# Those that the program has, and those that it is to have.
-ALL = RULES + LATER
+# Those of our own that the program has, and those that it is to have.
+MORE = OWN + LATER
 
 
 def applications(plan, tables):
     """What rules make of a plan and of the plans in it: the rule's name, the plan and what it becomes."""
-    for rule in ALL:
+    for rule in FIRST + MORE:
         changed = rule(plan, tables)
         if changed is not None:
             yield rule.__name__, plan, changed
@@ -46,7 +46,7 @@ def compare(comparison, seed, folder):
         if most_rows(plan, tables) > comparison.options.limit:
             comparison.count("plans with too many rows")
             continue
-        for name, before, after in [*applications(plan, tables), ("end", plan, end_of(plan, tables, ALL))]:
+        for name, before, after in [*applications(plan, tables), ("end", plan, normal_form(plan, tables, MORE))]:
             texts = [plan_text(before, tables), plan_text(after, tables)]
             with open(os.path.join(folder, "plans.txt"), "w", encoding="utf-8") as out:
                 out.write(lines_text([*texts, repr(tables)]))
@@ -57,6 +57,6 @@ def compare_queries(comparison, seed, folder):
     """Some queries over one database: the rows of the end of the rules, and the answer."""
     case = random_case(seed)
     for _ in queries_of(comparison, case, seed, folder):
-        start, end = (Command(case.words("sql"), folder).plan(rules) for rules in ([], ALL))
+        start, end = (Command(case.words("sql"), folder).plan(own) for own in (None, MORE))
         comparison.count("plans that rules change" if start != end else "plans that no rule changes")
         compare_rows(comparison, case, folder, Ending(0, end), expected(case.words("query"), folder))

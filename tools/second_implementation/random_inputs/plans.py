@@ -38,7 +38,9 @@ class PlanMaker:
         return term_constant(self.chance.choice(TERMS)) if kind == "term" else Constant(kind, self.chance.choice(VALUES[kind]))
 
     def expression(self, kind, kinds):
-        """An expression of a kind over columns of these kinds."""
+        """An expression of a kind over columns of these kinds, at times the first that is known of some."""
+        if self.chance.happens(0.1):
+            return Call("COALESCE", tuple(self.expression(kind, kinds) for _ in range(self.chance.randint(1, 3))))
         columns = [Column(place) for place, one in enumerate(kinds) if one == kind]
         if columns and self.chance.happens(0.8):
             return self.chance.choice(columns)

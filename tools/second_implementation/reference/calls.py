@@ -12,7 +12,7 @@ from reference.query_syntax import read_query
 from reference.r2rml import output_dataset
 from reference.rdf import dataset_of, dump_lines
 from reference.refusal import Refused
-from reference.rules import end_of
+from reference.rules import normal_form
 from reference.schemas import read_schema
 from reference.table_files import check_keys, check_references, read_rows
 from reference.turtle import read_turtle
@@ -69,13 +69,15 @@ class Command:
             return direct_graph(tables, self.base)
         return output_dataset(self.maps(tables), tables, self.base)
 
-    def plan(self, rules):
-        """The line of the plan of the query by these rewrite rules."""
+    def plan(self, own=None):
+        """The line of the plan of the query: its normal form, with these rules of our own, or the start plan."""
         tables = self.tables()
         maps = self.maps(tables) if "--mapping" in self.options else direct_maps(tables, self.base)
         query = read_query(self.load("--query"), self.base)
         plan = start_plan(query, tables, quad_rules(maps, tables, self.base))
-        return lines_text([plan_text(end_of(plan, tables, rules), tables) + order_text(query)])
+        if own is not None:
+            plan = normal_form(plan, tables, own)
+        return lines_text([plan_text(plan, tables) + order_text(query)])
 
     def output(self):
         """The output; refused at the first fault."""

@@ -1,11 +1,12 @@
-"""The rules SimplifyCondition and SimplifyNull: what is constant, nested or said twice in a condition goes.
+"""The rules SimplifyCondition and SimplifyNull: what is constant, nested or said twice in a condition goes. And SureNull and FirstKnown:
+what a node's rows say of NULL decides tests for NULL and shortens a COALESCE.
 
 A case is a function that gives what an expression becomes, or None. Of a rule the first case that changes any of a node's own
 expressions does, at the first place in the order of the text.
 """
-from reference.plan_nodes import (FALSE, TRUE, Call, Column, Constant, Join, Left, Project, Scan, Select, call, columns_in, conjunction,
-                                  disjunction, first_changed, in_conjuncts, kinds_of, null, own_expressions, subplans,
-                                  with_expressions)
+from reference.plan_nodes import (FALSE, TRUE, Call, Column, Constant, Distinct, Empty, Join, Left, Project, Scan, Select, UnionAll, call,
+                                  columns_in, conjunction, conjuncts, disjunction, first_changed, in_conjuncts, kinds_of, null,
+                                  own_expressions, subplans, width, with_expressions)
 
 # The functions that make texts and terms: NULL exactly where a part is.
 MAKERS = ("IRI", "IRI_OF", "BLANK", "LIT", "LEX", "SAFE", "CONCAT")
@@ -177,3 +178,112 @@ def simplify_null(plan, tables):
         return None
     flags = sum((never_null(one, tables) for one in subplans(plan)), [])
     return by_cases([known_column(flags), of_constant, of_strict], plan)
+
+
+# ---- SureNull ----
+
+
+def with_told(flags, condition):
+    """Flags with those of the columns set of which a condition says that they are not NULL: columns of a strict side of an equality, which is
+    true of known values alone (SQL-92, 8.2), and of what is strict and tested not to be NULL."""
+    told = set()
+    for one in conjuncts(condition):
+        match one:
+            case Call("SAME", sides) | Call("NOT", (Call("IS_NULL", sides),)):
+                told.update(place for side in sides if is_strict(side) for place in columns_in(side))
+    return [flag or place in told for place, flag in enumerate(flags)]
+
+
+def is_known(expression, flags):
+    """Whether an expression is strict and over flagged columns alone, so that it is NULL in no row."""
+    return is_strict(expression) and all(flags[place] for place in columns_in(expression))
+
+
+def surely_known(plan, tables):
+    """Of each column of a plan whether it is NULL in none of its rows, as far as each of its nodes tells."""
+    match plan:
+        case Empty(kinds):
+            return [True for _ in kinds]
+        case Scan(table):
+            return [column.not_null for column in tables[table].columns]
+        case Select(condition, inner):
+            return with_told(surely_known(inner, tables), condition)
+        case Project(expressions, inner):
+            flags = surely_known(inner, tables)
+            return [is_known(one, flags) for one in expressions]
+        case Join(_, condition):
+            return with_told(below(plan, tables), condition)
+        case Left(left, right, _):
+            return surely_known(left, tables) + [False] * width([right], tables)
+        case UnionAll(members):
+            return [all(each) for each in zip(*(surely_known(one, tables) for one in members))]
+        case Distinct(inner):
+            return surely_known(inner, tables)
+    return []
+
+
+def below(plan, tables):
+    """So of each column over which a node's own expressions are."""
+    return sum((surely_known(one, tables) for one in subplans(plan)), [])
+
+
+def sure_null(plan, tables):
+    """SureNull: the test for NULL of a column that is NULL in no row is false."""
+    if not isinstance(plan, (Select, Project, Join, Left)):
+        return None
+    return by_cases([known_column(below(plan, tables))], plan)
+
+
+# ---- FirstKnown ----
+
+
+def fewer_members(members, flags):
+    """The members of a COALESCE without the first that is NULL itself or stands there before, or without all behind one that is never
+    NULL, whichever stands first; or None."""
+    for place, one in enumerate(members):
+        if one in members[:place] or isinstance(one, Constant) and one.value is None:
+            return without(members, place)
+        if place + 1 < len(members) and is_known(one, flags):
+            return members[: place + 1]
+    return None
+
+
+def first_value(expression, flags):
+    """An expression that is never NULL, or what the first member of a COALESCE is; or None."""
+    if isinstance(expression, Call) and expression.name == "COALESCE":
+        return first_value(expression.arguments[0], flags) if expression.arguments else None
+    return expression if is_known(expression, flags) else None
+
+
+def shorter(members, flags):
+    """The first value alone, where the first of several members has one, or else fewer members; or None."""
+    first = first_value(members[0], flags)
+    return fewer_members(members, flags) if first is None else (first,)
+
+
+def makes_term(expression):
+    """Whether an expression makes a term, of whatever: then each member beside it in a COALESCE is one."""
+    return expression.kind == "term" if isinstance(expression, Constant) else getattr(expression, "name", None) in ("IRI", "BLANK", "LIT")
+
+
+def first_known_member(flags):
+    """The case of a COALESCE with a member that is never its value (SQL-92, 6.9), or with one alone. A column stays in it where it is not said
+    to be a term, since a CONCAT has no columns as parts."""
+    def case(expression):
+        if not isinstance(expression, Call) or expression.name != "COALESCE":
+            return None
+        members = expression.arguments
+        found = shorter(members, flags) if len(members) > 1 else members
+        if found is None:
+            return None
+        if len(found) == 1 and (not isinstance(found[0], Column) or len(members) > 1 and any(map(makes_term, members))):
+            return found[0]
+        return None if found == members else Call("COALESCE", found)
+    return case
+
+
+def first_known(plan, tables):
+    """FirstKnown: the members of a COALESCE that are never its value go."""
+    if not isinstance(plan, (Select, Project, Join, Left)):
+        return None
+    return by_cases([first_known_member(below(plan, tables))], plan)

@@ -5,12 +5,16 @@ changes nothing at the root. A row is kept where a condition is true, not where 
 """
 import math
 
-from reference.conditions import is_strict, simplify_condition, simplify_null
+from reference.conditions import MAKERS, first_known, is_strict, simplify_condition, simplify_null, sure_null
 from reference.key_joins import parent_join, self_join
+from reference.key_lefts import reference_left, self_left, self_left_member
 from reference.plan_nodes import (FALSE, TRUE, Call, Column, Distinct, Empty, Join, Left, Project, Scan, Select, Unit, UnionAll, columns_in,
                                   conjunction, conjuncts, first_changed, kinds_of, moved, null, put_in, subplans, width, with_subplans)
 from reference.term_equalities import term_equality
 from reference.uniqueness import is_unique
+
+# What may be known over NULL: these are no operators that are an error over something unbound.
+KNOWN_OVER_NULL = ("SAME", "IS_NULL", "AND", "OR", "COALESCE")
 
 
 def empty(plan, tables):
@@ -213,15 +217,23 @@ def distinct_distinct(plan, tables):
     return None if inner is None else Distinct(inner)
 
 
+def is_unknown(expression, count):
+    """Whether an expression is NULL where the columns behind the first ones are: it is strict and names one, or an operator, an effective boolean
+    value or a negation of such a one, which is an error over something unbound (SPARQL 1.1 Query, 17.2)."""
+    if isinstance(expression, Call) and expression.name not in KNOWN_OVER_NULL and expression.name not in MAKERS:
+        return any(is_unknown(part, count) for part in expression.arguments)
+    return is_strict(expression) and names_behind(expression, count)
+
+
 def fails_on_nulls(condition, count):
-    """Whether a condition says that what is NULL if the columns behind the first ones are is not NULL, or is equal to something."""
+    """Whether a condition says that what is NULL if the columns behind the first ones are is not NULL, or is equal to something; or is NULL itself."""
     match condition:
         case Call("NOT", (Call("IS_NULL", (tested,)),)):
             asked = [tested]
         case Call("SAME", (one, other)):
             asked = [one, other]
         case _:
-            asked = []
+            return is_unknown(condition, count)
     return any(is_strict(one) and names_behind(one, count) for one in asked)
 
 
@@ -266,13 +278,16 @@ def unused_left(plan, tables):
     return Project(plan.expressions, left.left)
 
 
-# The program's rules: of two that change a plan the first one does.
-RULES = [select_true, false_condition, merge_selects, merge_projects, lift_projects, propagate_empty, flatten, distribute_union,
+# The program's rules: of two that change a plan the first one does. These are taken to their end first.
+FIRST = [select_true, false_condition, merge_selects, merge_projects, lift_projects, propagate_empty, flatten, distribute_union,
          distinct_unique, distinct_distinct, self_join, parent_join, left_to_join, equal_members, unused_left, term_equality,
          simplify_condition, simplify_null]
 
+# Rules of its own, behind these, once none of them changes anything.
+OWN = [sure_null, first_known, self_left, reference_left]
+
 # What the program does not have yet, in the order in which it is to follow.
-LATER = []
+LATER = [self_left_member]
 
 
 # ---- the end ----
@@ -295,3 +310,8 @@ def end_of(plan, tables, rules):
         if found is None:
             return plan
         plan = found
+
+
+def normal_form(plan, tables, own):
+    """The plan to which the rules lead: the first to their end, and from there all of them, with these of our own."""
+    return end_of(end_of(plan, tables, FIRST), tables, FIRST + own)

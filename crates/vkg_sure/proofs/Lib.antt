@@ -1,0 +1,5 @@
+pub mod Found
+pub mod InCondition
+pub mod Lists
+pub mod Nodes
+pub mod Places
