@@ -6,8 +6,8 @@ use Rattle.std.proofs.lemmas.Bool.{lt-ltb, le-ltb}
 use Rattle.std.proofs.lemmas.List.{append-nil, drop_all, drop_more}
 use Rattle.std.proofs.lemmas.List.Sums.{sum_by_push, sum_by-append}
 use Rattle.std.proofs.lemmas.Option.{same_Some}
-use Rattle.vkg_lists.specs.Results.{followed_by, in_front}
-use Rattle.vkg_lists.proofs.Results.{followed_first}
+use Rattle.vkg_lists.specs.Results.{followed_by, in_front, unless}
+use Rattle.vkg_lists.proofs.Results.{followed_first, followed_none}
 use Rattle.vkg_maps.specs.declared.mapping.Mapping.{Mapping}
 use Rattle.vkg_maps.specs.declared.mapping.TriplesMap.{TriplesMap}
 use Rattle.vkg_maps.specs.QuadRules.{rule_limit}
@@ -30,8 +30,13 @@ too_many_with base read m behind left many room =
     let more : rule_limit < sum_by rules_of_map ((read ++ m ∷ []) ++ behind) = omega (arith, room, many, one, all) in
     too_many base ((read ++ m ∷ []) ++ behind) (lt-ltb rule_limit (sum_by rules_of_map ((read ++ m ∷ []) ++ behind)) more)
 
-pub within_limit : (base : List ℕ) (maps : List TriplesMap) → sum_by rules_of_map maps ≤ rule_limit → of_maps base (Ok maps) ≡ Ok (record { base = base; maps = maps })
-within_limit base maps few = few_enough base maps (le-ltb rule_limit (sum_by rules_of_map maps) few)
+-- the mapping of maps that have not too many rules
+pub whole : (base : List ℕ) (count : Option MapFault) (r : Result (List TriplesMap) MapFault) (read : List TriplesMap) → count ≡ None → r ≡ Ok read → sum_by rules_of_map read ≤ rule_limit → unless count (of_maps base r) ≡ Ok (record { base = base; maps = read })
+whole base count r read none is few = ap (λ f. unless f (of_maps base r)) none ∙ ap (of_maps base) is ∙ few_enough base read (le-ltb rule_limit (sum_by rules_of_map read) few)
+
+-- no map is read yet
+pub begins : (first : Result (List TriplesMap) MapFault) (read : List TriplesMap) → read ≡ [] → first ≡ followed_by read first
+begins first read e = sym (ap (λ r. followed_by r first) e ∙ followed_none first)
 
 -- the first of these maps
 pub passes_first : (d : Checked TriplesMap) (n : ℕ) (ds : List (Checked TriplesMap)) → result_err d ≡ None → result_err (in_order n (d ∷ ds)) ≡ result_err (in_order (n + 1) ds)
