@@ -1,10 +1,9 @@
 -- The check of a part that fails, where the part is not kept; subject maps that passed.
-use Rattle.std.proofs.Common.{◌≡◌, ◌∙◌, ◌==◌, ◌&&◌, ℕ, Bool, true, false, List, [], ◌∷◌, ◌++◌, Option, Ok, Err, None, refl, sym, ap, subst, cond}
+use Rattle.std.proofs.Common.{◌≡◌, ◌∙◌, ◌==◌, ◌&&◌, ◌||◌, ℕ, Bool, true, false, List, [], ◌∷◌, Option, Ok, Err, None, refl, sym, ap, subst}
 use Rattle.std.specs.List.{list_any}
 use Rattle.std.specs.Result.{result_err}
 use Rattle.vkg_lists.specs.Places.{lesser}
 use Rattle.vkg_lists.proofs.Bools.{and_parts}
-use Rattle.vkg_lists.proofs.Members.{recursion_push}
 use Rattle.vkg_lists.proofs.Tests.{nat_test}
 use Rattle.vkg_terms.specs.declared.term.Term.{Term}
 use Rattle.vkg_terms.specs.Same.{term_eq}
@@ -35,11 +34,8 @@ module _ (triples : List Triple) (schema : List Table) (base : List ℕ) where
   -- one of those that passed
   pub was_passed : (passed : List Passed) (node : Term) (table : ℕ) → list_any (λ p. p.table == table && term_eq p.node node) passed ≡ true → ArePassed triples schema base passed → Passes triples schema base node table
   was_passed [] node table e h = cc
-  was_passed (p ∷ ps) node table e h = by (p.table == table && term_eq p.node node) refl e
+  was_passed (p ∷ ps) node table e h = by (p.table == table && term_eq p.node node) refl e (λ k. was_passed ps node table k h.1)
     where
-      by : (b : Bool) → (p.table == table && term_eq p.node node) ≡ b → cond b true (list_any (λ q. q.table == table && term_eq q.node node) ps) ≡ true → Passes triples schema base node table
-      by true i k = one_passed p node table i h.0
-      by false i k = was_passed ps node table k h.1
-
-  pub one_more_passed : (passed : List Passed) (p : Passed) → ArePassed triples schema base passed → Passes triples schema base p.node p.table → ArePassed triples schema base (passed ++ p ∷ [])
-  one_more_passed passed p h e = recursion_push (λ q. Passes triples schema base q.node q.table) passed p h e
+      by : (b : Bool) → (p.table == table && term_eq p.node node) ≡ b → (b || list_any (λ q. q.table == table && term_eq q.node node) ps) ≡ true → (list_any (λ q. q.table == table && term_eq q.node node) ps ≡ true → Passes triples schema base node table) → Passes triples schema base node table
+      by true i k later = one_passed p node table i h.0
+      by false i k later = later k

@@ -13,6 +13,7 @@ use crate::past_limit::past_limit;
 use crate::rule_limit::{RULE_LIMIT, after_map};
 use crate::triples_map::triples_map;
 use std::alloc::Global;
+use std::mem;
 use vkg_base::{Items, Text};
 use vkg_maps::{Mapping, TriplesMap};
 use vkg_schema::Schema;
@@ -95,7 +96,10 @@ fn in_order(
                     left = rest;
                     read.push(made)?;
                 }
-                None => return Err(past_limit(alloc, graph, schema, base, maps, k + 1)),
+                None => {
+                    mem::drop(made);
+                    return Err(past_limit(alloc, graph, schema, base, maps, k + 1));
+                }
             },
             Err(check) => return Err(MapError::Fault(MapFault { check, map: k + 1 })),
         }
