@@ -8,7 +8,6 @@ use Rattle.std.proofs.lemmas.List.Sums.{sum_by_push, sum_by-append}
 use Rattle.std.proofs.lemmas.Option.{same_Some}
 use Rattle.vkg_lists.specs.Results.{followed_by, in_front, unless}
 use Rattle.vkg_lists.proofs.Results.{followed_first, followed_none}
-use Rattle.vkg_maps.specs.declared.mapping.Mapping.{Mapping}
 use Rattle.vkg_maps.specs.declared.mapping.TriplesMap.{TriplesMap}
 use Rattle.vkg_maps.specs.QuadRules.{rule_limit}
 use Rattle.vkg_r2rml.specs.declared.map_error.MapFault.{MapFault}

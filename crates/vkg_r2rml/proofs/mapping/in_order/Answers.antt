@@ -1,4 +1,4 @@
-use Rattle.std.proofs.Common.{◌≡◌, ◌∙◌, ◌+◌, ◌∷◌, ◌++◌, [], ap, arith, drop, map, subst, sym}
+use Rattle.std.proofs.Common.{◌≡◌, ◌∙◌, ◌+◌, ap, arith, drop, map, subst, sym}
 use Rattle.std.specs.Prelude.{sum_by}
 use Rattle.vkg_lists.specs.Results.{followed_by}
 use Rattle.vkg_maps.specs.QuadRules.{rule_limit}

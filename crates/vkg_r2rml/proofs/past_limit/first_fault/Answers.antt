@@ -1,5 +1,4 @@
-use Rattle.std.proofs.Common.{◌∙◌, ap, refl, subst, sym}
-use Rattle.std.specs.Result.{result_err}
+use Rattle.std.proofs.Common.{◌∙◌, refl, subst, sym}
 use Rattle.vkg_r2rml.specs.Passed.{ArePassed}
 use Rattle.vkg_r2rml.specs.TriplesMap.{triples_map}
 use Rattle.vkg_r2rml.proofs.InOrder.{next_passes, next_fails, none_fails}
