@@ -1,9 +1,13 @@
 pub mod Certificate
+pub mod Cutting
 pub mod Declared
 pub mod Escaping
 pub mod Examples
 pub mod Failing
+pub mod Fronting
 pub mod Lasts
 pub mod Lexical
 pub mod Meaning
 pub mod One
+pub mod PathLemmas
+pub mod Placing

@@ -9,12 +9,15 @@
 #![tactic(auto)]
 
 mod bad_place;
+mod base;
 mod document;
 mod escape;
+mod front;
 mod grammar_table;
 mod lexeme;
 mod names;
 mod parsing;
+mod path;
 mod prefixes;
 mod reading;
 mod repeats;
@@ -23,6 +26,7 @@ mod symbols;
 mod triple;
 
 pub use bad_place::first_bad;
+pub use base::Base;
 pub use document::{or_empty, typed};
 pub use grammar_table::{ROLES, TURTLE};
 pub use lexeme::{Word, between, lowered, word_of};
