@@ -1,7 +1,7 @@
 -- Where a text that is put together is cut.
 use Rattle.std.proofs.Common.{◌≡◌, ◌∙◌, ◌==◌, ◌||◌, ◌++◌, ◌<◌, ◌≤◌, ◌+◌, ◌-◌, ℕ, zero, suc, Bool, true, false, not, List, [], ◌∷◌, length, take, drop, get_or, codes, refl, sym, ap, subst, arith, append_assoc, append-nil, Option, Some, None, length-append, length-drop, get_or-append-add, get_or-drop, take_at, ne_eqb}
 use Rattle.std.specs.Prelude.{if◌then◌else◌}
-use Rattle.std.specs.List.{before_first, after_first, before_last, list_any, suffix_len}
+use Rattle.std.specs.List.{before_first, after_first, before_last, list_any, position_or_len, suffix_len}
 use Rattle.std.proofs.lemmas.Bool.{eqb-true, or_left, or_parts, or_right}
 use Rattle.std.proofs.lemmas.List.{get_or_default}
 use Rattle.std.proofs.lemmas.List.Folds.{list_any-append, list_any_none}
@@ -24,7 +24,9 @@ module _ (p : ℕ → Bool) where
   after_here x xs h = ap (λ n. drop (n + 1) (x ∷ xs)) (first_here p x xs h)
 
   pub after_later : (x : ℕ) (xs : List ℕ) → p x ≡ false → after_first p (x ∷ xs) ≡ after_first p xs
-  after_later x xs h = ap (λ n. drop (n + 1) (x ∷ xs)) (first_later p x xs h)
+  after_later x xs h =
+      let more : suc (position_or_len p xs) + 1 ≡ suc (position_or_len p xs + 1) = omega arith in
+      ap (λ n. drop (n + 1) (x ∷ xs)) (first_later p x xs h) ∙ ap (λ n. drop n (x ∷ xs)) more
 
   -- a front without such a sign is passed over
   pub before_past : (xs ys : List ℕ) → list_any p xs ≡ false → before_first p (xs ++ ys) ≡ xs ++ before_first p ys

@@ -1,10 +1,10 @@
 -- A plain reference is put behind the front of a base.
-use Rattle.std.proofs.Common.{◌≡◌, ◌∙◌, ◌==◌, ◌||◌, ◌&&◌, ◌++◌, ◌<◌, ◌≤◌, ◌+◌, ◌-◌, ℕ, zero, suc, Bool, true, false, not, List, [], ◌∷◌, length, take, drop, get_or, codes, refl, sym, ap, subst, arith, append_assoc, append-nil, Option, Some, None, nat_eq, bytes_eq, true≢false, length-append, length-take-le, take-append-drop, take-take, take_at, drop_at, ne_eqb, eqb-false, eqb-true}
+use Rattle.std.proofs.Common.{◌≡◌, ◌∙◌, ◌==◌, ◌||◌, ◌&&◌, ◌++◌, ◌<◌, ◌≤◌, ◌+◌, ◌-◌, ℕ, zero, suc, Bool, true, false, not, List, [], ◌∷◌, length, take, drop, get_or, codes, refl, sym, ap, subst, arith, append_assoc, append-nil, Option, Some, None, nat_eq, bytes_eq, true≢false, length-append, length-take-le, take-append-drop, ne_eqb}
 use Rattle.std.specs.Prelude.{if◌then◌else◌, is_some}
 use Rattle.std.specs.Char.{is_ascii_alphabetic, is_ascii_digit}
 use Rattle.std.specs.List.{before_first, after_first, list_all, list_any, starts_with}
 use Rattle.std.specs.Option.{option_or}
-use Rattle.std.proofs.lemmas.Bool.{and_from, and_left, and_parts, and_right, both_ways, false_from_ne_true, not-true, or_from, or_left, or_parts, or_right}
+use Rattle.std.proofs.lemmas.Bool.{and_from, and_left, and_parts, and_right, both_ways, eqb-false, false_from_ne_true, not-true, or_from, or_left, or_parts, or_right}
 use Rattle.std.proofs.lemmas.List.{take_more}
 use Rattle.std.proofs.lemmas.List.Folds.{list_all-append, list_any-append}
 use Rattle.vkg_terms.specs.Iri.{has_scheme, is_absolute, is_iri_character, is_one_of, is_scheme, is_scheme_character}
@@ -75,12 +75,12 @@ module _ (r : List ℕ) (h : is_path_noscheme r ≡ true) where
   parts =
       let a = and_parts (not (bytes_eq r [])) _ h in
       let b = and_parts (not (starts_with nat_eq r (codes "/"))) _ a.1 in
-      (a.0, b.0, b.1)
+      (a.0, (b.0, b.1))
 
   not_empty : bytes_eq r [] ≡ false
   not_empty = not-true (bytes_eq r []) parts.0
 
-  not_rooted : starts_with nat_eq r (codes "/") ≡ false
+  pub not_rooted : starts_with nat_eq r (codes "/") ≡ false
   not_rooted = not-true (starts_with nat_eq r (codes "/")) parts.1.0
 
   no_colon : list_any (λ b. b == 58) (before_first (λ b. b == 47) r) ≡ false
@@ -120,18 +120,18 @@ pub no_start : (l : List ℕ) → has_slash l ≡ false → starts_with nat_eq l
 no_start [] h = refl
 no_start (x ∷ xs) h = and_left (nat_eq 47 x) true (ne_eqb 47 x (λ e. eqb-false x 47 (or_parts (x == 47) (has_slash xs) h).0 (sym e)))
 
-single : (dirs x l : List ℕ) → starts_with nat_eq (dirs ++ 47 ∷ l) (codes "//") ≡ false → starts_with nat_eq x (codes "/") ≡ false → starts_with nat_eq (dirs ++ 47 ∷ x) (codes "//") ≡ false
+pub single : (dirs x l : List ℕ) → starts_with nat_eq (dirs ++ 47 ∷ l) (codes "//") ≡ false → starts_with nat_eq x (codes "/") ≡ false → starts_with nat_eq (dirs ++ 47 ∷ x) (codes "//") ≡ false
 single [] x l h k = k
 single (d ∷ []) x l h k = h
 single (d ∷ e ∷ ds) x l h k = h
 
-later_start : (e x l : List ℕ) → starts_with nat_eq (e ++ 47 ∷ l) (codes "/") ≡ false → starts_with nat_eq (e ++ 47 ∷ x) (codes "/") ≡ false
+pub later_start : (e x l : List ℕ) → starts_with nat_eq (e ++ 47 ∷ l) (codes "/") ≡ false → starts_with nat_eq (e ++ 47 ∷ x) (codes "/") ≡ false
 later_start [] x l h = absurd (true≢false h)
 later_start (d ∷ ds) x l h = h
 
 -- ---- what is put together
 
-glue_front : (s root dirs last : List ℕ) → (s ++ 58 ∷ (root ++ (dirs ++ 47 ∷ []))) ++ last ≡ s ++ 58 ∷ (root ++ (dirs ++ 47 ∷ last))
+pub glue_front : (s root dirs last : List ℕ) → (s ++ 58 ∷ (root ++ (dirs ++ 47 ∷ []))) ++ last ≡ s ++ 58 ∷ (root ++ (dirs ++ 47 ∷ last))
 glue_front s root dirs last =
     append_assoc s (58 ∷ (root ++ (dirs ++ 47 ∷ []))) last
     ∙ ap (λ (l : List ℕ). s ++ 58 ∷ l) (append_assoc root (dirs ++ 47 ∷ []) last ∙ ap (λ (l : List ℕ). root ++ l) (append_assoc dirs (47 ∷ []) last))

@@ -1,11 +1,12 @@
 -- Where the front of a base ends, and that it grows by the directories of a plain reference.
-use Rattle.std.proofs.Common.{◌≡◌, ◌∙◌, ◌==◌, ◌||◌, ◌&&◌, ◌++◌, ◌<◌, ◌≤◌, ◌+◌, ◌-◌, ℕ, zero, suc, Bool, true, false, List, [], ◌∷◌, length, take, drop, get_or, codes, refl, sym, ap, subst, arith, append_assoc, append-nil, Some, None, nat_eq, true≢false, length-append, length-take-le, take-append-drop, take_at, drop_at, eqb-true, IsUtf8, IsCharBoundary}
+use Rattle.std.proofs.Common.{◌≡◌, ◌∙◌, ◌==◌, ◌||◌, ◌&&◌, ◌++◌, ◌<◌, ◌≤◌, ◌+◌, ◌-◌, ℕ, zero, suc, Bool, true, false, List, [], ◌∷◌, length, take, drop, get_or, codes, refl, sym, ap, subst, subst₂, arith, append_assoc, append-nil, Some, None, nat_eq, true≢false, length-append, length-take-le, take-append-drop, take_at, drop_at, eqb-true, ne_eqb, Bor, Option, IsUtf8, IsCharBoundary}
 use Rattle.std.specs.Prelude.{if◌then◌else◌}
 use Rattle.std.specs.List.{before_first, list_all, list_any, position_or_len, starts_with}
 use Rattle.std.proofs.lemmas.Bool.{and_parts, or_from, or_parts}
-use Rattle.std.proofs.lemmas.List.{drop-append-le, get_or_append_left, get_or_at, length_push, take-append-le, take_more}
-use Rattle.std.proofs.lemmas.List.Folds.{list_all-append, list_any-append}
+use Rattle.std.proofs.lemmas.List.{get_or_append_left, get_or_default, get_or_at, length_push, take-append-le, take_more}
+use Rattle.std.proofs.lemmas.List.Folds.{list_all-append, list_any-append, list_any_none}
 use Rattle.std.proofs.lemmas.Str.{IsCharBoundary-after_ascii, IsCharBoundary-start}
+use Rattle.std.proofs.lemmas.Str.Pattern.{IsSplitOnceResult, split_parts}
 use Rattle.vkg_terms.specs.Iri.{has_scheme, is_absolute, is_iri_character, is_one_of, is_scheme}
 use Rattle.vkg_terms.specs.Resolve.{authority_of, from_slash, path_of, prefixed, resolve}
 use Rattle.vkg_turtle.specs.declared.base.Front.{Front}
@@ -125,6 +126,9 @@ module _ (base : List ℕ) (f : Front) (h : IsFrontOf base (Some f)) (text : Lis
             ∙ ap (λ b. b && are_iri new) (sym (ap has_scheme is ∙ begun h.0.front h.0.begins text));
       }
 
+pub known_as : {text : List ℕ} {end : ℕ} {a b c d : Bool} → b ≡ a → d ≡ c → IsKnown text (Some (record { end = end; is_iri = a })) c → IsKnown text (Some (record { end = end; is_iri = b })) d
+known_as {text = text} {end = end} e f k = subst₂ (λ x y. IsKnown text (Some (record { end = end; is_iri = x })) y) (sym e) (sym f) k
+
 -- ---- where the front of a text ends
 
 from_past : (xs ys : List ℕ) → has_slash xs ≡ false → from_slash (xs ++ ys) ≡ from_slash ys
@@ -224,6 +228,13 @@ module _ (text scheme rest : List ℕ) (is : text ≡ scheme ++ 58 ∷ rest) (co
         };
         ends = ap has_slash (before_drop is_sign m rest inside ∙ behind) ∙ b.last;
       }
+
+-- what `split_once` cuts
+pub colon_cut : (text : List ℕ) (r : Option (Bor (List ℕ) × Bor (List ℕ))) (x : Bor (List ℕ) × Bor (List ℕ)) → IsSplitOnceResult 58 text r → r ≡ Some x
+    → (text ≡ x.0.now ++ 58 ∷ x.1.now) × (list_any (λ b. b == 58) x.0.now ≡ false)
+colon_cut text r x h is =
+    let parts = rw is at (split_parts 58 text r h (omega arith)) in
+    (parts.0, list_any_none (λ b. b == 58) x.0.now (λ k d l. ap (λ n. n == 58) (get_or_default x.0.now k d 0 l) ∙ ne_eqb (get_or x.0.now k 0) 58 (parts.1 k l)))
 
 pub front_found : (text scheme rest whole path : List ℕ) (k n : ℕ) → text ≡ scheme ++ 58 ∷ rest → list_any (λ b. b == 58) scheme ≡ false → is_absolute (scheme ++ codes ":") ≡ true
     → whole ≡ before_query rest → path ≡ path_of whole → IsBehindSlash path k → (k ≡ 0 → ⊥) → has_dots path ≡ false
