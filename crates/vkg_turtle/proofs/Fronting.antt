@@ -49,11 +49,11 @@ scheme_alone scheme colonless h =
     before_past (λ b. b == 58) scheme (58 ∷ []) colonless ∙ ap (λ (l : List ℕ). scheme ++ l) (before_here (λ b. b == 58) 58 [] refl) ∙ append-nil scheme in
     ap is_scheme (sym same) ∙ is.1
 
-scheme_lacks : (p : ℕ → Bool) → ((c : ℕ) → is_scheme_character c ≡ true → p c ≡ false) → (s : List ℕ) → list_all is_scheme_character s ≡ true → list_any p s ≡ false
+pub scheme_lacks : (p : ℕ → Bool) → ((c : ℕ) → is_scheme_character c ≡ true → p c ≡ false) → (s : List ℕ) → list_all is_scheme_character s ≡ true → list_any p s ≡ false
 scheme_lacks p h [] e = refl
 scheme_lacks p h (c ∷ cs) e = let (here, rest) = and_parts (is_scheme_character c) (list_all is_scheme_character cs) e in or_from (p c) (list_any p cs) (h c here) (scheme_lacks p h cs rest)
 
-scheme_characters : (s : List ℕ) → is_scheme s ≡ true → list_all is_scheme_character s ≡ true
+pub scheme_characters : (s : List ℕ) → is_scheme s ≡ true → list_all is_scheme_character s ≡ true
 scheme_characters [] e = refl
 scheme_characters (c ∷ cs) e =
     let (here, rest) = and_parts (is_ascii_alphabetic c) (list_all is_scheme_character cs) e in
@@ -65,7 +65,7 @@ differs n c f t e = both_ways (is_scheme_character c) (ap is_scheme_character (s
 no_slash : (c : ℕ) → is_scheme_character c ≡ true → (c == 47) ≡ false
 no_slash c h = ne_eqb c 47 (λ e. differs 47 c refl h (sym e))
 
-no_sign : (c : ℕ) → is_scheme_character c ≡ true → is_sign c ≡ false
+pub no_sign : (c : ℕ) → is_scheme_character c ≡ true → is_sign c ≡ false
 no_sign c h = or_from (63 == c) ((35 == c) || false) (ne_eqb 63 c (differs 63 c refl h)) (or_from (35 == c) false (ne_eqb 35 c (differs 35 c refl h)) refl)
 
 -- ---- a reference that begins with a path has no scheme
@@ -97,14 +97,17 @@ colon_kept s t h =
     ∙ list_any-append (λ b. b == 58) s (58 ∷ before_first (λ b. b == 47) (before_query t))
     ∙ or_right (list_any (λ b. b == 58) s) _ refl
 
-at_colon : (text : List ℕ) → list_any (λ b. b == 58) text ≡ true → before_first (λ b. b == 58) text ++ 58 ∷ after_first (λ b. b == 58) text ≡ text
+pub at_colon : (text : List ℕ) → list_any (λ b. b == 58) text ≡ true → before_first (λ b. b == 58) text ++ 58 ∷ after_first (λ b. b == 58) text ≡ text
 at_colon text h = ap (λ b. before_first (λ b. b == 58) text ++ prefixed (58 ∷ []) (if b then Some (after_first (λ b. b == 58) text) else None)) (sym h) ∙ glued 58 text
 
-no_scheme : (text : List ℕ) → is_path_noscheme (before_query text) ≡ true → has_scheme text ≡ false
-no_scheme text h = false_from_ne_true (has_scheme text) (λ e.
+pub no_scheme_by : (text : List ℕ) → list_any (λ b. b == 58) (before_first (λ b. b == 47) (before_query text)) ≡ false → has_scheme text ≡ false
+no_scheme_by text h = false_from_ne_true (has_scheme text) (λ e.
     let (any, is) = and_parts (list_any (λ b. b == 58) text) _ e in
     let kept = colon_kept (before_first (λ b. b == 58) text) (after_first (λ b. b == 58) text) (scheme_characters (before_first (λ b. b == 58) text) is) in
-    both_ways (list_any (λ b. b == 58) (before_first (λ b. b == 47) (before_query text))) (no_colon (before_query text) h) (ap (λ l. list_any (λ b. b == 58) (before_first (λ b. b == 47) (before_query l))) (sym (at_colon text any)) ∙ kept))
+    both_ways (list_any (λ b. b == 58) (before_first (λ b. b == 47) (before_query text))) h (ap (λ l. list_any (λ b. b == 58) (before_first (λ b. b == 47) (before_query l))) (sym (at_colon text any)) ∙ kept))
+
+no_scheme : (text : List ℕ) → is_path_noscheme (before_query text) ≡ true → has_scheme text ≡ false
+no_scheme text h = no_scheme_by text (no_colon (before_query text) h)
 
 -- ---- texts that begin with slashes
 

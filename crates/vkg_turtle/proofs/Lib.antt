@@ -5,6 +5,8 @@ pub mod Escaping
 pub mod Examples
 pub mod Failing
 pub mod Fronting
+pub mod Keeping
+pub mod Known
 pub mod Lasts
 pub mod Lexical
 pub mod Meaning

@@ -1,18 +1,17 @@
 -- Where the front of a base ends, and that it grows by the directories of a plain reference.
-use Rattle.std.proofs.Common.{◌≡◌, ◌∙◌, ◌==◌, ◌||◌, ◌&&◌, ◌++◌, ◌<◌, ◌≤◌, ◌+◌, ◌-◌, ℕ, zero, suc, Bool, true, false, List, [], ◌∷◌, length, take, drop, get_or, codes, refl, sym, ap, subst, subst₂, arith, append_assoc, append-nil, Some, None, nat_eq, true≢false, length-append, length-take-le, take-append-drop, take_at, drop_at, eqb-true, ne_eqb, Bor, Option, IsUtf8, IsCharBoundary}
+use Rattle.std.proofs.Common.{◌≡◌, ◌∙◌, ◌==◌, ◌||◌, ◌&&◌, ◌++◌, ◌<◌, ◌≤◌, ◌+◌, ◌-◌, ℕ, zero, suc, Bool, true, false, not, nat_le, List, [], ◌∷◌, length, take, drop, get_or, codes, refl, sym, ap, subst, subst₂, arith, append_assoc, append-nil, Some, None, nat_eq, true≢false, length-append, length-take-le, take-append-drop, take_at, drop_at, eqb-true, ne_eqb, Bor, Option, IsUtf8, IsCharBoundary}
 use Rattle.std.specs.Prelude.{if◌then◌else◌}
 use Rattle.std.specs.List.{before_first, list_all, list_any, position_or_len, starts_with}
-use Rattle.std.proofs.lemmas.Bool.{and_parts, or_from, or_parts}
+use Rattle.std.proofs.lemmas.Bool.{agree_below_at, and_from, and_parts, both_ways, false_from_ne_true, leb-true, not-true, or_from, or_parts, or_right}
 use Rattle.std.proofs.lemmas.List.{get_or_append_left, get_or_default, get_or_at, length_push, take-append-le, take_more}
 use Rattle.std.proofs.lemmas.List.Folds.{list_all-append, list_any-append, list_any_none}
 use Rattle.std.proofs.lemmas.Str.{IsCharBoundary-after_ascii, IsCharBoundary-start}
 use Rattle.std.proofs.lemmas.Str.Pattern.{IsSplitOnceResult, split_parts}
-use Rattle.vkg_terms.specs.Iri.{has_scheme, is_absolute, is_iri_character, is_one_of, is_scheme}
+use Rattle.vkg_terms.specs.Iri.{has_scheme, is_absolute, is_iri_character, is_one_of, is_scheme, is_scheme_character}
 use Rattle.vkg_terms.specs.Resolve.{authority_of, from_slash, path_of, prefixed, resolve}
-use Rattle.vkg_turtle.specs.declared.base.Front.{Front}
-use Rattle.vkg_turtle.specs.Fronts.{IsBehindSlash, IsFront, IsFrontOf, IsKnown, IsPlain, IsRoot, HasFront, before_query, has_dots, has_slash}
+use Rattle.vkg_turtle.specs.Fronts.{IsBehindSlash, IsFront, IsPlain, IsRoot, HasFront, before_query, has_dots, has_slash}
 use Rattle.vkg_turtle.proofs.Cutting.{before_drop, before_here, before_lacks, before_later, before_past, slash_glued}
-use Rattle.vkg_turtle.proofs.Fronting.{begins_so, glue_front, later_start, not_rooted, put_behind, scheme_alone, single}
+use Rattle.vkg_turtle.proofs.Fronting.{begins_so, glue_front, later_start, not_rooted, put_behind, scheme_alone, scheme_characters, single}
 use Rattle.vkg_turtle.proofs.PathLemmas.{dots_joined}
 
 abbrev is_sign : ℕ → Bool
@@ -55,7 +54,7 @@ module _ (path : List ℕ) (k : ℕ) (b : IsBehindSlash path (suc k)) where
 -- ---- the front grows
 
 module _ (front : List ℕ) (b : IsFront front) (text : List ℕ) where
-  grown_from : (n : ℕ) → IsPlain text n → (m : ℕ) → m ≡ length front → HasFront (front ++ text) (m + n)
+  pub grown_from : (n : ℕ) → IsPlain text n → (m : ℕ) → m ≡ length front → HasFront (front ++ text) (m + n)
   grown_from zero p m e = record { front = front; last = text; is = refl; end = omega (arith, e); begins = b; ends = p.behind.last }
   grown_from (suc k) p m e =
       let path : List ℕ = before_query text in
@@ -88,46 +87,16 @@ module _ (front : List ℕ) (b : IsFront front) (text : List ℕ) where
         ends = ap has_slash (before_drop is_sign (suc k) text p.behind.inside) ∙ p.behind.last;
       }
 
-  begun : has_scheme (front ++ text) ≡ true
+  pub begun : has_scheme (front ++ text) ≡ true
   begun = ap has_scheme (ap (λ (l : List ℕ). l ++ text) b.is ∙ glue_front b.scheme b.root b.dirs text) ∙ begins_so b.scheme (b.root ++ (b.dirs ++ 47 ∷ text)) b.begins b.colonless
 
-  grown_text : (n : ℕ) → front ++ text ≡ (front ++ take n text) ++ drop n text
-  grown_text n = ap (λ (l : List ℕ). front ++ l) (sym (take-append-drop n text)) ∙ sym (append_assoc front (take n text) (drop n text))
-
-abbrev are_iri : List ℕ → Bool
-are_iri text = list_all is_iri_character text
-
 -- a front, as a base knows it
-module _ (base : List ℕ) (f : Front) (h : IsFrontOf base (Some f)) (text : List ℕ) (n : ℕ) (p : IsPlain text n) where
-  front_taken : take f.end base ≡ h.0.front
-  front_taken = ap (take f.end) h.0.is ∙ take_at h.0.front h.0.last f.end (sym h.0.end)
+module _ (base : List ℕ) (n : ℕ) (h : HasFront base n) where
+  pub front_taken : take n base ≡ h.front
+  front_taken = ap (take n) h.is ∙ take_at h.front h.last n (sym h.end)
 
-  plain_within : n ≤ length text
-  plain_within = omega (arith, p.behind.inside, path_within text)
-
-  pub put_resolved : (new : List ℕ) → new ≡ take f.end base ++ text → new ≡ resolve base text
-  put_resolved new e = e ∙ ap (λ (l : List ℕ). l ++ text) front_taken ∙ sym (put_behind h.0.front h.0.last h.0.begins h.0.ends text n p) ∙ ap (λ l. resolve l text) (sym h.0.is)
-
-  pub put_known : (new dirs last : List ℕ) → new ≡ take f.end base ++ text → dirs ≡ take n text → last ≡ drop n text → (a i : Bool) → a ≡ are_iri dirs → i ≡ are_iri last
-      → IsKnown new (Some (record { end = f.end + n; is_iri = f.is_iri && a })) ((f.is_iri && a) && i)
-  put_known new dirs last e d l a i u v =
-      let is : new ≡ h.0.front ++ text = e ∙ ap (λ (l : List ℕ). l ++ text) front_taken in
-      let first : f.is_iri ≡ are_iri h.0.front = h.1 ∙ ap are_iri front_taken in
-      let both : (f.is_iri && a) ≡ are_iri (h.0.front ++ take n text) = (λ j. first j && (u ∙ ap are_iri d) j) ∙ sym (list_all-append is_iri_character h.0.front (take n text)) in
-      let place : take (f.end + n) new ≡ h.0.front ++ take n text =
-      ap (take (f.end + n)) (is ∙ grown_text h.0.front h.0.begins text n)
-      ∙ take_at (h.0.front ++ take n text) (drop n text) (f.end + n) (omega (arith, h.0.end, length-append h.0.front (take n text), length-take-le n text plain_within)) in
-      record {
-        ends = (subst (λ t. HasFront t (f.end + n)) (sym is) (grown_from h.0.front h.0.begins text n p f.end h.0.end), both ∙ ap are_iri (sym place));
-        is_so =
-            (λ j. both j && (v ∙ ap are_iri l) j)
-            ∙ sym (list_all-append is_iri_character (h.0.front ++ take n text) (drop n text))
-            ∙ ap are_iri (sym (is ∙ grown_text h.0.front h.0.begins text n))
-            ∙ ap (λ b. b && are_iri new) (sym (ap has_scheme is ∙ begun h.0.front h.0.begins text));
-      }
-
-pub known_as : {text : List ℕ} {end : ℕ} {a b c d : Bool} → b ≡ a → d ≡ c → IsKnown text (Some (record { end = end; is_iri = a })) c → IsKnown text (Some (record { end = end; is_iri = b })) d
-known_as {text = text} {end = end} e f k = subst₂ (λ x y. IsKnown text (Some (record { end = end; is_iri = x })) y) (sym e) (sym f) k
+  pub put_resolved : (text : List ℕ) (e : ℕ) → IsPlain text e → (new : List ℕ) → new ≡ take n base ++ text → new ≡ resolve base text
+  put_resolved text e p new q = q ∙ ap (λ (l : List ℕ). l ++ text) front_taken ∙ sym (put_behind h.front h.last h.begins h.ends text e p) ∙ ap (λ l. resolve l text) (sym h.is)
 
 -- ---- where the front of a text ends
 
@@ -152,7 +121,7 @@ from_dirs xs (d ∷ ds) l x h =
     let slash : (d == 47) ≡ true = ap (λ n. n == 47) (begins_slash xs d (ds ++ 47 ∷ l) h) in
     (ap (λ b. if b then d ∷ (ds ++ 47 ∷ x) else from_slash (ds ++ 47 ∷ x)) slash, before_here (λ b. b == 47) d (ds ++ 47 ∷ x) slash)
 
-two_slashes : (h : List ℕ) → starts_with nat_eq h (codes "//") ≡ true → h ≡ 47 ∷ 47 ∷ drop 2 h
+pub two_slashes : (h : List ℕ) → starts_with nat_eq h (codes "//") ≡ true → h ≡ 47 ∷ 47 ∷ drop 2 h
 two_slashes [] e = absurd (cc)
 two_slashes (x ∷ []) e = absurd (let r = (and_parts (nat_eq 47 x) _ e).1 in cc)
 two_slashes (x ∷ y ∷ ys) e =
@@ -235,6 +204,44 @@ pub colon_cut : (text : List ℕ) (r : Option (Bor (List ℕ) × Bor (List ℕ))
 colon_cut text r x h is =
     let parts = rw is at (split_parts 58 text r h (omega arith)) in
     (parts.0, list_any_none (λ b. b == 58) x.0.now (λ k d l. ap (λ n. n == 58) (get_or_default x.0.now k d 0 l) ∙ ne_eqb (get_or x.0.now k 0) 58 (parts.1 k l)))
+
+-- a colon at which a scheme ends
+begins_at : (scheme rest : List ℕ) → list_any (λ b. b == 58) scheme ≡ false → has_scheme (scheme ++ 58 ∷ rest) ≡ is_scheme scheme
+begins_at scheme rest colonless =
+    ap (λ b. b && is_scheme (before_first (λ b. b == 58) (scheme ++ 58 ∷ rest))) (list_any-append (λ b. b == 58) scheme (58 ∷ rest) ∙ or_right (list_any (λ b. b == 58) scheme) _ refl)
+    ∙ ap is_scheme (before_past (λ b. b == 58) scheme (58 ∷ rest) colonless ∙ ap (λ (l : List ℕ). scheme ++ l) (before_here (λ b. b == 58) 58 rest refl) ∙ append-nil scheme)
+
+not_among : (these : List ℕ) (c : ℕ) → list_all (λ x. not (is_scheme_character x)) these ≡ true → is_scheme_character c ≡ true → is_one_of these c ≡ false
+not_among [] c h e = refl
+not_among (x ∷ xs) c h e =
+    let (here, rest) = and_parts (not (is_scheme_character x)) _ h in
+    or_from (x == c) _ (ne_eqb x c (λ q. both_ways (is_scheme_character c) (ap is_scheme_character (sym q) ∙ not-true (is_scheme_character x) here) e)) (not_among xs c rest e)
+
+no_control : (c : ℕ) → is_scheme_character c ≡ true → nat_le c 0x20 ≡ false
+no_control c e = false_from_ne_true (nat_le c 0x20) (λ l. both_ways (is_scheme_character c) (agree_below_at is_scheme_character (λ _. false) 33 c refl (omega (arith, leb-true c 0x20 l))) e)
+
+scheme_is_iri : (s : List ℕ) → list_all is_scheme_character s ≡ true → list_all is_iri_character (s ++ 58 ∷ []) ≡ true
+scheme_is_iri [] h = refl
+scheme_is_iri (c ∷ cs) h =
+    let (here, rest) = and_parts (is_scheme_character c) (list_all is_scheme_character cs) h in
+    and_from (is_iri_character c) _ (and_from (not (nat_le c 0x20)) _ (ap not (no_control c here)) (ap not (not_among (codes "<>\"{}|^`\\") c refl here))) (scheme_is_iri cs rest)
+
+alone_by : (scheme : List ℕ) (b : Bool) → is_scheme scheme ≡ b → (is_scheme scheme && list_all is_iri_character (scheme ++ 58 ∷ [])) ≡ is_scheme scheme
+alone_by scheme true e = (λ i. e i && scheme_is_iri scheme (scheme_characters scheme e) i) ∙ sym e
+alone_by scheme false e = ap (λ b. b && list_all is_iri_character (scheme ++ 58 ∷ [])) e ∙ sym e
+
+-- the scheme alone tells whether the text begins with one
+pub scheme_told : (text : List ℕ) (r : Option (Bor (List ℕ) × Bor (List ℕ))) (x : Bor (List ℕ) × Bor (List ℕ)) → IsSplitOnceResult 58 text r → r ≡ Some x → is_absolute (x.0.now ++ codes ":") ≡ has_scheme text
+scheme_told text r x h is =
+    let cut = colon_cut text r x h is in
+    ap (λ b. b && list_all is_iri_character (x.0.now ++ 58 ∷ [])) (begins_at x.0.now [] cut.1)
+    ∙ alone_by x.0.now (is_scheme x.0.now) refl
+    ∙ sym (ap has_scheme cut.0 ∙ begins_at x.0.now x.1.now cut.1)
+
+pub no_colon_told : (text : List ℕ) (r : Option (Bor (List ℕ) × Bor (List ℕ))) → IsSplitOnceResult 58 text r → r ≡ None → has_scheme text ≡ false
+no_colon_told text r h is =
+    let none = rw is at (split_parts 58 text r h (omega arith)) in
+    ap (λ b. b && is_scheme (before_first (λ b. b == 58) text)) (list_any_none (λ b. b == 58) text (λ k d l. ap (λ n. n == 58) (get_or_default text k d 0 l) ∙ ne_eqb (get_or text k 0) 58 (none k l)))
 
 pub front_found : (text scheme rest whole path : List ℕ) (k n : ℕ) → text ≡ scheme ++ 58 ∷ rest → list_any (λ b. b == 58) scheme ≡ false → is_absolute (scheme ++ codes ":") ≡ true
     → whole ≡ before_query rest → path ≡ path_of whole → IsBehindSlash path k → (k ≡ 0 → ⊥) → has_dots path ≡ false

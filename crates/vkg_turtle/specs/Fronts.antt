@@ -1,10 +1,10 @@
 -- Where the directories of a base end, and which references are put behind them as they stand.
-use Rattle.std.specs.Prelude.{◌≡◌, ◌≤◌, ◌<◌, ◌-◌, ℕ, Bool, true, false, not, ◌&&◌, ◌||◌, List, [], ◌∷◌, ◌++◌, codes, length, take, drop, get_or, Option, Some, None, ◌==◌, nat_eq}
-use Rattle.std.specs.List.{before_first, list_all, list_any, starts_with}
+use Rattle.std.specs.Prelude.{◌≡◌, ◌≤◌, ◌<◌, ◌-◌, ℕ, Bool, true, false, not, ◌&&◌, ◌||◌, List, [], ◌∷◌, ◌++◌, codes, length, drop, get_or, IfSome, ◌==◌, nat_eq}
+use Rattle.std.specs.List.{before_first, list_any, position_or_len, starts_with}
 use Rattle.std.specs.Str.{bytes_eq}
-use Rattle.vkg_terms.specs.Iri.{is_absolute, is_iri_character, is_one_of, is_scheme}
+use Rattle.vkg_terms.specs.Iri.{has_scheme, is_iri_character, is_one_of, is_scheme}
 use Rattle.vkg_terms.specs.Resolve.{authority_of, is_dot, is_dots, path_of, prefixed, segments}
-use Rattle.vkg_turtle.specs.declared.base.Front.{Front}
+use Rattle.vkg_turtle.specs.declared.places.Places.{Places}
 
 -- RFC 3986, 3.3: what stands before the query and the fragment
 abbrev pub before_query : List ℕ → List ℕ
@@ -65,11 +65,18 @@ pub record HasFront (text : List ℕ) (n : ℕ) : Type 0 where
   pub begins : IsFront front
   pub ends : has_slash (before_query last) ≡ false
 
-abbrev pub IsFrontOf : List ℕ → Option Front → Type 0
-IsFrontOf text None = Unit {0}
-IsFrontOf text (Some f) = HasFront text f.end × (f.is_iri ≡ list_all is_iri_character (take f.end text))
+-- RFC 3986, 3.5: what stands before the fragment
+abbrev pub before_fragment : List ℕ → List ℕ
+before_fragment text = before_first (λ b. b == 35) text
 
--- what a base knows of its text
-pub record IsKnown (text : List ℕ) (front : Option Front) (absolute : Bool) : Type 0 where
-  pub ends : IsFrontOf text front
-  pub is_so : absolute ≡ is_absolute text
+-- how many bytes at the front may stand in an IRI
+abbrev pub iri_length : List ℕ → ℕ
+iri_length text = position_or_len (λ b. not (is_iri_character b)) text
+
+-- what is known of the text of a base
+pub record AreKnown (text : List ℕ) (places : Places) : Type 0 where
+  pub scheme : places.has_scheme ≡ has_scheme text
+  pub front : IfSome places.front (HasFront text)
+  pub path : places.path ≡ length (before_query text)
+  pub query : places.query ≡ length (before_fragment text)
+  pub iri : places.iri ≡ iri_length text

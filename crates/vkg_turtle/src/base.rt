@@ -1,68 +1,45 @@
-ghost use Rattle.std.specs.Prelude.{◌≡◌, [], IfOk, Some, string_bytes};
+ghost use Rattle.std.specs.Prelude.{◌≡◌, ◌++◌, ◌≤◌, [], IfOk, Some, codes, length, nat_eq, string_bytes, take, true, false};
+ghost use Rattle.std.specs.List.{starts_with};
 ghost use Rattle.vkg_terms.specs.Iri.{is_absolute as absolute};
 ghost use Rattle.vkg_terms.specs.Resolve.{resolve as resolved};
-ghost use Rattle.vkg_turtle.specs.Fronts.{IsFrontOf, IsPlain};
+ghost use Rattle.vkg_turtle.specs.Fronts.{AreKnown, IsPlain, before_query};
 
-use crate::front::{front_end, is_iri_text, plain_end};
+use crate::front::plain_end;
+use crate::path::{before_fragment, before_query};
+use crate::places::{Places, places_of};
 use std::alloc::Global;
 use std::marker::Model;
 use vkg_base::Memory;
-use vkg_terms::{is_absolute, resolve};
-
-/// The front of a base: its scheme, its authority and the directories of its path, where no dot segment is among these.
-#[derive(Clone, Copy)]
-pub(crate) struct Front {
-    pub(crate) end: usize,
-    /// Whether it holds only what may stand in an IRI.
-    pub(crate) is_iri: bool,
-}
+use vkg_terms::resolve;
 
 /// The base of a text (RFC 3986, 5.1), which references in it move.
 ///
-/// A reference that begins with a path without dot segments is put behind the directories of the base in place, in time of its
-/// own length, however long the base has become. Any other is resolved against the whole base.
+/// A reference that begins with a path without dot segments is put behind the directories of the base in place, and so is one
+/// without a path behind the path or the query of the base: in time of its own length, however long the base has become. Any
+/// other is resolved against the whole base.
 #[derive(Drop)]
 pub struct Base {
     text: String,
-    front: Option<Front>,
-    is_absolute: bool,
+    places: Places,
 }
 
 impl Model for Base {
     ghost use Rattle.std.specs.Prelude.{List, ℕ, string_bytes};
-    ghost use Rattle.vkg_turtle.specs.Fronts.{IsKnown};
+    ghost use Rattle.vkg_turtle.specs.Fronts.{AreKnown};
 
     ghost Value = { List ℕ };
 
     ghost view = { λ b. string_bytes b.text };
 
-    ghost invariant = { λ b. IsKnown (string_bytes b.text) b.front b.is_absolute };
-}
-
-fn front_of(alloc: Global, text: &str) -> Result<Option<Front>, Memory>
-    ensures { IfOk result (IsFrontOf text.now) }
-{
-    match front_end(alloc, text)? {
-        None => Ok(None),
-        Some(end) => {
-            let (front, _) = text.split_at(end);
-            let is_iri = is_iri_text(alloc, front)?;
-            Ok(Some(Front { end, is_iri }))
-        }
-    }
+    ghost invariant = { λ b. AreKnown (string_bytes b.text) b.places };
 }
 
 /// The base of a text.
 fn of_string(alloc: Global, text: String) -> Result<Base, Memory>
     ensures { IfOk result (λ b. b ≡ string_bytes text) }
 {
-    let front = front_of(alloc, text.as_str())?;
-    let is_absolute = is_absolute(text.as_str());
-    Ok(Base {
-        text,
-        front,
-        is_absolute,
-    })
+    let places = places_of(alloc, text.as_str())?;
+    Ok(Base { text, places })
 }
 
 fn resolved(alloc: Global, base: &str, reference: &str) -> Result<Base, Memory>
@@ -71,46 +48,95 @@ fn resolved(alloc: Global, base: &str, reference: &str) -> Result<Base, Memory>
     of_string(alloc, resolve(alloc, base, reference)?)
 }
 
-/// A plain reference, whose directories end there, in place of what stands behind the front.
-fn put(
-    alloc: Global,
+/// A plain reference behind the front, which ends there and grows by so much.
+fn put_path(
     text: String,
-    front: Front,
+    places: Places,
+    front: usize,
     reference: &str,
     end: usize,
 ) -> Result<Base, Memory>
-    requires front { IsFrontOf (string_bytes text) (Some front) }
+    requires known { AreKnown (string_bytes text) places }
+    requires front { places.front ≡ Some front }
     requires plain { IsPlain reference.now end }
     ensures { IfOk result (λ b. b ≡ resolved (string_bytes text) reference.now) }
 {
-    let (dirs, last) = reference.split_at(end);
-    let are_iri = is_iri_text(alloc, dirs)?;
-    let is_iri = is_iri_text(alloc, last)?;
     let mut text = text;
-    text.truncate(front.end);
+    text.truncate(front);
     text.push_str(reference)?;
-    let front = Front {
-        end: front.end + end,
-        is_iri: front.is_iri && are_iri,
+    let places = Places {
+        has_scheme: true,
+        front: Some(front + end),
+        path: front + before_query(reference).len(),
+        query: front + before_fragment(reference).len(),
+        iri: places.iri_behind(front, reference),
     };
-    Ok(Base {
-        text,
-        front: Some(front),
-        is_absolute: front.is_iri && is_iri,
-    })
+    Ok(Base { text, places })
 }
 
-fn moved_from(
-    alloc: Global,
-    text: String,
-    front: Front,
-    reference: &str,
-) -> Result<Base, Memory>
-    requires { IsFrontOf (string_bytes text) (Some front) }
+/// A reference that begins with a query, behind the path.
+fn put_query(text: String, places: Places, reference: &str) -> Result<Base, Memory>
+    requires known { AreKnown (string_bytes text) places }
+    requires scheme { places.has_scheme ≡ true }
+    requires empty { before_query reference.now ≡ [] }
+    requires query { starts_with nat_eq reference.now (codes "?") ≡ true }
     ensures { IfOk result (λ b. b ≡ resolved (string_bytes text) reference.now) }
 {
+    let mut text = text;
+    text.truncate(places.path);
+    text.push_str(reference)?;
+    let places = Places {
+        query: places.path + before_fragment(reference).len(),
+        iri: places.iri_behind(places.path, reference),
+        ..places
+    };
+    Ok(Base { text, places })
+}
+
+/// A reference that is empty or begins with a fragment, behind the query.
+fn put_fragment(text: String, places: Places, reference: &str) -> Result<Base, Memory>
+    requires known { AreKnown (string_bytes text) places }
+    requires scheme { places.has_scheme ≡ true }
+    requires empty { before_query reference.now ≡ [] }
+    requires fragment { starts_with nat_eq reference.now (codes "?") ≡ false }
+    ensures { IfOk result (λ b. b ≡ resolved (string_bytes text) reference.now) }
+{
+    let mut text = text;
+    text.truncate(places.query);
+    text.push_str(reference)?;
+    let places = Places {
+        iri: places.iri_behind(places.query, reference),
+        ..places
+    };
+    Ok(Base { text, places })
+}
+
+fn put_empty(text: String, places: Places, reference: &str) -> Result<Base, Memory>
+    requires known { AreKnown (string_bytes text) places }
+    requires scheme { places.has_scheme ≡ true }
+    requires empty { before_query reference.now ≡ [] }
+    ensures { IfOk result (λ b. b ≡ resolved (string_bytes text) reference.now) }
+{
+    if reference.starts_with('?') {
+        return put_query(text, places, reference);
+    }
+    put_fragment(text, places, reference)
+}
+
+fn moved_by_path(
+    alloc: Global,
+    text: String,
+    places: Places,
+    reference: &str,
+) -> Result<Base, Memory>
+    requires { AreKnown (string_bytes text) places }
+    ensures { IfOk result (λ b. b ≡ resolved (string_bytes text) reference.now) }
+{
+    let Some(front) = places.front else {
+        return resolved(alloc, text.as_str(), reference);
+    };
     match plain_end(alloc, reference)? {
-        Some(end) => put(alloc, text, front, reference, end),
+        Some(end) => put_path(text, places, front, reference, end),
         None => resolved(alloc, text.as_str(), reference),
     }
 }
@@ -120,10 +146,16 @@ impl Base {
     pub fn empty(alloc: Global) -> Base
         ensures { result ≡ [] }
     {
+        let places = Places {
+            has_scheme: false,
+            front: None,
+            path: 0,
+            query: 0,
+            iri: 0,
+        };
         Base {
             text: String::new(alloc),
-            front: None,
-            is_absolute: false,
+            places,
         }
     }
 
@@ -145,17 +177,17 @@ impl Base {
     pub fn is_absolute(&self) -> bool
         ensures { result ≡ absolute self.now }
     {
-        self.is_absolute
+        self.places.has_scheme && self.places.iri == self.text.len()
     }
 
     /// What a reference stands for against this base, as the next base.
     pub fn moved(self, alloc: Global, reference: &str) -> Result<Base, Memory>
         ensures { IfOk result (λ b. b ≡ resolved self reference.now) }
     {
-        let Base { text, front, .. } = self;
-        match front {
-            Some(front) => moved_from(alloc, text, front, reference),
-            None => resolved(alloc, text.as_str(), reference),
+        let Base { text, places } = self;
+        if places.has_scheme && before_query(reference).is_empty() {
+            return put_empty(text, places, reference);
         }
+        moved_by_path(alloc, text, places, reference)
     }
 }

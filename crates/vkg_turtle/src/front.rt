@@ -1,7 +1,6 @@
 // Where the directories of a base and of a reference end.
 ghost use Rattle.std.specs.Prelude.{◌≡◌, ◌++◌, IfOk, IfSome, codes};
-ghost use Rattle.std.specs.List.{list_all};
-ghost use Rattle.vkg_terms.specs.Iri.{is_absolute as absolute, is_iri_character};
+ghost use Rattle.vkg_terms.specs.Iri.{has_scheme as begins_with_scheme, is_absolute as absolute};
 ghost use Rattle.vkg_turtle.specs.Fronts.{HasFront, IsPlain};
 
 use crate::path::{before_query, behind_slash, has_dots, is_path_noscheme, path_of};
@@ -9,21 +8,22 @@ use std::alloc::Global;
 use vkg_base::Memory;
 use vkg_terms::is_absolute;
 
-/// Whether a text holds only what may stand in an IRI. It is read behind a scheme.
-pub(crate) fn is_iri_text(alloc: Global, text: &str) -> Result<bool, Memory>
-    ensures { IfOk result (λ b. b ≡ list_all is_iri_character text.now) }
-{
-    let mut iri = String::from_str(alloc, "a:")?;
-    iri.push_str(text)?;
-    Ok(is_absolute(iri.as_str()))
-}
-
 fn is_scheme(alloc: Global, scheme: &str) -> Result<bool, Memory>
     ensures { IfOk result (λ b. b ≡ absolute (scheme.now ++ codes ":")) }
 {
     let mut iri = String::from_str(alloc, scheme)?;
     iri.push(':')?;
     Ok(is_absolute(iri.as_str()))
+}
+
+/// Whether a text begins with a scheme and `:`.
+pub(crate) fn has_scheme(alloc: Global, text: &str) -> Result<bool, Memory>
+    ensures { IfOk result (λ b. b ≡ begins_with_scheme text.now) }
+{
+    match text.split_once(':') {
+        Some((scheme, _)) => is_scheme(alloc, scheme),
+        None => Ok(false),
+    }
 }
 
 /// Where the directories of a base end, if it has a scheme, a slash in its path and no dot segment there.

@@ -18,6 +18,7 @@ mod lexeme;
 mod names;
 mod parsing;
 mod path;
+mod places;
 mod prefixes;
 mod reading;
 mod repeats;

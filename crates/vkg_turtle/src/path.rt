@@ -2,7 +2,7 @@
 ghost use Rattle.std.specs.Prelude.{◌≡◌, ◌<◌, ◌≤◌, ◌==◌, IfOk, length, map};
 ghost use Rattle.std.specs.List.{before_first, list_any};
 ghost use Rattle.vkg_terms.specs.Resolve.{from_slash, path_of, segments as segments_of};
-ghost use Rattle.vkg_turtle.specs.Fronts.{IsBehindSlash, before_query, has_dots, is_dot_segment, is_path_noscheme};
+ghost use Rattle.vkg_turtle.specs.Fronts.{IsBehindSlash, before_fragment, before_query, has_dots, is_dot_segment, is_path_noscheme};
 
 use std::alloc::{AllocError, Global};
 use vkg_base::Memory;
@@ -26,6 +26,14 @@ pub(crate) fn before_query(text: &str) -> &str
     ensures within { length result.now ≤ length text.now }
 {
     before(before(text, '#'), '?')
+}
+
+/// What stands before the fragment.
+pub(crate) fn before_fragment(text: &str) -> &str
+    ensures front { result.now ≡ before_fragment text.now }
+    ensures within { length result.now ≤ length text.now }
+{
+    before(text, '#')
 }
 
 fn from_slash(text: &str) -> &str
