@@ -57,7 +57,7 @@ module _ (text : List ℕ) (empty : before_query text ≡ []) where
 
 -- the query of a text that begins with `?`
 some_query : (text : List ℕ) → starts_with nat_eq text (codes "?") ≡ true → (x : List ℕ) × (after 63 (before_first (λ b. b == 35) text) ≡ Some x)
-some_query [] e = cc
+some_query [] e = absurd (cc)
 some_query (x ∷ xs) e =
     let same : 63 ≡ x = eqb-true 63 x (and_parts (nat_eq 63 x) true e).0 in
     subst (λ y. (l : List ℕ) × (after 63 (before_first (λ b. b == 35) (y ∷ xs)) ≡ Some l)) same

@@ -1,8 +1,8 @@
 -- What is known of the text of a base, where the text is cut and goes on with a reference.
-use Rattle.std.proofs.Common.{◌≡◌, ◌∙◌, ◌==◌, ◌||◌, ◌&&◌, ◌++◌, ◌<◌, ◌≤◌, ◌+◌, ◌-◌, ◌⊎◌, inl, inr, ℕ, zero, suc, Bool, true, false, not, nat_lt, List, [], ◌∷◌, length, take, drop, get_or, codes, refl, sym, ap, subst, arith, append_assoc, append-nil, Option, Some, None, nat_eq, length-append, take-append-drop, take_at, eqb-true, IsUtf8, IsCharBoundary, le-ltb}
+use Rattle.std.proofs.Common.{◌≡◌, ◌∙◌, ◌==◌, ◌||◌, ◌&&◌, ◌++◌, ◌<◌, ◌≤◌, ◌+◌, ◌-◌, ◌⊎◌, inl, inr, ℕ, zero, suc, Bool, true, false, not, nat_lt, List, [], ◌∷◌, length, take, drop, get_or, codes, refl, sym, ap, subst, arith, append_assoc, append-nil, Option, Some, None, nat_eq, length-append, take-append-drop, take_at, eqb-true, IsUtf8, IsCharBoundary, lt-ltb, le-ltb, ltb-true, ltb-false, eq-eqb, ne_eqb}
 use Rattle.std.specs.Prelude.{IfSome, if◌then◌else◌}
 use Rattle.std.specs.List.{before_first, list_all, list_any, position_or_len, starts_with}
-use Rattle.std.proofs.lemmas.Bool.{or_from}
+use Rattle.std.proofs.lemmas.Bool.{eqb-false, or_from}
 use Rattle.std.proofs.lemmas.List.Folds.{list_any-append}
 use Rattle.std.proofs.lemmas.List.Sums.{prefix_len-le-length}
 use Rattle.vkg_lists.proofs.Positions.{first_here, first_later}
@@ -31,7 +31,7 @@ module _ (p : ℕ → Bool) where
   before_fits text = omega (arith, length-append (before_first p text) (drop (position_or_len p text) text), ap length (cut_is text))
 
   -- there the text ends, or such a sign stands
-  Ends : List ℕ → ℕ → Type 0
+  abbrev Ends : List ℕ → ℕ → Type 0
   Ends text n = (n ≡ length text) ⊎ (p (get_or text n 0) ≡ true)
 
   ends_by : (x : ℕ) (xs : List ℕ) (b : Bool) → p x ≡ b → Ends xs (length (before_first p xs)) → Ends (x ∷ xs) (length (before_first p (x ∷ xs)))
@@ -45,7 +45,7 @@ module _ (p : ℕ → Bool) where
 
   boundary_by : (text : List ℕ) (n : ℕ) → n ≤ length text → ((c : ℕ) → p c ≡ true → c < 128) → Ends text n → IsCharBoundary text n
   boundary_by text n l low (inl e) = (l, λ k m. absurd (omega (arith, e, k)))
-  boundary_by text n l low (inr e) = (l, λ k m. absurd (let small = low (get_or text n 0) e in omega (arith, small, m)))
+  boundary_by text n l low (inr e) = (l, λ k m. absurd (let high : 128 ≤ get_or text n 0 = m in let small = low (get_or text n 0) e in omega (arith, small, high)))
 
   sign_boundary : ((c : ℕ) → p c ≡ true → c < 128) → (text : List ℕ) (n : ℕ) → n ≡ length (before_first p text) → IsCharBoundary text n
   sign_boundary low text n e = subst (IsCharBoundary text) (sym e) (boundary_by text (length (before_first p text)) (before_fits text) low (ends text))
@@ -67,14 +67,14 @@ abbrev outside : ℕ → Bool
 outside b = not (is_iri_character b)
 
 lower : (a n b : ℕ) (t : Bool) → nat_lt a n ≡ t → suc (if t then a else n + b) ≡ (if nat_lt (suc a) (suc n) then suc a else suc n + b)
-lower a n b true e = sym (ap (λ t. if t then suc a else suc n + b) e)
-lower a n b false e = (let one : suc (n + b) ≡ suc n + b = omega arith in one) ∙ sym (ap (λ t. if t then suc a else suc n + b) e)
+lower a n b true e = sym (ap (λ t. if t then suc a else suc n + b) (lt-ltb (suc a) (suc n) (omega (arith, ltb-true a n e))))
+lower a n b false e = (let one : suc (n + b) ≡ suc n + b = omega arith in one) ∙ sym (ap (λ t. if t then suc a else suc n + b) (le-ltb (suc a) (suc n) (omega (arith, ltb-false a n e))))
 
 put_by : (x n : ℕ) (xs tail : List ℕ) (t : Bool) → outside x ≡ t → iri_length (take n xs ++ tail) ≡ (if nat_lt (iri_length xs) n then iri_length xs else n + iri_length tail)
     → iri_length (x ∷ (take n xs ++ tail)) ≡ (if nat_lt (iri_length (x ∷ xs)) (suc n) then iri_length (x ∷ xs) else suc n + iri_length tail)
 put_by x n xs tail true e h =
     first_here outside x (take n xs ++ tail) e
-    ∙ sym (ap (λ k. if nat_lt k (suc n) then k else suc n + iri_length tail) (first_here outside x xs e))
+    ∙ sym (ap (λ k. if nat_lt k (suc n) then k else suc n + iri_length tail) (first_here outside x xs e) ∙ ap (λ t. if t then 0 else suc n + iri_length tail) (lt-ltb 0 (suc n) (omega arith)))
 put_by x n xs tail false e h =
     first_later outside x (take n xs ++ tail) e
     ∙ ap suc h
@@ -86,9 +86,13 @@ iri_put zero xs tail l = (let none : 0 + iri_length tail ≡ iri_length tail = o
 iri_put (suc n) [] tail l = absurd (omega (arith, l))
 iri_put (suc n) (x ∷ xs) tail l = put_by x n xs tail (outside x) refl (iri_put n xs tail (omega (arith, l)))
 
+eq_by : (a b : ℕ) (t : Bool) → (a == b) ≡ t → t ≡ (suc a == suc b)
+eq_by a b true e = sym (eq-eqb (suc a) (suc b) (ap suc (eqb-true a b e)))
+eq_by a b false e = sym (ne_eqb (suc a) (suc b) (λ q. eqb-false a b e (omega (arith, q))))
+
 all_by : (x : ℕ) (xs : List ℕ) (t : Bool) → is_iri_character x ≡ t → list_all is_iri_character xs ≡ (iri_length xs == length xs) → (t && list_all is_iri_character xs) ≡ (iri_length (x ∷ xs) == suc (length xs))
-all_by x xs true e h = h ∙ sym (ap (λ k. k == suc (length xs)) (first_later outside x xs (ap not e)))
-all_by x xs false e h = sym (ap (λ k. k == suc (length xs)) (first_here outside x xs (ap not e)))
+all_by x xs true e h = h ∙ eq_by (iri_length xs) (length xs) (iri_length xs == length xs) refl ∙ sym (ap (λ k. k == suc (length xs)) (first_later outside x xs (ap not e)))
+all_by x xs false e h = sym (ap (λ k. k == suc (length xs)) (first_here outside x xs (ap not e)) ∙ ne_eqb 0 (suc (length xs)) (λ q. omega (arith, q)))
 
 all_iri : (text : List ℕ) → list_all is_iri_character text ≡ (iri_length text == length text)
 all_iri [] = refl
