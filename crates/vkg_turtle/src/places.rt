@@ -1,5 +1,5 @@
 // What is known of the text of a base.
-ghost use Rattle.std.specs.Prelude.{◌≡◌, ◌<◌, ◌≤◌, ◌+◌, IfOk, if◌then◌else◌, length, not, nat_lt};
+ghost use Rattle.std.specs.Prelude.{◌≡◌, ◌<◌, ◌≤◌, ◌+◌, ◌^◌, IfOk, if◌then◌else◌, length, not, nat_lt};
 ghost use Rattle.std.specs.List.{position, position_or_len};
 ghost use Rattle.vkg_terms.specs.Iri.{is_iri_character as iri_character};
 ghost use Rattle.vkg_turtle.specs.Fronts.{AreKnown, iri_length};
