@@ -13,9 +13,15 @@ truncate-requires c = λ l. let b = front_boundary (string_bytes c.args.text) c.
 pub invariant_of-result : goal.invariant_of-result
 invariant_of-result c =
     let is_iri : c.if-front.front ≡ (c.args.front.is_iri && c.in_ok-are_iri.are_iri) =
-    elim c.if-front.branch [ then-front w ↦ cc (w.front-is, w.if-front.true) | else-front w ↦ cc (w.front-is, w.if-front.false) ] in
+    elim c.if-front.branch [
+      | then-front w ↦ w.front-is ∙ sym (ap (λ b. b && c.in_ok-are_iri.are_iri) w.if-front.true)
+      | else-front w ↦ w.front-is ∙ w.if-front.false ∙ sym (ap (λ b. b && c.in_ok-are_iri.are_iri) w.if-front.false)
+    ] in
     let absolute : c.if-front-2.result ≡ ((c.args.front.is_iri && c.in_ok-are_iri.are_iri) && c.in_ok-is_iri.is_iri) =
-    elim c.if-front-2.branch [ then-front-2 w ↦ cc (is_iri, w.result-is, w.if-front-2.true) | else-front-2 w ↦ cc (is_iri, w.result-is, w.if-front-2.false) ] in
+    elim c.if-front-2.branch [
+      | then-front-2 w ↦ w.result-is ∙ sym (ap (λ b. b && c.in_ok-is_iri.is_iri) (sym is_iri ∙ w.if-front-2.true))
+      | else-front-2 w ↦ w.result-is ∙ w.if-front-2.false ∙ sym (ap (λ b. b && c.in_ok-is_iri.is_iri) (sym is_iri ∙ w.if-front-2.false))
+    ] in
     known_as is_iri absolute (put_known (string_bytes c.args.text) c.args.front c.requires.front c.args.reference.now c.args.end c.requires.plain _ _ _
     (c.in_ok-push_str.ensures.bytes ∙ ap (λ (l : List ℕ). l ++ c.args.reference.now) c.truncate.ensures.bytes)
     c.split_at.ensures.front c.split_at.ensures.back _ _ c.in_ok-are_iri.ensures c.in_ok-is_iri.ensures)
