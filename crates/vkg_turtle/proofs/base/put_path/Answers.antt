@@ -15,7 +15,7 @@ invariant_of-result c =
     let h = rw c.requires.front at c.requires.known.front in
     path_known (string_bytes c.args.text) c.args.places c.requires.known c.args.front h c.args.reference.now c.args.end c.requires.plain _
     (c.in_ok-push_str.ensures.bytes ∙ ap (λ (l : List ℕ). l ++ c.args.reference.now) c.truncate.ensures.bytes)
-    _ _ _ (c.len.ensures ∙ ap length c.before_query.ensures.front) (c.len-2.ensures ∙ ap length c.before_fragment.ensures.front) c.iri_behind.ensures
+    _ _ _ (ap length c.before_query.ensures.front) (ap length c.before_fragment.ensures.front) c.iri_behind.ensures
 
 pub returns : goal.returns
 returns c =

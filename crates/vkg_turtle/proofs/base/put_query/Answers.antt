@@ -9,7 +9,7 @@ pub invariant_of-result : goal.invariant_of-result
 invariant_of-result c =
     query_known (string_bytes c.args.text) c.args.reference.now c.requires.empty c.args.places c.requires.known c.requires.scheme _
     (c.in_ok-push_str.ensures.bytes ∙ ap (λ (l : List ℕ). l ++ c.args.reference.now) c.truncate.ensures.bytes)
-    _ _ (c.len.ensures ∙ ap length c.before_fragment.ensures.front) c.iri_behind.ensures
+    _ _ (ap length c.before_fragment.ensures.front) c.iri_behind.ensures
 
 pub returns : goal.returns
 returns c =
