@@ -44,6 +44,8 @@ use Rattle.vkg_sure.specs.FirstKnown.{first_known}
 use Rattle.vkg_sure.specs.FirstKnownLaw.{first_known-falls, first_known-keeps}
 use Rattle.vkg_sure.specs.SureNull.{sure_null}
 use Rattle.vkg_sure.specs.SureNullLaw.{sure_null-falls, sure_null-keeps}
+use Rattle.vkg_sure.specs.TermComparison.{term_comparison}
+use Rattle.vkg_sure.specs.TermComparisonLaw.{term_comparison-falls, term_comparison-keeps}
 use Rattle.vkg_unions.specs.DistinctDistinct.{distinct_distinct}
 use Rattle.vkg_unions.specs.DistinctDistinctLaw.{distinct_distinct-falls, distinct_distinct-keeps}
 use Rattle.vkg_unions.specs.EqualMembers.{equal_members}
@@ -93,9 +95,9 @@ first_rules =
     (either removals
     conditions))))))
 
--- rules of our own: on what is never NULL, and on left joins over keys
+-- rules of our own: on what is sure of an expression, and on left joins over keys
 unfoldable pub own_rules : Rule
-own_rules = either sure_null (either first_known (either self_left reference_left))
+own_rules = either sure_null (either first_known (either term_comparison (either self_left reference_left)))
 
 -- all rules in the order in which they are asked, our own behind the others
 unfoldable pub all_rules : Rule
@@ -217,14 +219,16 @@ unfolding own_rules
 own_rules-keep =
     either-keeps sure_null _ sure_null-keeps
     (either-keeps first_known _ first_known-keeps
-    (either-keeps self_left reference_left self_left-keeps reference_left-keeps))
+    (either-keeps term_comparison _ term_comparison-keeps
+    (either-keeps self_left reference_left self_left-keeps reference_left-keeps)))
 
 own_rules-fall : FallsAll own_rules
 unfolding own_rules
 own_rules-fall =
     either-falls sure_null _ sure_null-falls
     (either-falls first_known _ first_known-falls
-    (either-falls self_left reference_left self_left-falls reference_left-falls))
+    (either-falls term_comparison _ term_comparison-falls
+    (either-falls self_left reference_left self_left-falls reference_left-falls)))
 
 pub rules-keep : KeepsAll all_rules
 unfolding all_rules

@@ -13,7 +13,7 @@ use vkg_nulls::SimplifyNull;
 use vkg_rules::{Either, Rewrite};
 use vkg_shapes::{FalseCondition, FewMembers, FlatUnion, PropagateEmpty, SelectTrue};
 use vkg_spreads::DistributeUnion;
-use vkg_sure::{FirstKnown, SureNull};
+use vkg_sure::{FirstKnown, SureNull, TermComparison};
 use vkg_unions::{DistinctDistinct, EqualMembers};
 use vkg_unique::{DistinctUnique, UnusedLeft};
 
@@ -50,8 +50,11 @@ pub type LeftJoins = Either<LeftToJoin, Either<EqualMembers, UnusedLeft>>;
 /// The rules on conditions: equalities of terms, what is decided, and tests for NULL.
 pub type Conditions = Either<TermEquality, Either<SimplifyCondition, SimplifyNull>>;
 
-/// Rules of our own: on what is never NULL, and on left joins over keys.
-pub type OwnRules = Either<SureNull, Either<FirstKnown, Either<SelfLeft, ReferenceLeft>>>;
+/// Rules of our own: on what is sure of an expression, and on left joins over keys.
+pub type OwnRules = Either<SureNull, Either<FirstKnown, Either<TermComparison, KeyLefts>>>;
+
+/// Those on left joins over keys.
+pub type KeyLefts = Either<SelfLeft, ReferenceLeft>;
 
 /// The rules in their order.
 #[tactic(auto, unfolding(crate::specs::NormalForm::all_rules))]
@@ -143,7 +146,8 @@ fn own_rules() -> OwnRules
     ensures { ⟦<OwnRules as Rewrite>⟧.becomes result ≡ all_own_rules }
 {
     let lefts = or_else(SelfLeft, ReferenceLeft);
-    let known = or_else(FirstKnown, lefts);
+    let compared = or_else(TermComparison, lefts);
+    let known = or_else(FirstKnown, compared);
     or_else(SureNull, known)
 }
 

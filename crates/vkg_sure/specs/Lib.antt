@@ -6,3 +6,5 @@ pub mod NeverNullLaw
 pub mod SureNull
 pub mod SureNullLaw
 pub mod ToldAt
+pub mod TermComparison
+pub mod TermComparisonLaw

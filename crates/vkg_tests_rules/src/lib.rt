@@ -12,6 +12,8 @@
 #[cfg(test)]
 mod made;
 #[cfg(test)]
+mod of_comparisons;
+#[cfg(test)]
 mod of_conditions;
 #[cfg(test)]
 mod of_equalities;
