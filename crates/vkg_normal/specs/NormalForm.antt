@@ -42,6 +42,8 @@ use Rattle.vkg_spreads.specs.DistributeUnion.{distribute_union}
 use Rattle.vkg_spreads.specs.DistributeUnionLaw.{distribute_union-falls, distribute_union-keeps}
 use Rattle.vkg_sure.specs.FirstKnown.{first_known}
 use Rattle.vkg_sure.specs.FirstKnownLaw.{first_known-falls, first_known-keeps}
+use Rattle.vkg_sure.specs.KnownMember.{known_member}
+use Rattle.vkg_sure.specs.KnownMemberLaw.{known_member-falls, known_member-keeps}
 use Rattle.vkg_sure.specs.SureNull.{sure_null}
 use Rattle.vkg_sure.specs.SureNullLaw.{sure_null-falls, sure_null-keeps}
 use Rattle.vkg_sure.specs.TermComparison.{term_comparison}
@@ -97,7 +99,7 @@ first_rules =
 
 -- rules of our own: on what is sure of an expression, and on left joins over keys
 unfoldable pub own_rules : Rule
-own_rules = either sure_null (either first_known (either term_comparison (either self_left reference_left)))
+own_rules = either sure_null (either first_known (either known_member (either term_comparison (either self_left reference_left))))
 
 -- all rules in the order in which they are asked, our own behind the others
 unfoldable pub all_rules : Rule
@@ -219,16 +221,18 @@ unfolding own_rules
 own_rules-keep =
     either-keeps sure_null _ sure_null-keeps
     (either-keeps first_known _ first_known-keeps
+    (either-keeps known_member _ known_member-keeps
     (either-keeps term_comparison _ term_comparison-keeps
-    (either-keeps self_left reference_left self_left-keeps reference_left-keeps)))
+    (either-keeps self_left reference_left self_left-keeps reference_left-keeps))))
 
 own_rules-fall : FallsAll own_rules
 unfolding own_rules
 own_rules-fall =
     either-falls sure_null _ sure_null-falls
     (either-falls first_known _ first_known-falls
+    (either-falls known_member _ known_member-falls
     (either-falls term_comparison _ term_comparison-falls
-    (either-falls self_left reference_left self_left-falls reference_left-falls)))
+    (either-falls self_left reference_left self_left-falls reference_left-falls))))
 
 pub rules-keep : KeepsAll all_rules
 unfolding all_rules

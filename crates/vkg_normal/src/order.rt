@@ -13,7 +13,7 @@ use vkg_nulls::SimplifyNull;
 use vkg_rules::{Either, Rewrite};
 use vkg_shapes::{FalseCondition, FewMembers, FlatUnion, PropagateEmpty, SelectTrue};
 use vkg_spreads::DistributeUnion;
-use vkg_sure::{FirstKnown, SureNull, TermComparison};
+use vkg_sure::{FirstKnown, KnownMember, SureNull, TermComparison};
 use vkg_unions::{DistinctDistinct, EqualMembers};
 use vkg_unique::{DistinctUnique, UnusedLeft};
 
@@ -51,7 +51,10 @@ pub type LeftJoins = Either<LeftToJoin, Either<EqualMembers, UnusedLeft>>;
 pub type Conditions = Either<TermEquality, Either<SimplifyCondition, SimplifyNull>>;
 
 /// Rules of our own: on what is sure of an expression, and on left joins over keys.
-pub type OwnRules = Either<SureNull, Either<FirstKnown, Either<TermComparison, KeyLefts>>>;
+pub type OwnRules = Either<
+    SureNull,
+    Either<FirstKnown, Either<KnownMember, Either<TermComparison, KeyLefts>>>,
+>;
 
 /// Those on left joins over keys.
 pub type KeyLefts = Either<SelfLeft, ReferenceLeft>;
@@ -147,7 +150,8 @@ fn own_rules() -> OwnRules
 {
     let lefts = or_else(SelfLeft, ReferenceLeft);
     let compared = or_else(TermComparison, lefts);
-    let known = or_else(FirstKnown, compared);
+    let told = or_else(KnownMember, compared);
+    let known = or_else(FirstKnown, told);
     or_else(SureNull, known)
 }
 

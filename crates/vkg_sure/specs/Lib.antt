@@ -8,3 +8,5 @@ pub mod SureNullLaw
 pub mod ToldAt
 pub mod TermComparison
 pub mod TermComparisonLaw
+pub mod KnownMember
+pub mod KnownMemberLaw

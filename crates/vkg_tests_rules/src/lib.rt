@@ -36,6 +36,8 @@ mod of_spreads;
 #[cfg(test)]
 mod of_sure;
 #[cfg(test)]
+mod of_told;
+#[cfg(test)]
 mod of_unions;
 #[cfg(test)]
 mod of_unique;
