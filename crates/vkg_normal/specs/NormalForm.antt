@@ -14,10 +14,14 @@ use Rattle.vkg_key_joins.specs.ParentJoin.{parent_join}
 use Rattle.vkg_key_joins.specs.ParentJoinLaw.{parent_join-falls, parent_join-keeps}
 use Rattle.vkg_key_joins.specs.SelfJoin.{self_join}
 use Rattle.vkg_key_joins.specs.SelfJoinLaw.{self_join-falls, self_join-keeps}
+use Rattle.vkg_key_lefts.specs.ParentLeft.{parent_left}
+use Rattle.vkg_key_lefts.specs.ParentLeftLaw.{parent_left-falls, parent_left-keeps}
 use Rattle.vkg_key_lefts.specs.ReferenceLeft.{reference_left}
 use Rattle.vkg_key_lefts.specs.ReferenceLeftLaw.{reference_left-falls, reference_left-keeps}
 use Rattle.vkg_key_lefts.specs.SelfLeft.{self_left}
 use Rattle.vkg_key_lefts.specs.SelfLeftLaw.{self_left-falls, self_left-keeps}
+use Rattle.vkg_key_lefts.specs.SelfLeftMember.{self_left_member}
+use Rattle.vkg_key_lefts.specs.SelfLeftMemberLaw.{self_left_member-falls, self_left_member-keeps}
 use Rattle.vkg_lifts.specs.LiftProjects.{lift_projects}
 use Rattle.vkg_lifts.specs.LiftProjectsLaw.{lift_projects-falls, lift_projects-keeps}
 use Rattle.vkg_moves.specs.LeftToJoin.{left_to_join}
@@ -99,7 +103,7 @@ first_rules =
 
 -- rules of our own: on what is sure of an expression, and on left joins over keys
 unfoldable pub own_rules : Rule
-own_rules = either sure_null (either first_known (either known_member (either term_comparison (either self_left reference_left))))
+own_rules = either sure_null (either first_known (either known_member (either term_comparison (either self_left (either self_left_member (either parent_left reference_left))))))
 
 -- all rules in the order in which they are asked, our own behind the others
 unfoldable pub all_rules : Rule
@@ -223,7 +227,9 @@ own_rules-keep =
     (either-keeps first_known _ first_known-keeps
     (either-keeps known_member _ known_member-keeps
     (either-keeps term_comparison _ term_comparison-keeps
-    (either-keeps self_left reference_left self_left-keeps reference_left-keeps))))
+    (either-keeps self_left _ self_left-keeps
+    (either-keeps self_left_member _ self_left_member-keeps
+    (either-keeps parent_left reference_left parent_left-keeps reference_left-keeps))))))
 
 own_rules-fall : FallsAll own_rules
 unfolding own_rules
@@ -232,7 +238,9 @@ own_rules-fall =
     (either-falls first_known _ first_known-falls
     (either-falls known_member _ known_member-falls
     (either-falls term_comparison _ term_comparison-falls
-    (either-falls self_left reference_left self_left-falls reference_left-falls))))
+    (either-falls self_left _ self_left-falls
+    (either-falls self_left_member _ self_left_member-falls
+    (either-falls parent_left reference_left parent_left-falls reference_left-falls))))))
 
 pub rules-keep : KeepsAll all_rules
 unfolding all_rules

@@ -6,7 +6,7 @@ use vkg_conditions::SimplifyCondition;
 use vkg_equalities::TermEquality;
 use vkg_joins::JoinInJoin;
 use vkg_key_joins::{ParentJoin, SelfJoin};
-use vkg_key_lefts::{ReferenceLeft, SelfLeft};
+use vkg_key_lefts::{ParentLeft, ReferenceLeft, SelfLeft, SelfLeftMember};
 use vkg_lifts::LiftProjects;
 use vkg_moves::{LeftToJoin, MergeProjects, MergeSelects};
 use vkg_nulls::SimplifyNull;
@@ -57,7 +57,7 @@ pub type OwnRules = Either<
 >;
 
 /// Those on left joins over keys.
-pub type KeyLefts = Either<SelfLeft, ReferenceLeft>;
+pub type KeyLefts = Either<SelfLeft, Either<SelfLeftMember, Either<ParentLeft, ReferenceLeft>>>;
 
 /// The rules in their order.
 #[tactic(auto, unfolding(crate::specs::NormalForm::all_rules))]
@@ -148,7 +148,9 @@ fn conditions() -> Conditions
 fn own_rules() -> OwnRules
     ensures { ⟦<OwnRules as Rewrite>⟧.becomes result ≡ all_own_rules }
 {
-    let lefts = or_else(SelfLeft, ReferenceLeft);
+    let references = or_else(ParentLeft, ReferenceLeft);
+    let members = or_else(SelfLeftMember, references);
+    let lefts = or_else(SelfLeft, members);
     let compared = or_else(TermComparison, lefts);
     let told = or_else(KnownMember, compared);
     let known = or_else(FirstKnown, told);
