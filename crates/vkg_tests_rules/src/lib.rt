@@ -12,6 +12,8 @@
 #[cfg(test)]
 mod made;
 #[cfg(test)]
+mod of_comparisons;
+#[cfg(test)]
 mod of_conditions;
 #[cfg(test)]
 mod of_equalities;
@@ -33,6 +35,8 @@ mod of_shapes;
 mod of_spreads;
 #[cfg(test)]
 mod of_sure;
+#[cfg(test)]
+mod of_told;
 #[cfg(test)]
 mod of_unions;
 #[cfg(test)]
