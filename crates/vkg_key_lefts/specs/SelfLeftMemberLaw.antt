@@ -86,7 +86,7 @@ cond-both true b xs = refl
 cond-both false b xs = refl
 
 drop-place : (n : ℕ) (es : List Expr) (at : ℕ) → at_place (drop n es) at ≡ at_place es (n + at)
-drop-place zero es at = ap (at_place es) (omega arith)
+drop-place zero es at = let same : at ≡ zero + at = omega arith in ap (at_place es) same
 drop-place (suc n) [] at = refl
 drop-place (suc n) (e ∷ es) at =
     let next : suc (n + at) ≡ suc n + at = omega arith in
@@ -503,8 +503,8 @@ module _ (s : Tables) (form : IsWellFormed s) (p : Plan) (b a : List Plan) (d c 
   positive_times : (u q : ℕ) → 0 < u → 0 < q → 0 < u * q
   positive_times u q h k = let l = mul-lt-mul_of_pos_right h k in omega (arith, l)
 
-  again-falls : Falls s (Project es (Left p right c)) (over_others names es p n (b ++ a) d c)
-  again-falls =
+  again-weight : 3 * (4 * weight p * (3 * weights_product (plans (b ++ a))) + 1) + 1 < 3 * (4 * weight p * weight right + 1) + 1
+  again-weight =
       let old : weight right ≡ 3 * (4 * weights_product (plans (b ++ a))) = ap (λ q. 3 * q) (without-weight b x.table a) in
       let big : 4 * weight p * weight right ≡ 4 * (4 * weight p * (3 * weights_product (plans (b ++ a)))) =
       ap (λ q. 4 * weight p * q) old ∙ times_four (4 * weight p) (weights_product (plans (b ++ a))) in
@@ -512,6 +512,9 @@ module _ (s : Tables) (form : IsWellFormed s) (p : Plan) (b a : List Plan) (d c 
       let second = product_positive (plans (b ++ a)) in
       let some = positive_times (4 * weight p) (3 * weights_product (plans (b ++ a))) (omega (arith, first)) (omega (arith, second)) in
       omega (arith, big, some)
+
+  again-falls : Falls s (Project es (Left p right c)) (over_others names es p n (b ++ a) d c)
+  again-falls = again-weight
 
 -- ---- the rule
 
