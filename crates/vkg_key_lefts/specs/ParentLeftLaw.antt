@@ -71,7 +71,7 @@ use Rattle.vkg_key_lefts.specs.ParentLeft.{asks_no_more, is_at, is_child, tests_
 use Rattle.vkg_key_lefts.specs.ReferenceLeft.{ties_pair}
 use Rattle.vkg_key_lefts.specs.ReferenceLeftLaw.{child-known, met, pair-holds}
 use Rattle.vkg_key_lefts.specs.SelfLeft.{is_left, says_known}
-use Rattle.vkg_key_lefts.specs.SelfLeftLaw.{says-holds}
+use Rattle.vkg_key_lefts.specs.SelfLeftLaw.{left-weight, says-holds}
 use Rattle.vkg_key_lefts.specs.Standing.{standing}
 use Rattle.vkg_key_lefts.specs.StandingLaw.{HasRow, HasTable, checked-given, has-row, has-table, standing-cell}
 use Rattle.vkg_key_lefts.specs.Tables.{is_full_at, references_of}
@@ -91,6 +91,9 @@ kinds-pair : (o q : Option Column) → is_one_kind o q ≡ true → option_map (
 kinds-pair None q e = cc
 kinds-pair (Some c) None e = cc
 kinds-pair (Some c) (Some d) e = ap Some (eq_same kinds_apart c.kind d.kind e)
+
+one-kinds : (cs ds es fs : List Column) (pairs : List (ℕ × ℕ)) → cs ≡ es → ds ≡ fs → list_all (is_of_one_kind cs ds) pairs ≡ true → list_all (is_of_one_kind es fs) pairs ≡ true
+one-kinds cs ds es fs pairs e f h = (λ i. list_all (is_of_one_kind (sym e i) (sym f i)) pairs) ∙ h
 
 child-says : (n : ℕ) (pairs : List (ℕ × ℕ)) (c : Expr) → tests_child n pairs c ≡ true → says_known (is_child n pairs) c ≡ true
 child-says n pairs (Not e) h = h
@@ -435,10 +438,6 @@ module _ (s : Tables) (form : IsWellFormed s) (p : Plan) (c : Expr) (es : List E
 
 -- ---- the rule
 
--- 48w + 4 falls to 3w + 1
-left-weight : (w : ℕ) → 3 * w + 1 < 3 * (4 * w * 4 + 1) + 1
-left-weight w = omega arith
-
 with-keeps : (s : Tables) → IsWellFormed s → (es : List Expr) (p : Plan) (c : Expr) (q : Plan) (r : Step) → IsTyped s (Project es (Left p q c)) → with_right s es p c q ≡ Some r → Keeps s (Project es (Left p q c)) r.0
 with-keeps s form es p c (Scan table) r t e =
     let f = made-given (λ x. first_made (without_parent s es p table c x) (references_of s x.table)) (standing s [] p) r e in
@@ -464,7 +463,7 @@ with-keeps s form es p c (Scan table) r t e =
     subst (λ z. Keeps s (Project es (Left p (Scan z) c)) r.0) is
     (subst (λ (z : Step). Keeps s (Project es (Left p (Scan reference.table) c)) z.0) (ap made is ∙ v.1)
     (unused-keeps s form p c es x f.1 child.0 child.1 reference child.2 parent.0 parent.1
-    ((λ i. list_all (is_of_one_kind (sym of_columns i) (sym to_columns i)) reference.pairs) ∙ h.1) d.0 h.0
+    (one-kinds (columns_of s x.table) (columns_of s table) child.0.columns parent.0.columns reference.pairs of_columns to_columns h.1) d.0 h.0
     (subst (λ z. IsTyped s (Project es (Left p (Scan z) c))) (sym is) t)
     (subst (λ z. list_all (is_kept s x reference.pairs (named_left s (width s p) z x reference.pairs) (width s p) (width s (Scan z))) es ≡ true) (sym is) a.1)))
   where

@@ -66,20 +66,13 @@ use Rattle.vkg_key_lefts.specs.declared.standing.StandingScan.{StandingScan}
 use Rattle.vkg_key_lefts.specs.LeftRows.{left-by_rows, with_partners, without_partner}
 use Rattle.vkg_key_lefts.specs.SelfLeft.{ties_key}
 use Rattle.vkg_key_lefts.specs.Nulls.{behind-null, null-is, nulls, nulls-append, nulls-fit, nulls-long, or-true, strict-back}
+use Rattle.vkg_key_lefts.specs.SelfLeftLaw.{itself-each}
 use Rattle.vkg_key_lefts.specs.SelfLeftMember.{both_conditions, columns_before, is_again, is_between, is_kept, is_null_behind, named_left, over_left, over_others, self_left_member, with_right, without_again}
 use Rattle.vkg_key_lefts.specs.Standing.{standing}
-use Rattle.vkg_key_lefts.specs.StandingLaw.{HasRow, HasTable, checked-given, has-row, has-table, standing-cell}
+use Rattle.vkg_key_lefts.specs.StandingLaw.{HasRow, HasTable, checked-given, has-row, has-table, regrouped, standing-cell}
 use Rattle.vkg_key_lefts.specs.Tables.{keys_of}
 
 -- ---- small steps
-
--- each pair of a column with itself
-itself-each : (P : (ℕ × ℕ) → Type 0) (m : ℕ) (columns : List ℕ) → AllBelow m columns → ((k : ℕ) → k < m → P (k, k)) → AllByRecursion P (with_itself columns)
-itself-each P m [] h f = tt
-itself-each P m (k ∷ columns) h f = (f k h.0, itself-each P m columns h.1 f)
-
-regrouped : (k l m o : Kinds) → (k ++ (l ++ m)) ++ o ≡ k ++ (l ++ (m ++ o))
-regrouped k l m o = append_assoc k (l ++ m) o ∙ ap (λ r. k ++ r) (append_assoc l m o)
 
 cond-both : {B : Type 0} (a b : Bool) (xs : List B) → cond a (cond b xs []) [] ≡ cond (a && b) xs []
 cond-both true b xs = refl
