@@ -1,5 +1,5 @@
--- Other plans than one, the columns of one side, a column behind others, and the condition that is true.
-use Rattle.std.proofs.Common.{◌≡◌, ◌||◌, ◌&&◌, ◌+◌, ◌-◌, ℕ, true, nat_le, nat_lt, List, [], ◌∷◌, ◌++◌, drop, length, map, sym, ap, arith}
+-- Other plans than one, a Scan, the columns of one side, a column behind others, and the condition that is true.
+use Rattle.std.proofs.Common.{◌≡◌, ◌∙◌, ◌||◌, ◌&&◌, ◌+◌, ◌-◌, ℕ, true, nat_le, nat_lt, List, [], ◌∷◌, ◌++◌, drop, length, map, sym, ap, arith}
 use Rattle.std.specs.Cmp.{both_ways}
 use Rattle.std.specs.Prelude.{nat_eq}
 use Rattle.std.proofs.lemmas.Bool.{eq-eqb, eqb-true, le-leb, leb-true, lt-ltb}
@@ -13,7 +13,15 @@ use Rattle.vkg_expr.specs.declared.expr.Expr.TheVariants as value
 use Rattle.vkg_expr.specs.Logic.{truth_const}
 use Rattle.vkg_expr.specs.Seen.{expr_seen}
 use Rattle.vkg_plan.specs.declared.plan.Plan.{Plan as PlanValue}
-use Rattle.vkg_plan.specs.Seen.{plan_seen}
+use Rattle.vkg_plan.specs.declared.plan.Plan.TheFolds.{fold-roll-Plan}
+use Rattle.vkg_plan.specs.declared.plan.Plan.TheOpen.{Plan-F}
+use Rattle.vkg_plan.specs.declared.plan.Plan.TheVariants as plan
+use Rattle.vkg_plan.specs.declared.plan.Plan.TheVariants.{rolls-Scan}
+use Rattle.vkg_plan.specs.Plan.{Plan, Scan}
+use Rattle.vkg_plan.specs.Seen.{plan_seen, plan_step}
+
+pub seen-Scan : (table : ℕ) → plan_seen (plan.Scan table) ≡ Scan table
+seen-Scan table = ap plan_seen (sym (rolls-Scan table)) ∙ fold-roll-Plan Plan plan_step (Plan-F.Scan table)
 
 pub some_others : (xs ys : List PlanValue) → nat_lt 0 (length (map plan_seen xs ++ map plan_seen ys)) ≡ (nat_lt 0 (length xs) || nat_lt 0 (length ys))
 some_others [] ys = ap (nat_lt 0) (length-map ys plan_seen)

@@ -2,11 +2,11 @@ pub mod Tables
 pub mod Standing
 pub mod StandingLaw
 pub mod LeftRows
+pub mod Nulls
 pub mod SelfLeft
 pub mod SelfLeftLaw
 pub mod ReferenceLeft
 pub mod ReferenceLeftLaw
-pub mod Nulls
 pub mod SelfLeftMember
 pub mod SelfLeftMemberLaw
 pub mod ParentLeft

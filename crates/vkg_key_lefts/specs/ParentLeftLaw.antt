@@ -71,7 +71,7 @@ use Rattle.vkg_key_lefts.specs.ParentLeft.{asks_no_more, is_at, is_child, tests_
 use Rattle.vkg_key_lefts.specs.ReferenceLeft.{ties_pair}
 use Rattle.vkg_key_lefts.specs.ReferenceLeftLaw.{child-known, met, pair-holds}
 use Rattle.vkg_key_lefts.specs.SelfLeft.{is_left, says_known}
-use Rattle.vkg_key_lefts.specs.SelfLeftLaw.{says-holds}
+use Rattle.vkg_key_lefts.specs.SelfLeftLaw.{left-weight, says-holds}
 use Rattle.vkg_key_lefts.specs.Standing.{standing}
 use Rattle.vkg_key_lefts.specs.StandingLaw.{HasRow, HasTable, checked-given, has-row, has-table, standing-cell}
 use Rattle.vkg_key_lefts.specs.Tables.{is_full_at, references_of}
@@ -79,11 +79,11 @@ use Rattle.vkg_key_lefts.specs.Tables.{is_full_at, references_of}
 -- ---- small steps
 
 -- what is true of columns below n, of the first of each pair
-first-each : (P : ℕ × ℕ → Type 0) (n : ℕ) (pairs : List (ℕ × ℕ)) → AllBelow n (map (λ z. z.0) pairs) → ((z : ℕ × ℕ) → z.0 < n → P z) → AllByRecursion P pairs
+first-each : (P : (ℕ × ℕ) → Type 0) (n : ℕ) (pairs : List (ℕ × ℕ)) → AllBelow n (map (λ z. z.0) pairs) → ((z : ℕ × ℕ) → z.0 < n → P z) → AllByRecursion P pairs
 first-each P n [] h f = tt
 first-each P n (z ∷ pairs) h f = (f z h.0, first-each P n pairs h.1 f)
 
-first-both : (P Q : ℕ × ℕ → Type 0) (n : ℕ) (pairs : List (ℕ × ℕ)) → AllBelow n (map (λ z. z.0) pairs) → AllByRecursion P pairs → ((z : ℕ × ℕ) → z.0 < n → P z → Q z) → AllByRecursion Q pairs
+first-both : (P Q : (ℕ × ℕ) → Type 0) (n : ℕ) (pairs : List (ℕ × ℕ)) → AllBelow n (map (λ z. z.0) pairs) → AllByRecursion P pairs → ((z : ℕ × ℕ) → z.0 < n → P z → Q z) → AllByRecursion Q pairs
 first-both P Q n [] h p f = tt
 first-both P Q n (z ∷ pairs) h p f = (f z h.0 p.0, first-both P Q n pairs h.1 p.1 f)
 
@@ -91,6 +91,9 @@ kinds-pair : (o q : Option Column) → is_one_kind o q ≡ true → option_map (
 kinds-pair None q e = cc
 kinds-pair (Some c) None e = cc
 kinds-pair (Some c) (Some d) e = ap Some (eq_same kinds_apart c.kind d.kind e)
+
+one-kinds : (cs ds es fs : List Column) (pairs : List (ℕ × ℕ)) → cs ≡ es → ds ≡ fs → list_all (is_of_one_kind cs ds) pairs ≡ true → list_all (is_of_one_kind es fs) pairs ≡ true
+one-kinds cs ds es fs pairs e f h = (λ i. list_all (is_of_one_kind (sym e i) (sym f i)) pairs) ∙ h
 
 child-says : (n : ℕ) (pairs : List (ℕ × ℕ)) (c : Expr) → tests_child n pairs c ≡ true → says_known (is_child n pairs) c ≡ true
 child-says n pairs (Not e) h = h
@@ -120,14 +123,15 @@ known-at l n k (at ∷ names) h t =
           let g = and_parts (nat_le n at) (nat_eq (at - n) k) i in
           let most = leb-true n at g.0 in
           let same : at - n ≡ k = eqb-true (at - n) k g.1 in
-          ap (λ j. is_null (cell_at l j)) (omega (arith, most, same)) ∙ b.0
+          let here : n + k ≡ at = omega (arith, most, same) in
+          ap (λ j. is_null (cell_at l j)) here ∙ b.0
       | inr i ↦ known-at l n k names b.1 i
     ]
 
 -- ---- a left join to the table that a Scan on the left refers to
 
 module _ (s : Tables) (form : IsWellFormed s) (p : Plan) (c : Expr) (es : List Expr) (x : StandingScan) (stands : Contains (standing s [] p) x)
-    (child : Table) (is_child : slice_get s x.table ≡ Some child) (reference : Reference) (of_child : Contains child.references reference)
+    (child : Table) (is_child_table : slice_get s x.table ≡ Some child) (reference : Reference) (of_child : Contains child.references reference)
     (parent : Table) (is_parent_table : slice_get s reference.table ≡ Some parent)
     (one_kind : list_all (is_of_one_kind child.columns parent.columns) reference.pairs ≡ true)
     (tied : all_tied c (length x.before) (width s p) reference.pairs ≡ true)
@@ -155,12 +159,13 @@ module _ (s : Tables) (form : IsWellFormed s) (p : Plan) (c : Expr) (es : List E
 
   inside : AllBelow (length child.columns) (child_columns reference)
   inside =
-      let t : IsTable s child = recursion_get (IsTable s) s x.table child form is_child in
+      let t : IsTable s child = recursion_get (IsTable s) s x.table child form is_child_table in
       let r : IsReference s child reference = each_from_recursion (IsReference s child) child.references t.references reference of_child in
       r.children
 
   -- what is kept names columns alone that are given
   kept-given : (e : Expr) → is_kept s x pairs (named_left s n reference.table x pairs) n w e ≡ true → IsGiven e
+  unfolding is_left
   kept-given e h = elim (or_cases (is_left n e) (names_given n w pairs e && is_null_without s x pairs (put by e)) h) [
     | inl b ↦ on-weaker (λ at. nat_lt at n ≡ true) (λ at. is_given n w pairs at ≡ true) (λ at i. left-given n w pairs at (ltb-true at n i)) e (on-passing (λ at. nat_lt at n) e b)
     | inr b ↦ on-passing (is_given n w pairs) e (and_parts (names_given n w pairs e) (is_null_without s x pairs (put by e)) b).0
@@ -177,7 +182,7 @@ module _ (s : Tables) (form : IsWellFormed s) (p : Plan) (c : Expr) (es : List E
     of_parent_table = scan-kinds s reference.table kr of_right
 
     child-same : of_child_table.found ≡ child
-    child-same = same_Some of_child_table.found child (sym of_child_table.is_found ∙ is_child)
+    child-same = same_Some of_child_table.found child (sym of_child_table.is_found ∙ is_child_table)
 
     parent-same : of_parent_table.found ≡ parent
     parent-same = same_Some of_parent_table.found parent (sym of_parent_table.is_found ∙ is_parent_table)
@@ -205,23 +210,23 @@ module _ (s : Tables) (form : IsWellFormed s) (p : Plan) (c : Expr) (es : List E
         (recursion_from_each (λ z. is_of_one_kind child.columns parent.columns z ≡ true) pairs (each_of_all (is_of_one_kind child.columns parent.columns) pairs one_kind))
         (λ z b e.
         child-kind z.0 b
-        ∙ ap (λ ks. slice_get ks z.0) (sym of_child_table.of_columns ∙ ap (λ (t : Table). map (λ c. c.kind) t.columns) child-same)
+        ∙ ap (λ ks. slice_get ks z.0) (sym of_child_table.of_columns ∙ ap (λ (t : Table). map (λ (c : Column). c.kind) t.columns) child-same)
         ∙ slice_get-map (λ (c : Column). c.kind) child.columns z.0
         ∙ kinds-pair (slice_get child.columns z.0) (slice_get parent.columns z.1) e
         ∙ sym (slice_get-map (λ (c : Column). c.kind) parent.columns z.1)
-        ∙ ap (λ ks. slice_get ks z.1) (ap (λ (t : Table). map (λ c. c.kind) t.columns) (sym parent-same) ∙ of_parent_table.of_columns))
+        ∙ ap (λ ks. slice_get ks z.1) (ap (λ (t : Table). map (λ (c : Column). c.kind) t.columns) (sym parent-same) ∙ of_parent_table.of_columns))
 
     -- a column that is given has the kind that it had
     named-kind : (at : ℕ) → at < length (kl ++ kr) → is_given n w pairs at ≡ true → KeepsKind by (kl ++ kr) kl at
     named-kind at b g =
         let none : length (kl ++ (kr ++ [])) ≡ length (kl ++ kr) = ap (λ ks. length (kl ++ ks)) (append-nil kr) in
-        let rw = right-long in
+        let rk = right-long in
         ap (λ ks. kind_of (by at) ks) (sym (append-nil kl))
-        ∙ renamed-kind kl kr [] n 0 own_columns left-long refl (long-tied child_columns_left pairs 0 w ∙ sym rw) at (omega (arith, b, none))
+        ∙ renamed-kind kl kr [] n 0 own_columns left-long refl (long-tied child_columns_left pairs 0 w ∙ sym rk) at (omega (arith, b, none))
         (λ y h e.
         ap (λ ks. kind_of (at_place own_columns y) ks) (append-nil kl)
-        ∙ ap (λ e. kind_of e kl) (place-first child_columns_left pairs w y (omega (arith, h, rw)))
-        ∙ tied-gives (λ e. kind_of e kl) (slice_get kr) child_columns_left pairs pair-kinds y (given-tied n w pairs y (omega (arith, h, rw)) (subst (λ i. is_given n w pairs i ≡ true) e g)))
+        ∙ ap (λ e. kind_of e kl) (place-first child_columns_left pairs w y (omega (arith, h, rk)))
+        ∙ tied-gives (λ e. kind_of e kl) (slice_get kr) child_columns_left pairs pair-kinds y (given-tied n w pairs y (omega (arith, h, rk)) (subst (λ i. is_given n w pairs i ≡ true) e g)))
         ∙ ap (λ ks. slice_get (kl ++ ks) at) (append-nil kr)
 
     one-kind : (e : Expr) (k : SqlType) → IsGiven e → kind_of e (kl ++ kr) ≡ Some k → kind_of (put by e) kl ≡ Some k
@@ -251,7 +256,7 @@ module _ (s : Tables) (form : IsWellFormed s) (p : Plan) (c : Expr) (es : List E
       left-wide = wide-kinds kl n (rows_of s p db) left-long (rows-fit s db (tables_fit s db meets) p kl of_left) l d
 
       child-fits : AllZip FitsColumn child.columns has.own
-      child-fits = row_fits db child (table_rows db x.table) (table_meets s db meets x.table child is_child) has.own has.member
+      child-fits = row_fits db child (table_rows db x.table) (table_meets s db meets x.table child is_child_table) has.own has.member
 
       child-long : length has.own ≡ length child.columns
       child-long = row_length child.columns has.own child-fits
@@ -312,7 +317,7 @@ module _ (s : Tables) (form : IsWellFormed s) (p : Plan) (c : Expr) (es : List E
       known-child f k b y h = elim (or_cases (is_full_at s x.table k) (list_any (is_at (length x.before) k) (columns f)) h) [
         | inl i ↦
             let t = some_true (λ (t : Table). is_full_column t k) (slice_get s x.table) i in
-            let full : is_full_column child k ≡ true = ap (λ t. is_full_column t k) (same_Some child t.0 (sym is_child ∙ t.1)) ∙ t.2 in
+            let full : is_full_column child k ≡ true = ap (λ t. is_full_column t k) (same_Some child t.0 (sym is_child_table ∙ t.1)) ∙ t.2 in
             (and_parts (not (is_null (cell_at has.own k))) true (full-known child has.own child-fits (k ∷ []) (and_true (is_full_column child k) true full refl))).0
         | inr i ↦
             let long = child-long in
@@ -328,6 +333,7 @@ module _ (s : Tables) (form : IsWellFormed s) (p : Plan) (c : Expr) (es : List E
           and_true (is_known has.own z.0) (has_no_null (map (λ z. z.0) zs) has.own) (known-child f z.0 b.0 y g.0) (known-children f zs b.1 y g.1)
 
       lone-value : (e : Expr) (k : SqlType) → is_kept s x pairs (named_left s n reference.table x pairs) n w e ≡ true → kind_of e (kl ++ kr) ≡ Some k → has_no_null (child_columns reference) has.own ≡ false → value_of e (l ++ nulls w) ≡ value_of (put by e) l
+      unfolding is_left
       lone-value e k h t none = elim (cases_Bool (is_left n e)) [
         | inl b ↦
             let within = on-weaker (λ at. nat_lt at n ≡ true) (λ at. at < n) (λ at i. ltb-true at n i) e (on-passing (λ at. nat_lt at n) e b) in
@@ -394,20 +400,19 @@ module _ (s : Tables) (form : IsWellFormed s) (p : Plan) (c : Expr) (es : List E
           with_partners (holds c) w parents (values_of (exprs es)) l ++ without_partner (holds c) w parents (values_of (exprs es)) l ≡ values_of (exprs (map (put by) es)) l ∷ []
       one-row ms t kept =
           let given = values_of (exprs es) in
-          let left = values_of (exprs (map (put by) es)) in
           let partners : with_partners (holds c) w parents given l ≡ flat_map (λ q. cond (agree pairs has.own q) (given (l ++ q) ∷ []) []) parents =
           flat_map_agree_on _ _ parents (λ q cq. ap (λ b. cond b (given (l ++ q) ∷ []) []) (refers-to q cq)) in
           elim (cases_Bool (has_no_null (child_columns reference) has.own)) [
             | inl known ↦
-                let q = the_parent s db form meets x.table child is_child reference of_child has.own has.member known in
+                let q = the_parent s db form meets x.table child is_child_table reference of_child has.own has.member known in
                 let alone = met (holds c) parents l q.0 q.1.member (refers-to q.0 q.1.member ∙ q.1.agrees) in
-                let one = partners ∙ walk-parent s db form meets x.table child is_child reference of_child (λ q. given (l ++ q) ∷ []) has.own q.0 q.1 in
+                let one = partners ∙ walk-parent s db form meets x.table child is_child_table reference of_child (λ q. given (l ++ q) ∷ []) has.own q.0 q.1 in
                 (λ i. one i ++ cond (alone i) (given (l ++ nulls w) ∷ []) []) ∙ ap (λ v. v ∷ []) (met-values q.0 q.1.member q.1.agrees es ms kept t)
             | inr none ↦
-                let nothing = no_parent s db form meets x.table child is_child reference of_child has.own none in
+                let nothing = no_parent s db form meets x.table child is_child_table reference of_child has.own none in
                 let alone : is_alone (holds c) parents l ≡ true =
                 all_of_each (λ q. not (holds c (l ++ q))) parents (λ q cq. ap not (refers-to q cq ∙ none-fails (agree pairs has.own) parents nothing q cq)) in
-                let one = partners ∙ walk-no_parent s db form meets x.table child is_child reference of_child (λ q. given (l ++ q) ∷ []) has.own none in
+                let one = partners ∙ walk-no_parent s db form meets x.table child is_child_table reference of_child (λ q. given (l ++ q) ∷ []) has.own none in
                 (λ i. one i ++ cond (alone i) (given (l ++ nulls w) ∷ []) []) ∙ ap (λ v. v ∷ []) (lone-values es ms kept t none)
           ]
 
@@ -433,10 +438,6 @@ module _ (s : Tables) (form : IsWellFormed s) (p : Plan) (c : Expr) (es : List E
 
 -- ---- the rule
 
--- 48w + 4 falls to 3w + 1
-left-weight : (w : ℕ) → 3 * w + 1 < 3 * (4 * w * 4 + 1) + 1
-left-weight w = omega arith
-
 with-keeps : (s : Tables) → IsWellFormed s → (es : List Expr) (p : Plan) (c : Expr) (q : Plan) (r : Step) → IsTyped s (Project es (Left p q c)) → with_right s es p c q ≡ Some r → Keeps s (Project es (Left p q c)) r.0
 with-keeps s form es p c (Scan table) r t e =
     let f = made-given (λ x. first_made (without_parent s es p table c x) (references_of s x.table)) (standing s [] p) r e in
@@ -457,11 +458,12 @@ with-keeps s form es p c (Scan table) r t e =
     let child = of-reference (slice_get s x.table) reference g.1 in
     let parent = refers s form x.table child.0 child.1 reference child.2 in
     let of_columns : columns_of s x.table ≡ child.0.columns = ap (λ o. option_map_or (λ (t : Table). t.columns) o []) child.1 in
+    let made : ℕ → Step = λ z. (Project (map (put (at_place (named_left s (width s p) z x reference.pairs))) es) p, fell.Weight) in
     let to_columns : columns_of s table ≡ parent.0.columns = ap (columns_of s) (sym is) ∙ ap (λ o. option_map_or (λ (t : Table). t.columns) o []) parent.1 in
     subst (λ z. Keeps s (Project es (Left p (Scan z) c)) r.0) is
-    (subst (λ (z : Step). Keeps s (Project es (Left p (Scan reference.table) c)) z.0) (ap (λ z. (Project (map (put (at_place (named_left s (width s p) z x reference.pairs))) es) p, fell.Weight)) is ∙ v.1)
+    (subst (λ (z : Step). Keeps s (Project es (Left p (Scan reference.table) c)) z.0) (ap made is ∙ v.1)
     (unused-keeps s form p c es x f.1 child.0 child.1 reference child.2 parent.0 parent.1
-    ((λ i. list_all (is_of_one_kind (sym of_columns i) (sym to_columns i)) reference.pairs) ∙ h.1) d.0 h.0
+    (one-kinds (columns_of s x.table) (columns_of s table) child.0.columns parent.0.columns reference.pairs of_columns to_columns h.1) d.0 h.0
     (subst (λ z. IsTyped s (Project es (Left p (Scan z) c))) (sym is) t)
     (subst (λ z. list_all (is_kept s x reference.pairs (named_left s (width s p) z x reference.pairs) (width s p) (width s (Scan z))) es ≡ true) (sym is) a.1)))
   where

@@ -62,6 +62,7 @@ use Rattle.vkg_key_joins.specs.MembersLaw.{scan-kinds}
 use Rattle.vkg_key_joins.specs.ParentNames.{known-test}
 use Rattle.vkg_key_lefts.specs.declared.standing.StandingScan.{StandingScan}
 use Rattle.vkg_key_lefts.specs.LeftRows.{each_once, itself, itself-alone, left-by_rows, with_partners, without_partner}
+use Rattle.vkg_key_lefts.specs.Nulls.{null-is, nulls-cell, nulls-fit, or-true, strict-back}
 use Rattle.vkg_key_lefts.specs.SelfLeft.{is_again, is_itself, is_kept, is_known as is_known_here, is_left, is_null_unless, named_left, over_left, says_known, self_left, tests_known, ties_key, with_right, without_again}
 use Rattle.vkg_key_lefts.specs.Standing.{standing}
 use Rattle.vkg_key_lefts.specs.StandingLaw.{HasRow, HasTable, checked-given, has-row, has-table, known-inside, standing-cell}
@@ -69,54 +70,10 @@ use Rattle.vkg_key_lefts.specs.Tables.{is_full_at, keys_of}
 
 -- ---- small steps
 
-null-is : (c d : Cell) → is_null c ≡ true → is_null d ≡ true → c ≡ d
-null-is cell.Null cell.Null e f = refl
-null-is cell.Null _ e f = cc
-null-is _ d e f = cc
-
-nulls-cell : (n k : ℕ) → cell_at (replicate n cell.Null) k ≡ cell.Null
-nulls-cell zero k = refl
-nulls-cell (suc n) zero = refl
-nulls-cell (suc n) (suc k) = nulls-cell n k
-
-nulls-fit : (ls : Kinds) → HasKinds ls (replicate (length ls) cell.Null)
-nulls-fit [] = tt
-nulls-fit (kind.Text ∷ ls) = (refl, nulls-fit ls)
-nulls-fit (kind.Int ∷ ls) = (refl, nulls-fit ls)
-nulls-fit (kind.Dec ∷ ls) = (refl, nulls-fit ls)
-nulls-fit (kind.Bool ∷ ls) = (refl, nulls-fit ls)
-nulls-fit (kind.Date ∷ ls) = (refl, nulls-fit ls)
-nulls-fit (kind.Stamp ∷ ls) = (refl, nulls-fit ls)
-nulls-fit (kind.Bin ∷ ls) = (refl, nulls-fit ls)
-nulls-fit (kind.Time ∷ ls) = (refl, nulls-fit ls)
-nulls-fit (kind.Term ∷ ls) = (refl, nulls-fit ls)
-
-or-true : (b : Bool) → (b || true) ≡ true
-or-true true = refl
-or-true false = refl
-
 -- each pair of a column with itself
-itself-each : (P : (ℕ × ℕ) → Type 0) (m : ℕ) (columns : List ℕ) → AllBelow m columns → ((k : ℕ) → k < m → P (k, k)) → AllByRecursion P (with_itself columns)
+pub itself-each : (P : (ℕ × ℕ) → Type 0) (m : ℕ) (columns : List ℕ) → AllBelow m columns → ((k : ℕ) → k < m → P (k, k)) → AllByRecursion P (with_itself columns)
 itself-each P m [] h f = tt
 itself-each P m (k ∷ columns) h f = (f k h.0, itself-each P m columns h.1 f)
-
-mutual
-  -- what is strict with others put in is strict
-  strict-back : (f : ℕ → Expr) (e : Expr) → is_strict (put f e) ≡ true → is_strict e ≡ true
-  strict-back f (Col at) h = refl
-  strict-back f (Const c k) h = h
-  strict-back f (MakeIri e) h = strict-back f e h
-  strict-back f (IriOf base e) h = strict-back f e h
-  strict-back f (MakeBlank e) h = strict-back f e h
-  strict-back f (MakeLit e l) h = strict-back f e h
-  strict-back f (Lex e) h = strict-back f e h
-  strict-back f (IriSafe e) h = strict-back f e h
-  strict-back f (Concat es) h = strict_each-back f es h
-  strict-back f _ h = cc
-
-  strict_each-back : (f : ℕ → Expr) (es : Exprs) → are_strict (put_each f es) ≡ true → are_strict es ≡ true
-  strict_each-back f Nil h = refl
-  strict_each-back f (More e es) h = let b = and_parts (is_strict (put f e)) (are_strict (put_each f es)) h in and_true (is_strict e) (are_strict es) (strict-back f e b.0) (strict_each-back f es b.1)
 
 -- a column among those of which none is NULL
 not-null-among : (row : Row) (names : List ℕ) (at : ℕ) → any_null row names ≡ false → list_any (nat_eq at) names ≡ true → is_null (cell_at row at) ≡ false
@@ -412,7 +369,7 @@ module _ (s : Tables) (form : IsWellFormed s) (p : Plan) (c : Expr) (es : List E
 -- ---- the rule
 
 -- 48w + 4 falls to 3w + 1
-left-weight : (w : ℕ) → 3 * w + 1 < 3 * (4 * w * 4 + 1) + 1
+pub left-weight : (w : ℕ) → 3 * w + 1 < 3 * (4 * w * 4 + 1) + 1
 left-weight w = omega arith
 
 with-keeps : (s : Tables) → IsWellFormed s → (es : List Expr) (p : Plan) (c : Expr) (q : Plan) (r : Step) → IsTyped s (Project es (Left p q c)) → with_right s es p c q ≡ Some r → Keeps s (Project es (Left p q c)) r.0

@@ -66,27 +66,20 @@ use Rattle.vkg_key_lefts.specs.declared.standing.StandingScan.{StandingScan}
 use Rattle.vkg_key_lefts.specs.LeftRows.{left-by_rows, with_partners, without_partner}
 use Rattle.vkg_key_lefts.specs.SelfLeft.{ties_key}
 use Rattle.vkg_key_lefts.specs.Nulls.{behind-null, null-is, nulls, nulls-append, nulls-fit, nulls-long, or-true, strict-back}
+use Rattle.vkg_key_lefts.specs.SelfLeftLaw.{itself-each}
 use Rattle.vkg_key_lefts.specs.SelfLeftMember.{both_conditions, columns_before, is_again, is_between, is_kept, is_null_behind, named_left, over_left, over_others, self_left_member, with_right, without_again}
 use Rattle.vkg_key_lefts.specs.Standing.{standing}
-use Rattle.vkg_key_lefts.specs.StandingLaw.{HasRow, HasTable, checked-given, has-row, has-table, standing-cell}
+use Rattle.vkg_key_lefts.specs.StandingLaw.{HasRow, HasTable, checked-given, has-row, has-table, regrouped, standing-cell}
 use Rattle.vkg_key_lefts.specs.Tables.{keys_of}
 
 -- ---- small steps
-
--- each pair of a column with itself
-itself-each : (P : (ℕ × ℕ) → Type 0) (m : ℕ) (columns : List ℕ) → AllBelow m columns → ((k : ℕ) → k < m → P (k, k)) → AllByRecursion P (with_itself columns)
-itself-each P m [] h f = tt
-itself-each P m (k ∷ columns) h f = (f k h.0, itself-each P m columns h.1 f)
-
-regrouped : (k l m o : Kinds) → (k ++ (l ++ m)) ++ o ≡ k ++ (l ++ (m ++ o))
-regrouped k l m o = append_assoc k (l ++ m) o ∙ ap (λ r. k ++ r) (append_assoc l m o)
 
 cond-both : {B : Type 0} (a b : Bool) (xs : List B) → cond a (cond b xs []) [] ≡ cond (a && b) xs []
 cond-both true b xs = refl
 cond-both false b xs = refl
 
 drop-place : (n : ℕ) (es : List Expr) (at : ℕ) → at_place (drop n es) at ≡ at_place es (n + at)
-drop-place zero es at = ap (at_place es) (omega arith)
+drop-place zero es at = let same : at ≡ zero + at = omega arith in ap (at_place es) same
 drop-place (suc n) [] at = refl
 drop-place (suc n) (e ∷ es) at =
     let next : suc (n + at) ≡ suc n + at = omega arith in
@@ -503,8 +496,8 @@ module _ (s : Tables) (form : IsWellFormed s) (p : Plan) (b a : List Plan) (d c 
   positive_times : (u q : ℕ) → 0 < u → 0 < q → 0 < u * q
   positive_times u q h k = let l = mul-lt-mul_of_pos_right h k in omega (arith, l)
 
-  again-falls : Falls s (Project es (Left p right c)) (over_others names es p n (b ++ a) d c)
-  again-falls =
+  again-weight : 3 * (4 * weight p * (3 * weights_product (plans (b ++ a))) + 1) + 1 < 3 * (4 * weight p * weight right + 1) + 1
+  again-weight =
       let old : weight right ≡ 3 * (4 * weights_product (plans (b ++ a))) = ap (λ q. 3 * q) (without-weight b x.table a) in
       let big : 4 * weight p * weight right ≡ 4 * (4 * weight p * (3 * weights_product (plans (b ++ a)))) =
       ap (λ q. 4 * weight p * q) old ∙ times_four (4 * weight p) (weights_product (plans (b ++ a))) in
@@ -512,6 +505,9 @@ module _ (s : Tables) (form : IsWellFormed s) (p : Plan) (b a : List Plan) (d c 
       let second = product_positive (plans (b ++ a)) in
       let some = positive_times (4 * weight p) (3 * weights_product (plans (b ++ a))) (omega (arith, first)) (omega (arith, second)) in
       omega (arith, big, some)
+
+  again-falls : Falls s (Project es (Left p right c)) (over_others names es p n (b ++ a) d c)
+  again-falls = again-weight
 
 -- ---- the rule
 

@@ -146,7 +146,7 @@ pub record HasTable (s : Tables) (x : StandingScan) (ks : Kinds) : Type 0 where
   pub last : Kinds
   pub together : x.before ++ (own ++ last) ≡ ks
 
-regrouped : (a b c d : Kinds) → (a ++ (b ++ c)) ++ d ≡ a ++ (b ++ (c ++ d))
+pub regrouped : (a b c d : Kinds) → (a ++ (b ++ c)) ++ d ≡ a ++ (b ++ (c ++ d))
 regrouped a b c d = append_assoc a (b ++ c) d ∙ ap (λ z. a ++ z) (append_assoc b c d)
 
 kinds-more : (s : Tables) (x : StandingScan) (before ks rest : Kinds) → HasTable s x (before ++ ks) → HasTable s x (before ++ (ks ++ rest))

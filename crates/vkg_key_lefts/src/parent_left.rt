@@ -1,4 +1,4 @@
-ghost use Rattle.std.specs.Prelude.{◌≡◌, IfOk, map, option_map};
+ghost use Rattle.std.specs.Prelude.{◌≡◌, IfOk, length, map, option_map};
 ghost use Rattle.std.specs.List.{list_all};
 ghost use Rattle.vkg_columns.specs.Columns.{columns_from};
 ghost use Rattle.vkg_expr.specs.Seen.{expr_seen};
@@ -8,7 +8,6 @@ ghost use Rattle.vkg_plan.specs.Kinds.{width as width_of};
 ghost use Rattle.vkg_plan.specs.Plan.{Scan};
 ghost use Rattle.vkg_plan.specs.Seen.{plan_seen};
 ghost use Rattle.vkg_rules.specs.StepSeen.{step_seen};
-ghost use Rattle.std.specs.Prelude.{length};
 ghost use Rattle.vkg_key_lefts.specs.ParentLeft.{named_left as all_named_left, over_left as over_left_of, parent_left, with_right as with_right_of, without_parent as left_without};
 ghost use Rattle.vkg_key_lefts.specs.ParentLeftLaw.{parent_left-keeps, parent_left-falls};
 ghost use Rattle.vkg_key_lefts.specs.Tables.{references_of as references_of_table};

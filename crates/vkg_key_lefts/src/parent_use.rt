@@ -43,14 +43,14 @@ pub fn is_parent(
     if reference.table != table || !are_all_tied(c, x.before.len(), n, pairs) {
         return Ok(false);
     }
-    Ok(
-        all_ask(alloc, c, x.before.len(), n, pairs)?
-            && are_of_one_kind(
-                columns_of(schema, x.table),
-                columns_of(schema, table),
-                pairs,
-            ),
-    )
+    if !all_ask(alloc, c, x.before.len(), n, pairs)? {
+        return Ok(false);
+    }
+    Ok(are_of_one_kind(
+        columns_of(schema, x.table),
+        columns_of(schema, table),
+        pairs,
+    ))
 }
 
 // ---- conditions that ask for the foreign key alone
