@@ -105,7 +105,7 @@ fn is_told(
 fn the_first_fault_is_told(rt: HostRuntime) -> Result<(), Fail> {
     for (first, told) in TOLD.iter().enumerate() {
         let files = spoilt_from(rt.alloc(), first)?;
-        for line in [200, 0] {
+        for &line in &[200, 0] {
             is_told(&rt, rt.alloc(), files.as_slice(), *told, line)?;
         }
     }

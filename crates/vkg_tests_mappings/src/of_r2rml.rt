@@ -26,27 +26,27 @@ fn read(alloc: Global, text: &str) -> Result<Result<Mapping, MapError>, Fail> {
 #[test]
 fn a_mapping_with_all_parts(rt: HostRuntime) -> Result<(), Fail> {
     let mapping = read(rt.alloc(), ALL_PARTS)??;
-    assert_eq!(rt; mapping.base.as_str(), BASE);
-    assert_eq!(rt; mapping.maps.len(), 2);
+    assert!(rt; mapping.base.as_str() == BASE);
+    assert!(rt; mapping.maps.len() == 2);
     let Some(m) = mapping.maps.get(0) else {
         return Err(Fail::new("no map"));
     };
-    assert_eq!(rt; m.table, 1);
+    assert!(rt; m.table == 1);
     assert!(rt; matches!(&m.subject, TermMap::Template(_, TermType::Iri)));
-    assert_eq!(rt; m.classes.len(), 2);
-    assert_eq!(rt; m.graphs.len(), 1);
-    assert_eq!(rt; m.predicate_objects.len(), 1);
+    assert!(rt; m.classes.len() == 2);
+    assert!(rt; m.graphs.len() == 1);
+    assert!(rt; m.predicate_objects.len() == 1);
     let Some(po) = m.predicate_objects.get(0) else {
         return Err(Fail::new("no predicate-object map"));
     };
-    assert_eq!(rt; po.predicates.len(), 2);
-    assert_eq!(rt; po.graphs.len(), 1);
-    assert_eq!(rt; po.objects.len(), 2);
+    assert!(rt; po.predicates.len() == 2);
+    assert!(rt; po.graphs.len() == 1);
+    assert!(rt; po.objects.len() == 2);
     let Some(ObjectMap::Parent(parent, pairs)) = po.objects.get(0) else {
         return Err(Fail::new("no parent"));
     };
-    assert_eq!(rt; *parent, 1);
-    assert_eq!(rt; pairs.as_slice(), [(2, 0)].as_slice());
+    assert!(rt; *parent == 1);
+    assert!(rt; pairs.as_slice() == [(2, 0)].as_slice());
     Ok(())
 }
 
@@ -55,6 +55,6 @@ fn a_fault_is_of_its_map(rt: HostRuntime) -> Result<(), Fail> {
     let Err(MapError::Fault(MapFault { check, map })) = read(rt.alloc(), SECOND_MAP)? else {
         return Err(Fail::new("no fault"));
     };
-    assert_eq!(rt; (check, map), (12, 2));
+    assert!(rt; (check, map) == (12, 2));
     Ok(())
 }

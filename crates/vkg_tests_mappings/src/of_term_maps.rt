@@ -23,10 +23,10 @@ fn places_in_order(rt: HostRuntime) -> Result<(), Fail> {
     let triples = triples(rt.alloc(), OBJECTS)?;
     let graph = Graph::new(rt.alloc(), triples.as_slice())?;
     let places = graph.places(rt.alloc(), &node(rt.alloc())?, Role::Object)?;
-    assert_eq!(rt; places.len(), 2);
+    assert!(rt; places.len() == 2);
     assert!(rt; matches!(places.get(0), Some(Place::Node(_))));
     assert!(rt; matches!(places.get(1), Some(Place::Constant(_))));
-    assert_eq!(rt; graph.triples().len(), 3);
+    assert!(rt; graph.triples().len() == 3);
     Ok(())
 }
 
@@ -40,7 +40,7 @@ fn shortcut(alloc: Global, graph: &Graph<'_>, role: Role) -> Result<TermMap, Ter
 fn a_shortcut_is_a_constant(rt: HostRuntime) -> Result<(), Fail> {
     let graph = Graph::new(rt.alloc(), &[])?;
     let fault = shortcut(rt.alloc(), &graph, Role::Graph).err();
-    assert_eq!(rt; fault, Some(TermMapError::Fault(TermMapFault::Kind)));
+    assert!(rt; fault == Some(TermMapError::Fault(TermMapFault::Kind)));
     let map = shortcut(rt.alloc(), &graph, Role::Object)?;
     assert!(rt; matches!(&map, TermMap::Constant(Term::Lit(_, Annotation::Plain))));
     Ok(())

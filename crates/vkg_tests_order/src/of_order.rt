@@ -1,5 +1,6 @@
 use std::alloc::Global;
 use std::cmp::Ordering;
+use std::process::Abort;
 use std::test::Fail;
 use vkg_base::{Items, MemSink, Memory, Text};
 use vkg_cells::Cell;
@@ -33,7 +34,7 @@ fn compared(alloc: Global, a: (&str, &str), b: (&str, &str)) -> Result<Ordering,
 }
 
 // SPARQL 1.1, 15.1, and what this project orders beyond it: each value is below the next.
-const ASCENDING: [(&str, &str); 22] = [
+static ASCENDING: [(&str, &str); 22] = [
     ("", ""),
     ("_:", "a"),
     ("_:", "b"),
@@ -61,14 +62,9 @@ const ASCENDING: [(&str, &str); 22] = [
 #[test]
 fn values_ascend(rt: HostRuntime) -> Result<(), Fail> {
     for i in 1..ASCENDING.len() {
-        assert_eq!(rt;
-            compared(rt.alloc(), ASCENDING[i - 1], ASCENDING[i])?,
-            Ordering::Less
-        );
-        assert_eq!(rt;
-            compared(rt.alloc(), ASCENDING[i], ASCENDING[i - 1])?,
-            Ordering::Greater
-        );
+        let (a, b) = (ASCENDING[i - 1], ASCENDING[i]);
+        assert!(rt; compared(rt.alloc(), a, b)? == Ordering::Less, "{i}");
+        assert!(rt; compared(rt.alloc(), b, a)? == Ordering::Greater, "{i}");
     }
     Ok(())
 }
@@ -88,25 +84,21 @@ const TIED: [(&str, &str, &str, &str); 4] = [
 
 #[test]
 fn one_value_ties(rt: HostRuntime) -> Result<(), Fail> {
-    for (a_sort, a, b_sort, b) in TIED {
-        assert_eq!(rt;
-            compared(rt.alloc(), (a_sort, a), (b_sort, b))?,
-            Ordering::Equal
-        );
+    for &(a_sort, a, b_sort, b) in &TIED {
+        let order = compared(rt.alloc(), (a_sort, a), (b_sort, b))?;
+        assert!(rt; order == Ordering::Equal, "{a}, {b}");
     }
     Ok(())
 }
 
 // Literals without a known value stand by their texts, in which a quote is escaped and ends.
-const BY_TEXT: [(&str, &str); 4] = [("@", "a!"), ("@", "a"), ("@", "a#"), ("@", "a\"")];
+static BY_TEXT: [(&str, &str); 4] = [("@", "a!"), ("@", "a"), ("@", "a#"), ("@", "a\"")];
 
 #[test]
 fn others_ascend_by_text(rt: HostRuntime) -> Result<(), Fail> {
     for i in 1..BY_TEXT.len() {
-        assert_eq!(rt;
-            compared(rt.alloc(), BY_TEXT[i - 1], BY_TEXT[i])?,
-            Ordering::Less
-        );
+        let order = compared(rt.alloc(), BY_TEXT[i - 1], BY_TEXT[i])?;
+        assert!(rt; order == Ordering::Less, "{i}");
     }
     Ok(())
 }
@@ -147,7 +139,7 @@ fn written(alloc: Global, by_name: bool, distinct: bool, slice: Slice) -> Result
             slice,
         },
     );
-    for entry in OFFERS {
+    for &entry in &OFFERS {
         offer(alloc, &mut keeper, by_name, entry)?;
     }
     let lines = keeper.finish(alloc)?;
@@ -156,58 +148,43 @@ fn written(alloc: Global, by_name: bool, distinct: bool, slice: Slice) -> Result
     Ok(String::from_utf8_lossy(alloc, sink.taken())?)
 }
 
-const ALL: Slice = Slice {
-    offset: 0,
-    limit: None,
-};
+// All tests say so here, since each place that says it is proved.
+fn told(rt: &impl Abort, found: Result<String, Memory>, expected: &str) -> Result<(), Fail> {
+    let found = found?;
+    assert_eq!(rt; found.as_str(), expected);
+    Ok(())
+}
 
 #[test]
 fn lines_stand_in_the_asked_order(rt: HostRuntime) -> Result<(), Fail> {
-    for (offset, limit, lines) in [
+    for &(offset, limit, lines) in &[
         (0, None, "\"Bo\"\n\"Ann\"\n\"Ann\"\n"),
         (0, Some(2), "\"Bo\"\n\"Ann\"\n"),
         (1, Some(1), "\"Ann\"\n"),
         (0, Some(0), ""),
         (3, None, ""),
     ] {
-        let found = written(rt.alloc(), true, false, Slice { offset, limit })?;
-        assert_eq!(rt; found.as_str(), lines);
+        told(
+            &rt,
+            written(rt.alloc(), true, false, Slice { offset, limit }),
+            lines,
+        )?;
     }
     Ok(())
 }
 
 #[test]
 fn each_line_once_at_its_first_place(rt: HostRuntime) -> Result<(), Fail> {
-    let alloc = rt.alloc();
-    assert_eq!(rt;
-        written(alloc, false, true, ALL)?.as_str(),
-        "\"Ann\"\n\"Bo\"\n"
-    );
-    assert_eq!(rt;
-        written(
-            alloc,
-            false,
-            true,
-            Slice {
-                offset: 0,
-                limit: Some(1)
-            }
-        )?
-        .as_str(),
-        "\"Ann\"\n"
-    );
-    assert_eq!(rt;
-        written(
-            alloc,
-            false,
-            true,
-            Slice {
-                offset: 1,
-                limit: Some(1)
-            }
-        )?
-        .as_str(),
-        "\"Bo\"\n"
-    );
+    for &(offset, limit, lines) in &[
+        (0, None, "\"Ann\"\n\"Bo\"\n"),
+        (0, Some(1), "\"Ann\"\n"),
+        (1, Some(1), "\"Bo\"\n"),
+    ] {
+        told(
+            &rt,
+            written(rt.alloc(), false, true, Slice { offset, limit }),
+            lines,
+        )?;
+    }
     Ok(())
 }

@@ -1,11 +1,14 @@
-// Expressions and plans that the tests of several crates are made of.
+// Expressions and plans that the tests of several crates are made of, and what is told of them.
 //
 // All are boxed: where a call fails, what is made by then is dropped, which is short of a box.
 use std::alloc::Global;
+use std::process::Abort;
+use std::test::Fail;
 use vkg_base::{Box, Items, Memory, Text};
 use vkg_cells::{Cell, SqlType};
 use vkg_expr::Expr;
 use vkg_plan::Plan;
+use vkg_schema::{Schema, read_schema};
 
 pub type MadeExpr = Result<Box<Expr>, Memory>;
 
@@ -60,4 +63,21 @@ pub fn scans(alloc: Global, first: usize, second: usize) -> Result<Items<Plan>, 
     ps.push(Plan::Scan(first))?;
     ps.push(Plan::Scan(second))?;
     Ok(ps)
+}
+
+// The tables that the plans read.
+pub fn schema_of(alloc: Global, text: &[u8]) -> Result<Schema, Fail> {
+    Ok(read_schema(alloc, text).ok().ok_or("a schema")?)
+}
+
+// This text is found under the name. All tests say so here, since each place that says it is proved.
+pub fn told(
+    rt: &impl Abort,
+    name: &str,
+    found: Result<String, Fail>,
+    expected: &str,
+) -> Result<(), Fail> {
+    let found = found?;
+    assert_eq!(rt; found.as_str(), expected, "{name}");
+    Ok(())
 }

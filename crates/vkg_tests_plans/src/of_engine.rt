@@ -1,4 +1,4 @@
-use crate::made::{Made, MadeExpr, left, null_test, same, scan, scans, select};
+use crate::made::{Made, MadeExpr, left, null_test, same, scan, scans, select, told};
 use std::alloc::Global;
 use std::process::Abort;
 use std::test::Fail;
@@ -146,21 +146,16 @@ fn rows_of(alloc: Global, database: &Database, plan: Plan) -> Result<Option<Rows
 }
 
 // The lines of a plan's rows; of an ill-typed one a text that no rows have.
-fn shown(
-    rt: &impl Abort,
-    alloc: Global,
-    database: &Database,
-    node: &str,
-) -> Result<String, Memory> {
+fn shown(rt: &impl Abort, alloc: Global, database: &Database, node: &str) -> Result<String, Fail> {
     match rows_of(alloc, database, made(alloc, node)?.into_inner())? {
         None => Ok(String::from_str(alloc, "ill typed")?),
-        Some(rows) => lines(rt, alloc, &rows),
+        Some(rows) => Ok(lines(rt, alloc, &rows)?),
     }
 }
 
 #[test]
 fn each_node_has_its_rows(rt: HostRuntime) -> Result<(), Fail> {
-    let table: [(&str, &str); 15] = [
+    let table = &[
         ("Unit", ";"),
         ("Empty", ""),
         ("Scan", "1,Ore;2,NULL;"),
@@ -181,9 +176,8 @@ fn each_node_has_its_rows(rt: HostRuntime) -> Result<(), Fail> {
         ("Distinct", "1,Ore;2,NULL;"),
     ];
     let database = company(&rt, rt.alloc());
-    for (node, expected) in table {
-        let found = shown(&rt, rt.alloc(), &database, node)?;
-        assert_eq!(rt; found.as_str(), expected, "{node}");
+    for &(node, expected) in table {
+        told(&rt, node, shown(&rt, rt.alloc(), &database, node), expected)?;
     }
     Ok(())
 }

@@ -1,7 +1,7 @@
 ghost use Rattle.std.specs.Prelude.{IfOk};
 ghost use Rattle.vkg_expr.specs.Laws.{HasKinds};
 
-use crate::made::{MadeExpr, column, iri_of, text};
+use crate::made::{MadeExpr, column, iri_of, text, told};
 use std::alloc::Global;
 use std::test::Fail;
 use vkg_base::{Box, Items, Memory, Text};
@@ -163,9 +163,17 @@ fn shown(alloc: Global, cell: &Cell) -> Result<String, Memory> {
     }
 }
 
+// The text of the value of an expression over them.
+fn value_text(alloc: Global, e: &Expr, row: &Row<'_>) -> Result<String, Fail>
+    requires { HasKinds KINDS row.now }
+{
+    let cell = value_on(alloc, e, row)?;
+    Ok(shown(alloc, &cell)?)
+}
+
 #[test]
 fn each_form_has_its_kind_and_value(rt: HostRuntime) -> Result<(), Fail> {
-    let rows: [(&str, SqlType, &str); 18] = [
+    let rows = &[
         ("Col", SqlType::Int, "7"),
         ("Const", SqlType::Text, "x"),
         ("MakeIri", SqlType::Term, "<http://e/x>"),
@@ -186,18 +194,17 @@ fn each_form_has_its_kind_and_value(rt: HostRuntime) -> Result<(), Fail> {
         ("Ebv", SqlType::Bool, "false"),
     ];
     let row = row(rt.alloc())?;
-    for (form, kind, value) in rows {
+    for &(form, kind, value) in rows {
         let e = made(rt.alloc(), form)?;
-        assert_eq!(rt; typed(&e, &KINDS), Some(kind), "{form}");
-        let cell = value_on(rt.alloc(), &e, &row)?;
-        assert_eq!(rt; shown(rt.alloc(), &cell)?.as_str(), value, "{form}");
+        assert!(rt; typed(&e, &KINDS) == Some(kind), "{form}");
+        told(&rt, form, value_text(rt.alloc(), &e, &row), value)?;
     }
     Ok(())
 }
 
 #[test]
 fn ill_typed_forms_have_no_kind(rt: HostRuntime) -> Result<(), Fail> {
-    let forms: [&str; 8] = [
+    let forms = &[
         "Col past the end",
         "Const of another kind",
         "Lex of a term",
@@ -207,26 +214,32 @@ fn ill_typed_forms_have_no_kind(rt: HostRuntime) -> Result<(), Fail> {
         "Coalesce of none",
         "Coalesce of two",
     ];
-    for form in forms {
+    for &form in forms {
         let e = made(rt.alloc(), form)?;
-        assert_eq!(rt; typed(&e, &KINDS), None, "{form}");
+        assert!(rt; typed(&e, &KINDS).is_none(), "{form}");
     }
     Ok(())
 }
 
+// Whether a copy of an expression is strict.
+fn is_strict(alloc: Global, e: MadeExpr) -> Result<bool, Memory> {
+    let e = e?;
+    let copy = Box::new(alloc, e.copy(alloc)?)?;
+    Ok(nulls_on_null(&copy))
+}
+
 #[test]
 fn strict_forms_name_a_column(rt: HostRuntime) -> Result<(), Fail> {
-    let rows: [(&str, bool); 5] = [
+    let rows = &[
         ("Concat", true),
         ("MakeLit", true),
         ("Const", false),
         ("IsNull", false),
         ("Coalesce", false),
     ];
-    for (form, strict) in rows {
-        let e = made(rt.alloc(), form)?;
-        let copy = Box::new(rt.alloc(), e.copy(rt.alloc())?)?;
-        assert_eq!(rt; nulls_on_null(&copy), strict, "{form}");
+    for &(form, strict) in rows {
+        let found = is_strict(rt.alloc(), made(rt.alloc(), form))?;
+        assert!(rt; found == strict, "{form}");
     }
     Ok(())
 }

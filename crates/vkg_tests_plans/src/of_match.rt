@@ -1,4 +1,6 @@
+use crate::made::told;
 use std::alloc::Global;
+use std::test::Fail;
 use vkg_base::{Items, Memory, Text};
 use vkg_cells::{Cell, SqlType};
 use vkg_expr::{Expr, Piece, Sort, TermExpr};
@@ -111,27 +113,32 @@ fn verdict_text(alloc: Global, e: &TermExpr, f: &TermExpr) -> Result<String, Mem
     Ok(out)
 }
 
-fn of_two(alloc: Global, first: &str, second: &str) -> Result<String, Memory> {
-    let e = two(alloc, 0, first, 1)?;
-    let f = two(alloc, 2, second, 3)?;
-    verdict_text(alloc, &e, &f)
+/// The verdict of two terms that were just made.
+fn verdict_of(
+    alloc: Global,
+    e: Result<TermExpr, Memory>,
+    f: Result<TermExpr, Memory>,
+) -> Result<String, Fail> {
+    let e = e?;
+    let f = f?;
+    Ok(verdict_text(alloc, &e, &f)?)
 }
 
-fn of_fixed(alloc: Global, sign: &str, iri: &str) -> Result<String, Memory> {
-    let e = two(alloc, 0, sign, 1)?;
-    let f = fixed(alloc, iri)?;
-    verdict_text(alloc, &e, &f)
+fn of_two(alloc: Global, first: &str, second: &str) -> Result<String, Fail> {
+    verdict_of(alloc, two(alloc, 0, first, 1), two(alloc, 2, second, 3))
 }
 
-fn of_employee(alloc: Global, iri: &str) -> Result<String, Memory> {
-    let e = employee(alloc)?;
-    let f = fixed(alloc, iri)?;
-    verdict_text(alloc, &e, &f)
+fn of_fixed(alloc: Global, sign: &str, iri: &str) -> Result<String, Fail> {
+    verdict_of(alloc, two(alloc, 0, sign, 1), fixed(alloc, iri))
+}
+
+fn of_employee(alloc: Global, iri: &str) -> Result<String, Fail> {
+    verdict_of(alloc, employee(alloc), fixed(alloc, iri))
 }
 
 #[test]
-fn two_templates(rt: HostRuntime) {
-    let rows = [
+fn two_templates(rt: HostRuntime) -> Result<(), Fail> {
+    let rows = &[
         (
             "-",
             "-",
@@ -140,15 +147,15 @@ fn two_templates(rt: HostRuntime) {
         ("/", "/", "c0 = c2; c1 = c3; "),
         ("/", "-", "never"),
     ];
-    for (first, second, wanted) in rows {
-        let found = of_two(rt.alloc(), first, second).expect(&rt, "memory");
-        assert_eq!(rt; found.as_str(), wanted, "{first} {second}");
+    for &(first, second, wanted) in rows {
+        told(&rt, second, of_two(rt.alloc(), first, second), wanted)?;
     }
+    Ok(())
 }
 
 #[test]
-fn a_template_and_an_iri(rt: HostRuntime) {
-    let rows = [
+fn a_template_and_an_iri(rt: HostRuntime) -> Result<(), Fail> {
+    let rows = &[
         ("-", "http://e/x/y/z", "never"),
         ("/", "http://e/x/y/z", "never"),
         ("/", "http://e/x/y", "c0 = 'x'; c1 = 'y'; "),
@@ -158,31 +165,36 @@ fn a_template_and_an_iri(rt: HostRuntime) {
             "(safe lex c0)('-')(safe lex c1) = 'x-y'; ",
         ),
     ];
-    for (sign, iri, wanted) in rows {
-        let found = of_fixed(rt.alloc(), sign, iri).expect(&rt, "memory");
-        assert_eq!(rt; found.as_str(), wanted, "{sign} {iri}");
+    for &(sign, iri, wanted) in rows {
+        told(&rt, iri, of_fixed(rt.alloc(), sign, iri), wanted)?;
     }
+    Ok(())
 }
 
 #[test]
-fn leading_zeros(rt: HostRuntime) {
-    let rows = [
+fn leading_zeros(rt: HostRuntime) -> Result<(), Fail> {
+    let rows = &[
         ("http://e/emp/id=7", "c0 = 7; "),
         ("http://e/emp/id=07", "never"),
     ];
-    for (iri, wanted) in rows {
-        let found = of_employee(rt.alloc(), iri).expect(&rt, "memory");
-        assert_eq!(rt; found.as_str(), wanted, "{iri}");
+    for &(iri, wanted) in rows {
+        told(&rt, iri, of_employee(rt.alloc(), iri), wanted)?;
     }
+    Ok(())
+}
+
+/// Whether the pieces of two columns with a sign between them are separable.
+fn is_separable(alloc: Global, sign: &str) -> Result<bool, Fail> {
+    let TermExpr::Made(_, pieces) = two(alloc, 0, sign, 1)? else {
+        return Err(Fail::new("no pieces"));
+    };
+    Ok(separable(pieces.as_slice()))
 }
 
 #[test]
-fn separable_templates(rt: HostRuntime) {
-    for (sign, wanted) in [("/", true), ("-", false), ("%", false), ("", false)] {
-        let e = two(rt.alloc(), 0, sign, 1).expect(&rt, "memory");
-        let TermExpr::Made(_, pieces) = &e else {
-            continue;
-        };
-        assert!(rt; separable(pieces.as_slice()) == wanted, "{sign}");
+fn separable_templates(rt: HostRuntime) -> Result<(), Fail> {
+    for &(sign, wanted) in &[("/", true), ("-", false), ("%", false), ("", false)] {
+        assert!(rt; is_separable(rt.alloc(), sign)? == wanted, "{sign}");
     }
+    Ok(())
 }

@@ -1,28 +1,35 @@
-use crate::made::{Made, column, left, scan, select};
+use crate::made::{Made, column, left, scan, schema_of, select};
 use std::alloc::Global;
 use std::test::Fail;
 use vkg_base::{Box, Items, Memory};
 use vkg_cells::{Cell, SqlType};
 use vkg_expr::{Expr, same_kind};
 use vkg_plan::{CheckedPlan, Plan, plan_kinds, well_typed};
-use vkg_schema::read_schema;
+use vkg_schema::Schema;
 
 #[test]
 fn a_plan_is_checked_and_given_back(rt: HostRuntime) -> Result<(), Fail> {
-    let schema = read_schema(rt.alloc(), b"CREATE TABLE t (a INT PRIMARY KEY, b DATE);")
-        .ok()
-        .ok_or("a schema")?;
-    let plan = Plan::Distinct(Box::new(rt.alloc(), Plan::Scan(0))?);
+    let schema = schema_of(rt.alloc(), b"CREATE TABLE t (a INT PRIMARY KEY, b DATE);")?;
+    let plan = Box::new(rt.alloc(), Plan::Distinct(scan(rt.alloc(), 0)?))?;
     let kinds = plan_kinds(rt.alloc(), &plan, &schema)?.ok_or("ill typed")?;
-    assert_eq!(rt; kinds.len(), 2);
+    assert!(rt; kinds.len() == 2);
     assert!(rt; same_kind(kinds.as_slice()[1], SqlType::Date));
-    let copy = plan.copy(rt.alloc())?;
-    let typed = well_typed(rt.alloc(), &copy, &schema)?;
-    assert!(rt; typed);
-    let checked = CheckedPlan::new(copy, &schema);
-    assert!(rt; matches!(checked.plan(), Plan::Distinct(_)));
-    assert!(rt; matches!(checked.into_plan(), Plan::Distinct(_)));
+    assert!(rt; is_given_back(rt.alloc(), &schema, &plan)?);
     Ok(())
+}
+
+// Whether the copy of a DISTINCT is well typed, and is given back behind the check.
+fn is_given_back(alloc: Global, schema: &Schema, plan: &Plan) -> Result<bool, Memory> {
+    let copy = plan.copy(alloc)?;
+    if !well_typed(alloc, &copy, schema)? {
+        return Ok(false);
+    }
+    let checked = CheckedPlan::new(copy, schema);
+    if !matches!(checked.plan(), Plan::Distinct(_)) {
+        return Ok(false);
+    }
+    let plan = checked.into_plan();
+    Ok(matches!(&plan, Plan::Distinct(_)))
 }
 
 fn project(alloc: Global) -> Made {
@@ -64,9 +71,14 @@ fn ill_typed(alloc: Global, rule: &str) -> Made {
     }
 }
 
+fn is_well_typed(alloc: Global, schema: &Schema, plan: Made) -> Result<bool, Memory> {
+    let plan = plan?;
+    well_typed(alloc, &plan, schema)
+}
+
 #[test]
 fn ill_typed_plans_have_no_kinds(rt: HostRuntime) -> Result<(), Fail> {
-    let rules: [&str; 8] = [
+    let rules = &[
         "a table that is not there",
         "a column that is not there",
         "a condition that is no truth",
@@ -76,12 +88,10 @@ fn ill_typed_plans_have_no_kinds(rt: HostRuntime) -> Result<(), Fail> {
         "a union of none",
         "a union of other kinds",
     ];
-    let schema = read_schema(rt.alloc(), b"CREATE TABLE t (a INT PRIMARY KEY);")
-        .ok()
-        .ok_or("a schema")?;
-    for rule in rules {
-        let plan = ill_typed(rt.alloc(), rule)?;
-        assert!(rt; !well_typed(rt.alloc(), &plan, &schema)?, "{rule}");
+    let schema = schema_of(rt.alloc(), b"CREATE TABLE t (a INT PRIMARY KEY);")?;
+    for &rule in rules {
+        let plan = ill_typed(rt.alloc(), rule);
+        assert!(rt; !is_well_typed(rt.alloc(), &schema, plan)?, "{rule}");
     }
     Ok(())
 }

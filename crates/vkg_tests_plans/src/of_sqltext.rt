@@ -1,5 +1,6 @@
 use crate::made::{
-    Made, MadeExpr, column, iri_of, left, null_test, same, scan, scans, select, text,
+    Made, MadeExpr, column, iri_of, left, null_test, same, scan, scans, schema_of, select, text,
+    told,
 };
 use std::alloc::Global;
 use std::test::Fail;
@@ -8,7 +9,7 @@ use vkg_cells::{Cell, SqlType};
 use vkg_expr::{Expr, Operator, Shared};
 use vkg_order::{Direction, Modifiers, Slice};
 use vkg_plan::{CheckedPlan, Plan, well_typed};
-use vkg_schema::{Schema, read_schema};
+use vkg_schema::Schema;
 use vkg_sqltext::{order_text, sql_text};
 use vkg_terms::{Annotation, Term};
 use vkg_values::{Compare, Take};
@@ -115,25 +116,29 @@ fn only(alloc: Global, form: &str, kind: SqlType) -> Made {
     project(alloc, Ok(es), Box::new(alloc, Plan::Empty(kinds)))
 }
 
-// The text of a plan, if it is well typed.
-fn shown(alloc: Global, schema: &Schema, plan: Plan) -> Result<Option<String>, Memory> {
+// The text of a plan.
+fn shown(alloc: Global, schema: &Schema, plan: Made) -> Result<String, Fail> {
+    let plan = plan?.into_inner();
     if !well_typed(alloc, &plan, schema)? {
-        return Ok(None);
+        return Err(Fail::new("ill typed"));
     }
     let plan = CheckedPlan::new(plan, schema);
-    Ok(Some(sql_text(alloc, &plan, schema)?))
+    Ok(sql_text(alloc, &plan, schema)?)
+}
+
+// Whether an expression has this text, in the plan over no rows.
+fn has_text(alloc: Global, schema: &Schema, plan: Made, expected: &str) -> Result<bool, Fail> {
+    let text = shown(alloc, schema, plan)?;
+    let front = format!(in alloc; "SELECT {expected} AS c1 FROM (EMPTY (")?;
+    Ok(text.as_str().starts_with(front.as_str()))
 }
 
 #[test]
 fn each_form_has_its_text(rt: HostRuntime) -> Result<(), Fail> {
-    let schema = read_schema(rt.alloc(), COMPANY.as_bytes())
-        .ok()
-        .ok_or("a schema")?;
-    for (form, kind, expected) in TEXTS_OF_FORMS {
-        let plan = only(rt.alloc(), form, kind)?;
-        let text = shown(rt.alloc(), &schema, plan.into_inner())?.ok_or("ill typed")?;
-        let front = format!(in rt.alloc(); "SELECT {expected} AS c1 FROM (EMPTY (")?;
-        assert!(rt; text.as_str().starts_with(front.as_str()), "{form}");
+    let schema = schema_of(rt.alloc(), COMPANY.as_bytes())?;
+    for &(form, kind, expected) in &TEXTS_OF_FORMS {
+        let plan = only(rt.alloc(), form, kind);
+        assert!(rt; has_text(rt.alloc(), &schema, plan, expected)?, "{form}");
     }
     Ok(())
 }
@@ -212,13 +217,10 @@ const TEXTS_OF_NODES: [(&str, &str); 10] = [
 
 #[test]
 fn each_node_has_its_text(rt: HostRuntime) -> Result<(), Fail> {
-    let schema = read_schema(rt.alloc(), COMPANY.as_bytes())
-        .ok()
-        .ok_or("a schema")?;
-    for (node, expected) in TEXTS_OF_NODES {
-        let plan = made(rt.alloc(), node)?;
-        let text = shown(rt.alloc(), &schema, plan.into_inner())?.ok_or("ill typed")?;
-        assert_eq!(rt; text.as_str(), expected, "{node}");
+    let schema = schema_of(rt.alloc(), COMPANY.as_bytes())?;
+    for &(node, expected) in &TEXTS_OF_NODES {
+        let found = shown(rt.alloc(), &schema, made(rt.alloc(), node));
+        told(&rt, node, found, expected)?;
     }
     Ok(())
 }

@@ -29,12 +29,23 @@ fn call(alloc: Global, words: &[&str], room: usize) -> Result<Ended, Fail> {
     })
 }
 
+/// The status, what is written and the line that is told.
+fn ends(rt: &impl Abort, ended: &Ended, status: Status, out: &[u8], err: &[u8]) {
+    assert!(rt; ended.status == status);
+    assert_eq!(rt; ended.out.as_slice(), out);
+    assert_eq!(rt; ended.err.as_slice(), err);
+}
+
 #[test]
 fn help_finds_no_room(rt: HostRuntime) -> Result<(), Fail> {
     let ended = call(rt.alloc(), ["vkg", "--help"].as_slice(), 3)?;
-    assert!(rt; ended.status == Status::WriteFault);
-    assert_eq!(rt; ended.out.as_slice(), b"vkg".as_slice());
-    assert_eq!(rt; ended.err.as_slice(), b"vkg: write fault\n".as_slice());
+    ends(
+        &rt,
+        &ended,
+        Status::WriteFault,
+        b"vkg",
+        b"vkg: write fault\n",
+    );
     Ok(())
 }
 
@@ -61,7 +72,7 @@ fn dump(
     writes: Vec<(u64, usize)>,
 ) -> Result<Ended, Fail> {
     let mut all = Vec::new(alloc);
-    for word in [
+    for &word in &[
         "vkg",
         "dump",
         "--schema",
@@ -89,29 +100,26 @@ fn dump(
     })
 }
 
-/// The status and the line that is told, with an output that is as it was.
-fn writes_nothing(rt: &impl Abort, ended: Ended, status: Status, line: &[u8]) {
-    assert!(rt; ended.status == status);
-    assert_eq!(rt; ended.out.as_slice(), b"".as_slice());
-    assert_eq!(rt; ended.err.as_slice(), line);
+/// The load of this number fails: nothing is written.
+fn load_fails(rt: &impl Abort, alloc: Global, load: u64) -> Result<(), Fail> {
+    let mut loads = Vec::new(alloc);
+    loads.push(load)?;
+    let ended = dump(
+        alloc,
+        SCHEMA,
+        &[("d/dept.csv", DEPT), ("d/emp.csv", EMP)],
+        loads,
+        Vec::new(alloc),
+    )?;
+    ends(rt, &ended, Status::ReadFault, b"", b"vkg: read fault\n");
+    Ok(())
 }
 
 #[test]
 fn each_load_fails(rt: HostRuntime) -> Result<(), Fail> {
-    let alloc = rt.alloc();
-    for load in [1, 2, 3] {
-        let mut loads = Vec::new(alloc);
-        loads.push(load)?;
-        let ended = dump(
-            alloc,
-            SCHEMA,
-            [("d/dept.csv", DEPT), ("d/emp.csv", EMP)].as_slice(),
-            loads,
-            Vec::new(alloc),
-        )?;
-        writes_nothing(&rt, ended, Status::ReadFault, b"vkg: read fault\n");
-    }
-    Ok(())
+    load_fails(&rt, rt.alloc(), 1)?;
+    load_fails(&rt, rt.alloc(), 2)?;
+    load_fails(&rt, rt.alloc(), 3)
 }
 
 #[test]
@@ -122,15 +130,16 @@ fn the_second_write_fails(rt: HostRuntime) -> Result<(), Fail> {
     let ended = dump(
         alloc,
         SCHEMA,
-        [("d/dept.csv", DEPT), ("d/emp.csv", EMP)].as_slice(),
+        &[("d/dept.csv", DEPT), ("d/emp.csv", EMP)],
         Vec::new(alloc),
         writes,
     )?;
-    assert!(rt; ended.status == Status::WriteFault);
-    assert_eq!(rt;
-        ended.out.as_slice(),
-        b"<http://e/dept/id=1> <http://e/dept#id> \"1\"^^<http://www.w3.org/2001/XMLSchema#integer> .\n<http://e/".as_slice()
+    ends(
+        &rt,
+        &ended,
+        Status::WriteFault,
+        b"<http://e/dept/id=1> <http://e/dept#id> \"1\"^^<http://www.w3.org/2001/XMLSchema#integer> .\n<http://e/",
+        b"vkg: write fault\n",
     );
-    assert_eq!(rt; ended.err.as_slice(), b"vkg: write fault\n".as_slice());
     Ok(())
 }

@@ -1,5 +1,6 @@
 use crate::written::written;
 use std::alloc::Global;
+use std::process::Abort;
 use std::test::Fail;
 use vkg_plain::{ReadFault, Solution, answer, read_quads, solution_lines};
 use vkg_sparql::{Query, read_query};
@@ -35,65 +36,71 @@ fn rows_text(alloc: Global, query: &Query, rows: &[Solution]) -> Result<String, 
     Ok(text.ok_or("no text")?)
 }
 
+/// These are the lines of the answer to a query over the dataset.
+fn answers(rt: &impl Abort, alloc: Global, text: &str, want: &str) -> Result<(), Fail> {
+    let found = answer_to(alloc, text)?;
+    assert_eq!(rt; found.as_str(), want, "at {text}");
+    Ok(())
+}
+
+/// Why a text is no quads.
+fn fault(alloc: Global, text: &str) -> Option<ReadFault> {
+    read_quads(alloc, text).err()
+}
+
 #[test]
 fn quads_are_read_as_they_are_written(rt: HostRuntime) -> Result<(), Fail> {
-    assert_eq!(rt; read_quads(rt.alloc(), DATASET)?.len(), 5);
-    let spaced = read_quads(rt.alloc(), "<http://e/1>  <http://e/p> \"a\" .\n").err();
-    assert_eq!(rt; spaced, Some(ReadFault::NoQuads));
-    let unended = read_quads(rt.alloc(), "<http://e/1> <http://e/p> \"a\n").err();
-    assert_eq!(rt; unended, Some(ReadFault::NoQuads));
+    assert!(rt; read_quads(rt.alloc(), DATASET)?.len() == 5);
+    let spaced = fault(rt.alloc(), "<http://e/1>  <http://e/p> \"a\" .\n");
+    assert!(rt; spaced == Some(ReadFault::NoQuads));
+    let unended = fault(rt.alloc(), "<http://e/1> <http://e/p> \"a\n");
+    assert!(rt; unended == Some(ReadFault::NoQuads));
     Ok(())
 }
 
 #[test]
 fn what_does_not_match_stays_without(rt: HostRuntime) -> Result<(), Fail> {
-    let text = answer_to(
+    answers(
+        &rt,
         rt.alloc(),
         "SELECT ?n ?w { ?x <name> ?n OPTIONAL { ?x <says> ?w } }",
-    )?;
-    assert_eq!(rt;
-        text.as_str(),
-        "?n\t?w\n\"Ann\"\t\"a \\\"b\\\"\\n\"@en\n\"Bo\"\t\n"
-    );
-    Ok(())
+        "?n\t?w\n\"Ann\"\t\"a \\\"b\\\"\\n\"@en\n\"Bo\"\t\n",
+    )
 }
 
 #[test]
 fn graphs_have_their_own_solutions(rt: HostRuntime) -> Result<(), Fail> {
-    let text = answer_to(
+    answers(
+        &rt,
         rt.alloc(),
         "SELECT ?g ?o { GRAPH ?g { [] ?p ?o FILTER(?o = \"Bo\" || ?o < 8) } }",
-    )?;
-    assert_eq!(rt;
-        text.as_str(),
-        "?g\t?o\n<http://e/g>\t\"Bo\"\n_:g\t\"7\"^^<http://www.w3.org/2001/XMLSchema#integer>\n"
-    );
-    Ok(())
+        "?g\t?o\n<http://e/g>\t\"Bo\"\n_:g\t\"7\"^^<http://www.w3.org/2001/XMLSchema#integer>\n",
+    )
 }
 
 #[test]
 fn texts_are_filtered_by_their_characters(rt: HostRuntime) -> Result<(), Fail> {
-    let text = answer_to(
+    answers(
+        &rt,
         rt.alloc(),
         "SELECT ?n { ?x <name> ?n FILTER(STRLEN(?n) = 2 || CONTAINS(?n, \"x\"@en)) }",
-    )?;
-    assert_eq!(rt; text.as_str(), "?n\n\"Bo\"\n");
-    Ok(())
+        "?n\n\"Bo\"\n",
+    )
 }
 
 #[test]
 fn each_is_kept_once(rt: HostRuntime) -> Result<(), Fail> {
-    let text = answer_to(
+    answers(
+        &rt,
         rt.alloc(),
         "SELECT DISTINCT ?n { { ?x <name> ?n } UNION { GRAPH <g> { ?x <name> ?n } } }",
-    )?;
-    assert_eq!(rt; text.as_str(), "?n\n\"Ann\"\n\"Bo\"\n");
-    Ok(())
+        "?n\n\"Ann\"\n\"Bo\"\n",
+    )
 }
 
 #[test]
 fn answers_are_ordered_and_sliced(rt: HostRuntime) -> Result<(), Fail> {
-    let rows = [
+    let rows = &[
         (
             "SELECT ?n { ?x <name> ?n } ORDER BY DESC(?n)",
             "?n\n\"Bo\"\n\"Ann\"\n",
@@ -105,9 +112,8 @@ fn answers_are_ordered_and_sliced(rt: HostRuntime) -> Result<(), Fail> {
         ("SELECT ?n { ?x <name> ?n } OFFSET 1", "?n\n\"Bo\"\n"),
         ("SELECT ?n { ?x <name> ?n } LIMIT 0", "?n\n"),
     ];
-    for (text, want) in rows.iter() {
-        let found = answer_to(rt.alloc(), text)?;
-        assert_eq!(rt; found.as_str(), *want, "at {text}");
+    for &(text, want) in rows {
+        answers(&rt, rt.alloc(), text, want)?;
     }
     Ok(())
 }

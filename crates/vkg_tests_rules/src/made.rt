@@ -1,13 +1,15 @@
-// Expressions and plans that the rules are asked about, and what a rule makes of one.
+// Expressions and plans that the rules are asked about, what a rule makes of one, and what is told of it.
 //
 // All are boxed: where a call fails, what is made by then is dropped, which is short of a box.
 use std::alloc::Global;
+use std::process::Abort;
+use std::test::Fail;
 use vkg_base::{Box, Items, Memory, Text};
 use vkg_cells::{Cell, SqlType};
 use vkg_expr::{Expr, Operator, Shared};
 use vkg_plan::{CheckedPlan, Plan, well_typed};
 use vkg_rules::Rewrite;
-use vkg_schema::Schema;
+use vkg_schema::{Schema, read_schema};
 use vkg_sqltext::sql_text;
 use vkg_terms::Term;
 use vkg_values::{Compare, Test};
@@ -202,4 +204,46 @@ pub fn by<R: Rewrite>(
         None => Ok(String::from_str(alloc, "none")?),
         Some((made, _)) => shown(alloc, schema, made),
     }
+}
+
+// As `by`, of a plan that was just made.
+pub fn made_by<R: Rewrite>(
+    rule: &R,
+    alloc: Global,
+    schema: &Schema,
+    plan: Made,
+) -> Result<String, Memory> {
+    let plan = plan?;
+    by(rule, alloc, schema, &plan)
+}
+
+// The tables that the plans read.
+pub fn schema_of(alloc: Global, text: &[u8]) -> Result<Schema, Fail> {
+    Ok(read_schema(alloc, text).ok().ok_or("a schema")?)
+}
+
+// A rule makes this text of the plan of a name. All tests say so here, since each place that says it is proved.
+pub fn told(
+    rt: &impl Abort,
+    rule: &str,
+    name: &str,
+    found: Result<String, Memory>,
+    expected: &str,
+) -> Result<(), Fail> {
+    let found = found?;
+    assert_eq!(rt; found.as_str(), expected, "{rule}, {name}");
+    Ok(())
+}
+
+// As `told`, of the end of the text.
+pub fn told_end(
+    rt: &impl Abort,
+    rule: &str,
+    name: &str,
+    found: Result<String, Memory>,
+    expected: &str,
+) -> Result<(), Fail> {
+    let found = found?;
+    assert!(rt; found.as_str().ends_with(expected), "{rule}, {name}");
+    Ok(())
 }

@@ -1,11 +1,11 @@
 use crate::made::{
-    Made, MadeExpr, and, by, compared, form, iri, left, not, numbered, or, scan, select, unknown,
+    Made, MadeExpr, and, compared, form, iri, left, made_by, not, numbered, or, scan, schema_of,
+    select, told, unknown,
 };
 use std::alloc::Global;
 use std::test::Fail;
 use vkg_base::Box;
 use vkg_expr::{Expr, Shared};
-use vkg_schema::read_schema;
 use vkg_sure::TermComparison;
 use vkg_terms::Annotation;
 use vkg_values::Compare;
@@ -104,13 +104,10 @@ const OUTCOMES: [(&str, &str); 9] = [
 
 #[test]
 fn comparisons_with_an_iri_become_equalities_of_columns(rt: HostRuntime) -> Result<(), Fail> {
-    let schema = read_schema(rt.alloc(), b"CREATE TABLE t (a INT PRIMARY KEY, b INT);")
-        .ok()
-        .ok_or("a schema")?;
-    for (name, expected) in OUTCOMES {
-        let plan = made(rt.alloc(), name)?;
-        let text = by(&TermComparison, rt.alloc(), &schema, &plan)?;
-        assert_eq!(rt; text.as_str(), expected, "{name}");
+    let schema = schema_of(rt.alloc(), b"CREATE TABLE t (a INT PRIMARY KEY, b INT);")?;
+    for &(name, expected) in &OUTCOMES {
+        let found = made_by(&TermComparison, rt.alloc(), &schema, made(rt.alloc(), name));
+        told(&rt, "TermComparison", name, found, expected)?;
     }
     Ok(())
 }

@@ -1,11 +1,11 @@
 use crate::made::{
-    Made, MadeExpr, and, by, column, constant, not, or, same, scan, select, truth, unknown,
+    Made, MadeExpr, and, column, constant, made_by, not, or, same, scan, schema_of, select,
+    told_end, truth, unknown,
 };
 use std::alloc::Global;
 use std::test::Fail;
 use vkg_cells::{Cell, SqlType};
 use vkg_conditions::SimplifyCondition;
-use vkg_schema::read_schema;
 
 fn nested(alloc: Global) -> MadeExpr {
     let inner = and(alloc, unknown(alloc, 0), unknown(alloc, 1));
@@ -52,13 +52,15 @@ const OUTCOMES: [(&str, &str); 10] = [
 
 #[test]
 fn conditions_are_made_simpler(rt: HostRuntime) -> Result<(), Fail> {
-    let schema = read_schema(rt.alloc(), b"CREATE TABLE t (a INT PRIMARY KEY, b INT);")
-        .ok()
-        .ok_or("a schema")?;
-    for (name, expected) in OUTCOMES {
-        let plan = made(rt.alloc(), name)?;
-        let text = by(&SimplifyCondition, rt.alloc(), &schema, &plan)?;
-        assert!(rt; text.as_str().ends_with(expected), "{name}");
+    let schema = schema_of(rt.alloc(), b"CREATE TABLE t (a INT PRIMARY KEY, b INT);")?;
+    for &(name, expected) in &OUTCOMES {
+        let found = made_by(
+            &SimplifyCondition,
+            rt.alloc(),
+            &schema,
+            made(rt.alloc(), name),
+        );
+        told_end(&rt, "SimplifyCondition", name, found, expected)?;
     }
     Ok(())
 }

@@ -1,6 +1,6 @@
 use crate::made::{
-    Made, MadeExpr, and, by, constant, form, iri, join, left, not, numbered, same, scan, select,
-    truth, union, unknown,
+    Made, MadeExpr, and, constant, form, iri, join, left, made_by, not, numbered, same, scan,
+    schema_of, select, told, truth, union, unknown,
 };
 use std::alloc::Global;
 use std::test::Fail;
@@ -9,7 +9,6 @@ use vkg_cells::{Cell, SqlType};
 use vkg_equalities::TermEquality;
 use vkg_expr::{Expr, Shared};
 use vkg_plan::Plan;
-use vkg_schema::read_schema;
 
 // The IRI of an employee whose number is in a column.
 fn employee(alloc: Global, at: usize) -> MadeExpr {
@@ -104,13 +103,10 @@ const OUTCOMES: [(&str, &str); 10] = [
 
 #[test]
 fn equalities_of_terms_become_equalities_of_columns(rt: HostRuntime) -> Result<(), Fail> {
-    let schema = read_schema(rt.alloc(), b"CREATE TABLE t (a INT PRIMARY KEY, b INT);")
-        .ok()
-        .ok_or("a schema")?;
-    for (name, expected) in OUTCOMES {
-        let plan = made(rt.alloc(), name)?;
-        let text = by(&TermEquality, rt.alloc(), &schema, &plan)?;
-        assert_eq!(rt; text.as_str(), expected, "{name}");
+    let schema = schema_of(rt.alloc(), b"CREATE TABLE t (a INT PRIMARY KEY, b INT);")?;
+    for &(name, expected) in &OUTCOMES {
+        let found = made_by(&TermEquality, rt.alloc(), &schema, made(rt.alloc(), name));
+        told(&rt, "TermEquality", name, found, expected)?;
     }
     Ok(())
 }

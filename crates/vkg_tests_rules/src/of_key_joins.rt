@@ -1,10 +1,11 @@
-use crate::made::{Made, MadeExpr, by, column, join, same, scan, table, values};
+use crate::made::{
+    Made, MadeExpr, column, join, made_by, same, scan, schema_of, table, told, values,
+};
 use std::alloc::Global;
 use std::test::Fail;
 use vkg_base::Memory;
 use vkg_key_joins::{ParentJoin, SelfJoin};
-use vkg_plan::Plan;
-use vkg_schema::{Schema, read_schema};
+use vkg_schema::Schema;
 
 fn equal(alloc: Global, a: usize, b: usize) -> MadeExpr {
     same(alloc, column(alloc, a), column(alloc, b))
@@ -53,10 +54,10 @@ fn made(alloc: Global, plan: &str) -> Made {
     }
 }
 
-fn outcome(alloc: Global, schema: &Schema, rule: &str, plan: &Plan) -> Result<String, Memory> {
+fn outcome(alloc: Global, schema: &Schema, rule: &str, plan: Made) -> Result<String, Memory> {
     match rule {
-        "SelfJoin" => by(&SelfJoin, alloc, schema, plan),
-        _ => by(&ParentJoin, alloc, schema, plan),
+        "SelfJoin" => made_by(&SelfJoin, alloc, schema, plan),
+        _ => made_by(&ParentJoin, alloc, schema, plan),
     }
 }
 
@@ -96,16 +97,13 @@ const OUTCOMES: [(&str, &str, &str); 10] = [
 
 #[test]
 fn tables_that_keys_make_needless_go(rt: HostRuntime) -> Result<(), Fail> {
-    let schema = read_schema(
+    let schema = schema_of(
         rt.alloc(),
         b"CREATE TABLE u (k INT UNIQUE, v INT); CREATE TABLE d (id INT PRIMARY KEY, n INT); CREATE TABLE e (id INT PRIMARY KEY, n INT, d INT, FOREIGN KEY (d) REFERENCES d (id));",
-    )
-    .ok()
-    .ok_or("a schema")?;
-    for (rule, name, expected) in OUTCOMES {
-        let plan = made(rt.alloc(), name)?;
-        let text = outcome(rt.alloc(), &schema, rule, &plan)?;
-        assert_eq!(rt; text.as_str(), expected, "{rule}, {name}");
+    )?;
+    for &(rule, name, expected) in &OUTCOMES {
+        let found = outcome(rt.alloc(), &schema, rule, made(rt.alloc(), name));
+        told(&rt, rule, name, found, expected)?;
     }
     Ok(())
 }

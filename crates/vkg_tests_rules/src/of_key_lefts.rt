@@ -1,19 +1,18 @@
 use crate::made::{
-    Made, MadeExpr, and, by, column, form, join, left, not, same, scan, select, table, truth,
-    unknown, values,
+    Made, MadeExpr, and, column, form, join, left, made_by, not, same, scan, schema_of, select,
+    table, told, truth, unknown, values,
 };
 use std::alloc::Global;
 use std::test::Fail;
 use vkg_base::{Items, Memory};
 use vkg_cells::SqlType;
 use vkg_expr::Expr;
-use vkg_key_lefts::standing::{kinds, standing};
+use vkg_key_lefts::standing::{StandingScan, kinds, standing};
 use vkg_key_lefts::{
     ParentLeft, ReferenceLeft, SelfLeft, SelfLeftMember, is_left, named_columns, put_each, renamed,
     ties_key,
 };
-use vkg_plan::Plan;
-use vkg_schema::{Schema, read_schema};
+use vkg_schema::Schema;
 
 const TABLES: &[u8] =
     b"CREATE TABLE u (k INT UNIQUE, v INT); CREATE TABLE d (id INT PRIMARY KEY, n INT); CREATE TABLE e (id INT PRIMARY KEY, n INT, d INT NOT NULL, FOREIGN KEY (d) REFERENCES d (id)); CREATE TABLE f (id INT PRIMARY KEY, d INT, FOREIGN KEY (d) REFERENCES d (id));";
@@ -161,12 +160,12 @@ fn made(alloc: Global, rule: &str, plan: &str) -> Made {
     }
 }
 
-fn outcome(alloc: Global, schema: &Schema, rule: &str, plan: &Plan) -> Result<String, Memory> {
+fn outcome(alloc: Global, schema: &Schema, rule: &str, plan: Made) -> Result<String, Memory> {
     match rule {
-        "SelfLeft" => by(&SelfLeft, alloc, schema, plan),
-        "SelfLeftMember" => by(&SelfLeftMember, alloc, schema, plan),
-        "ParentLeft" => by(&ParentLeft, alloc, schema, plan),
-        _ => by(&ReferenceLeft, alloc, schema, plan),
+        "SelfLeft" => made_by(&SelfLeft, alloc, schema, plan),
+        "SelfLeftMember" => made_by(&SelfLeftMember, alloc, schema, plan),
+        "ParentLeft" => made_by(&ParentLeft, alloc, schema, plan),
+        _ => made_by(&ReferenceLeft, alloc, schema, plan),
     }
 }
 
@@ -245,49 +244,77 @@ const OUTCOMES: [(&str, &str, &str); 25] = [
 
 #[test]
 fn left_joins_over_keys_go_or_are_joins(rt: HostRuntime) -> Result<(), Fail> {
-    let schema = read_schema(rt.alloc(), TABLES).ok().ok_or("a schema")?;
-    for (rule, name, expected) in OUTCOMES {
-        let plan = made(rt.alloc(), rule, name)?;
-        let text = outcome(rt.alloc(), &schema, rule, &plan)?;
-        assert_eq!(rt; text.as_str(), expected, "{rule}, {name}");
+    let schema = schema_of(rt.alloc(), TABLES)?;
+    for &(rule, name, expected) in &OUTCOMES {
+        let found = outcome(rt.alloc(), &schema, rule, made(rt.alloc(), rule, name));
+        told(&rt, rule, name, found, expected)?;
     }
     Ok(())
 }
 
+// Employees beside some departments: five columns.
+fn with_some(alloc: Global) -> Made {
+    let some = select(alloc, unknown(alloc, 1), table(alloc, 1));
+    join(alloc, table(alloc, 2), some, truth(alloc, true))
+}
+
+fn columns_of_both(alloc: Global, schema: &Schema) -> Result<usize, Memory> {
+    let plan = with_some(alloc)?;
+    Ok(kinds(alloc, schema, &plan)?.len())
+}
+
+fn scans_of_both(alloc: Global, schema: &Schema) -> Result<Items<StandingScan>, Memory> {
+    let plan = with_some(alloc)?;
+    standing(alloc, schema, &[], &plan)
+}
+
+// Whether the equality of two columns ties a key of the scan's table to a table behind five columns.
+fn is_tied(
+    alloc: Global,
+    schema: &Schema,
+    scan: &StandingScan,
+    a: usize,
+    b: usize,
+) -> Result<bool, Memory> {
+    let e = equal(alloc, a, b)?;
+    Ok(ties_key(schema, 5, &e, scan))
+}
+
 #[test]
 fn scans_stand_in_a_plan(rt: HostRuntime) -> Result<(), Fail> {
-    let schema = read_schema(rt.alloc(), TABLES).ok().ok_or("a schema")?;
-    let second = select(rt.alloc(), unknown(rt.alloc(), 1), table(rt.alloc(), 1));
-    let plan = join(
-        rt.alloc(),
-        table(rt.alloc(), 2),
-        second,
-        truth(rt.alloc(), true),
-    )?;
-    assert_eq!(rt; kinds(rt.alloc(), &schema, &plan)?.len(), 5);
-    let all = standing(rt.alloc(), &schema, &[], &plan)?;
-    assert_eq!(rt; all.len(), 2);
+    let schema = schema_of(rt.alloc(), TABLES)?;
+    assert!(rt; columns_of_both(rt.alloc(), &schema)? == 5);
+    let all = scans_of_both(rt.alloc(), &schema)?;
+    assert!(rt; all.len() == 2);
     let last = all.get(1).ok_or("a second one")?;
-    assert_eq!(rt; last.table, 1);
-    assert_eq!(rt; last.before.len(), 3);
-    let tied = equal(rt.alloc(), 3, 5)?;
-    assert!(rt; ties_key(&schema, 5, &tied, last));
-    let other = equal(rt.alloc(), 4, 6)?;
-    assert!(rt; !ties_key(&schema, 5, &other, last));
+    assert!(rt; last.table == 1);
+    assert!(rt; last.before.len() == 3);
+    assert!(rt; is_tied(rt.alloc(), &schema, last, 3, 5)?);
+    assert!(rt; !is_tied(rt.alloc(), &schema, last, 4, 6)?);
     Ok(())
+}
+
+// The names on the left of three columns, of which the second is the left side's fifth.
+fn left_names(alloc: Global) -> Result<Items<Expr>, Memory> {
+    let mut own = Items::new(alloc);
+    own.push(Expr::Col(5))?;
+    renamed(alloc, &[SqlType::Int], own, &[SqlType::Int])
+}
+
+// The form of the second column, by the names.
+fn form_by(alloc: Global, names: &[Expr]) -> Result<Items<Expr>, Memory> {
+    let mut forms = Items::new(alloc);
+    forms.push(form(alloc, 1)?.into_inner())?;
+    put_each(alloc, forms.as_slice(), names)
 }
 
 #[test]
 fn columns_are_named_on_the_left(rt: HostRuntime) -> Result<(), Fail> {
-    let mut own = Items::new(rt.alloc());
-    own.push(Expr::Col(5))?;
-    let names = renamed(rt.alloc(), &[SqlType::Int], own, &[SqlType::Int])?;
-    assert_eq!(rt; names.len(), 3);
-    let mut forms = Items::new(rt.alloc());
-    forms.push(form(rt.alloc(), 1)?.into_inner())?;
-    let put = put_each(rt.alloc(), forms.as_slice(), names.as_slice())?;
+    let names = left_names(rt.alloc())?;
+    assert!(rt; names.len() == 3);
+    let put = form_by(rt.alloc(), names.as_slice())?;
     let made = put.get(0).ok_or("an expression")?;
-    assert_eq!(rt; named_columns(rt.alloc(), made)?.as_slice(), [5].as_slice());
+    assert!(rt; named_columns(rt.alloc(), made)?.as_slice() == [5].as_slice());
     assert!(rt; is_left(rt.alloc(), made, 6)?);
     assert!(rt; !is_left(rt.alloc(), made, 5)?);
     Ok(())

@@ -1,10 +1,12 @@
-use crate::made::{Made, MadeExpr, by, coalesce, column, constant, form, numbered, scan, values};
+use crate::made::{
+    Made, MadeExpr, coalesce, column, constant, form, made_by, numbered, scan, schema_of, told,
+    values,
+};
 use std::alloc::Global;
 use std::test::Fail;
 use vkg_base::{Box, Items};
 use vkg_cells::{Cell, SqlType};
 use vkg_expr::Expr;
-use vkg_schema::read_schema;
 use vkg_sure::FirstKnown;
 
 fn null(alloc: Global, kind: SqlType) -> MadeExpr {
@@ -84,13 +86,10 @@ const OUTCOMES: [(&str, &str); 10] = [
 
 #[test]
 fn members_that_are_never_the_value_go(rt: HostRuntime) -> Result<(), Fail> {
-    let schema = read_schema(rt.alloc(), b"CREATE TABLE t (a INT PRIMARY KEY, b INT);")
-        .ok()
-        .ok_or("a schema")?;
-    for (name, expected) in OUTCOMES {
-        let plan = made(rt.alloc(), name)?;
-        let text = by(&FirstKnown, rt.alloc(), &schema, &plan)?;
-        assert_eq!(rt; text.as_str(), expected, "{name}");
+    let schema = schema_of(rt.alloc(), b"CREATE TABLE t (a INT PRIMARY KEY, b INT);")?;
+    for &(name, expected) in &OUTCOMES {
+        let found = made_by(&FirstKnown, rt.alloc(), &schema, made(rt.alloc(), name));
+        told(&rt, "FirstKnown", name, found, expected)?;
     }
     Ok(())
 }

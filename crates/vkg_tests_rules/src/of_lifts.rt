@@ -1,11 +1,11 @@
 use crate::made::{
-    Made, MadeExpr, by, column, constant, join, left, project, same, scan, select, turned, unknown,
+    Made, MadeExpr, column, constant, join, left, made_by, project, same, scan, schema_of, select,
+    told, turned, unknown,
 };
 use std::alloc::Global;
 use std::test::Fail;
 use vkg_cells::{Cell, SqlType};
 use vkg_lifts::LiftProjects;
-use vkg_schema::read_schema;
 
 // The first columns of two sides are equal.
 fn equal(alloc: Global) -> MadeExpr {
@@ -88,13 +88,10 @@ const OUTCOMES: [(&str, &str); 9] = [
 
 #[test]
 fn projections_come_above_a_node(rt: HostRuntime) -> Result<(), Fail> {
-    let schema = read_schema(rt.alloc(), b"CREATE TABLE t (a INT PRIMARY KEY, b INT);")
-        .ok()
-        .ok_or("a schema")?;
-    for (name, expected) in OUTCOMES {
-        let plan = made(rt.alloc(), name)?;
-        let text = by(&LiftProjects, rt.alloc(), &schema, &plan)?;
-        assert_eq!(rt; text.as_str(), expected, "{name}");
+    let schema = schema_of(rt.alloc(), b"CREATE TABLE t (a INT PRIMARY KEY, b INT);")?;
+    for &(name, expected) in &OUTCOMES {
+        let found = made_by(&LiftProjects, rt.alloc(), &schema, made(rt.alloc(), name));
+        told(&rt, "LiftProjects", name, found, expected)?;
     }
     Ok(())
 }

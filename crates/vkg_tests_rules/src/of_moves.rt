@@ -1,13 +1,12 @@
 use crate::made::{
-    Made, MadeExpr, by, column, is_iri, join, left, not, project, same, scan, select, turned,
-    unknown,
+    Made, MadeExpr, column, is_iri, join, left, made_by, not, project, same, scan, schema_of,
+    select, told, turned, unknown,
 };
 use std::alloc::Global;
 use std::test::Fail;
 use vkg_base::Memory;
 use vkg_moves::{LeftToJoin, MergeProjects, MergeSelects};
-use vkg_plan::Plan;
-use vkg_schema::{Schema, read_schema};
+use vkg_schema::Schema;
 
 fn equal(alloc: Global, a: usize, b: usize) -> MadeExpr {
     same(alloc, column(alloc, a), column(alloc, b))
@@ -59,11 +58,11 @@ fn made(alloc: Global, plan: &str) -> Made {
     }
 }
 
-fn outcome(alloc: Global, schema: &Schema, rule: &str, plan: &Plan) -> Result<String, Memory> {
+fn outcome(alloc: Global, schema: &Schema, rule: &str, plan: Made) -> Result<String, Memory> {
     match rule {
-        "MergeSelects" => by(&MergeSelects, alloc, schema, plan),
-        "MergeProjects" => by(&MergeProjects, alloc, schema, plan),
-        _ => by(&LeftToJoin, alloc, schema, plan),
+        "MergeSelects" => made_by(&MergeSelects, alloc, schema, plan),
+        "MergeProjects" => made_by(&MergeProjects, alloc, schema, plan),
+        _ => made_by(&LeftToJoin, alloc, schema, plan),
     }
 }
 
@@ -130,13 +129,10 @@ const OUTCOMES: [(&str, &str, &str); 17] = [
 
 #[test]
 fn nodes_move_and_merge(rt: HostRuntime) -> Result<(), Fail> {
-    let schema = read_schema(rt.alloc(), b"CREATE TABLE t (a INT PRIMARY KEY, b INT);")
-        .ok()
-        .ok_or("a schema")?;
-    for (rule, name, expected) in OUTCOMES {
-        let plan = made(rt.alloc(), name)?;
-        let text = outcome(rt.alloc(), &schema, rule, &plan)?;
-        assert_eq!(rt; text.as_str(), expected, "{rule}, {name}");
+    let schema = schema_of(rt.alloc(), b"CREATE TABLE t (a INT PRIMARY KEY, b INT);")?;
+    for &(rule, name, expected) in &OUTCOMES {
+        let found = outcome(rt.alloc(), &schema, rule, made(rt.alloc(), name));
+        told(&rt, rule, name, found, expected)?;
     }
     Ok(())
 }

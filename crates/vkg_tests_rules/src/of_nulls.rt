@@ -1,11 +1,13 @@
-use crate::made::{Made, MadeExpr, by, column, constant, left, scan, select, truth, unknown};
+use crate::made::{
+    Made, MadeExpr, column, constant, left, made_by, scan, schema_of, select, told_end, truth,
+    unknown,
+};
 use std::alloc::Global;
 use std::test::Fail;
 use vkg_base::Box;
 use vkg_cells::{Cell, SqlType};
 use vkg_expr::Expr;
 use vkg_nulls::SimplifyNull;
-use vkg_schema::read_schema;
 
 // An expression is NULL.
 fn test(alloc: Global, e: MadeExpr) -> MadeExpr {
@@ -49,13 +51,10 @@ const OUTCOMES: [(&str, &str); 6] = [
 
 #[test]
 fn tests_for_null_are_made_simpler(rt: HostRuntime) -> Result<(), Fail> {
-    let schema = read_schema(rt.alloc(), b"CREATE TABLE t (a INT PRIMARY KEY, b INT);")
-        .ok()
-        .ok_or("a schema")?;
-    for (name, expected) in OUTCOMES {
-        let plan = made(rt.alloc(), name)?;
-        let text = by(&SimplifyNull, rt.alloc(), &schema, &plan)?;
-        assert!(rt; text.as_str().ends_with(expected), "{name}");
+    let schema = schema_of(rt.alloc(), b"CREATE TABLE t (a INT PRIMARY KEY, b INT);")?;
+    for &(name, expected) in &OUTCOMES {
+        let found = made_by(&SimplifyNull, rt.alloc(), &schema, made(rt.alloc(), name));
+        told_end(&rt, "SimplifyNull", name, found, expected)?;
     }
     Ok(())
 }

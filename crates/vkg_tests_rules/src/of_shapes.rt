@@ -1,4 +1,4 @@
-use crate::made::{Made, by, join, left, scan, select, truth, union};
+use crate::made::{Made, join, left, made_by, scan, schema_of, select, told, truth, union};
 use std::alloc::Global;
 use std::test::Fail;
 use vkg_base::{Box, Items, Memory};
@@ -6,7 +6,7 @@ use vkg_cells::SqlType;
 use vkg_chains::Fix;
 use vkg_plan::Plan;
 use vkg_rules::{Either, Everywhere};
-use vkg_schema::{Schema, read_schema};
+use vkg_schema::Schema;
 use vkg_shapes::{FalseCondition, FewMembers, FlatUnion, PropagateEmpty, SelectTrue};
 
 fn nothing(alloc: Global) -> Made {
@@ -50,12 +50,12 @@ fn made(alloc: Global, plan: &str) -> Made {
     }
 }
 
-fn to_the_end(alloc: Global, schema: &Schema, plan: &Plan) -> Result<String, Memory> {
+fn to_the_end(alloc: Global, schema: &Schema, plan: Made) -> Result<String, Memory> {
     let rule = Either {
         first: SelectTrue,
         second: FewMembers,
     };
-    by(
+    made_by(
         &Fix {
             rule: Everywhere { rule },
         },
@@ -65,13 +65,13 @@ fn to_the_end(alloc: Global, schema: &Schema, plan: &Plan) -> Result<String, Mem
     )
 }
 
-fn outcome(alloc: Global, schema: &Schema, rule: &str, plan: &Plan) -> Result<String, Memory> {
+fn outcome(alloc: Global, schema: &Schema, rule: &str, plan: Made) -> Result<String, Memory> {
     match rule {
-        "SelectTrue" => by(&SelectTrue, alloc, schema, plan),
-        "FalseCondition" => by(&FalseCondition, alloc, schema, plan),
-        "PropagateEmpty" => by(&PropagateEmpty, alloc, schema, plan),
-        "FewMembers" => by(&FewMembers, alloc, schema, plan),
-        "FlatUnion" => by(&FlatUnion, alloc, schema, plan),
+        "SelectTrue" => made_by(&SelectTrue, alloc, schema, plan),
+        "FalseCondition" => made_by(&FalseCondition, alloc, schema, plan),
+        "PropagateEmpty" => made_by(&PropagateEmpty, alloc, schema, plan),
+        "FewMembers" => made_by(&FewMembers, alloc, schema, plan),
+        "FlatUnion" => made_by(&FlatUnion, alloc, schema, plan),
         _ => to_the_end(alloc, schema, plan),
     }
 }
@@ -114,13 +114,10 @@ const OUTCOMES: [(&str, &str, &str); 16] = [
 
 #[test]
 fn each_rule_makes_what_its_definition_says(rt: HostRuntime) -> Result<(), Fail> {
-    let schema = read_schema(rt.alloc(), b"CREATE TABLE t (a INT PRIMARY KEY);")
-        .ok()
-        .ok_or("a schema")?;
-    for (rule, plan, expected) in OUTCOMES {
-        let made = made(rt.alloc(), plan)?;
-        let text = outcome(rt.alloc(), &schema, rule, &made)?;
-        assert_eq!(rt; text.as_str(), expected, "{rule}, {plan}");
+    let schema = schema_of(rt.alloc(), b"CREATE TABLE t (a INT PRIMARY KEY);")?;
+    for &(rule, plan, expected) in &OUTCOMES {
+        let found = outcome(rt.alloc(), &schema, rule, made(rt.alloc(), plan));
+        told(&rt, rule, plan, found, expected)?;
     }
     Ok(())
 }

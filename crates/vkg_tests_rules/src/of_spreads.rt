@@ -1,9 +1,9 @@
 use crate::made::{
-    Made, MadeExpr, by, column, join, left, same, scan, select, turned, union, unknown,
+    Made, MadeExpr, column, join, left, made_by, same, scan, schema_of, select, told, turned,
+    union, unknown,
 };
 use std::alloc::Global;
 use std::test::Fail;
-use vkg_schema::read_schema;
 use vkg_spreads::DistributeUnion;
 
 // The first columns of two sides are equal.
@@ -55,35 +55,35 @@ const OUTCOMES: [(&str, &str); 6] = [
 
 #[test]
 fn unions_come_above_a_node(rt: HostRuntime) -> Result<(), Fail> {
-    let schema = read_schema(rt.alloc(), b"CREATE TABLE t (a INT PRIMARY KEY, b INT);")
-        .ok()
-        .ok_or("a schema")?;
-    for (name, expected) in OUTCOMES {
-        let plan = made(rt.alloc(), name)?;
-        let text = by(&DistributeUnion, rt.alloc(), &schema, &plan)?;
-        assert_eq!(rt; text.as_str(), expected, "{name}");
+    let schema = schema_of(rt.alloc(), b"CREATE TABLE t (a INT PRIMARY KEY, b INT);")?;
+    for &(name, expected) in &OUTCOMES {
+        let found = made_by(
+            &DistributeUnion,
+            rt.alloc(),
+            &schema,
+            made(rt.alloc(), name),
+        );
+        told(&rt, "DistributeUnion", name, found, expected)?;
     }
     Ok(())
 }
 
+// A join in a join, to so many levels, with twice as many products at each.
+fn of_levels(alloc: Global, levels: usize) -> Made {
+    let mut plan = two(alloc);
+    for _ in 0..levels {
+        plan = join(alloc, two(alloc), turned(alloc, plan), equal(alloc));
+    }
+    plan
+}
+
 #[test]
 fn a_join_of_more_than_64_products_stays(rt: HostRuntime) -> Result<(), Fail> {
-    let schema = read_schema(rt.alloc(), b"CREATE TABLE t (a INT PRIMARY KEY, b INT);")
-        .ok()
-        .ok_or("a schema")?;
-    for (levels, stays) in [(5, false), (6, true)] {
-        let mut plan = two(rt.alloc());
-        for _ in 0..levels {
-            plan = join(
-                rt.alloc(),
-                two(rt.alloc()),
-                turned(rt.alloc(), plan),
-                equal(rt.alloc()),
-            );
-        }
-        let plan = plan?;
-        let text = by(&DistributeUnion, rt.alloc(), &schema, &plan)?;
-        assert_eq!(rt; text.as_str() == "none", stays, "{levels}");
+    let schema = schema_of(rt.alloc(), b"CREATE TABLE t (a INT PRIMARY KEY, b INT);")?;
+    for &(levels, stays) in &[(5, false), (6, true)] {
+        let plan = of_levels(rt.alloc(), levels);
+        let found = made_by(&DistributeUnion, rt.alloc(), &schema, plan)?;
+        assert!(rt; (found.as_str() == "none") == stays, "{levels}");
     }
     Ok(())
 }

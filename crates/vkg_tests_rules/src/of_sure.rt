@@ -1,9 +1,10 @@
 use crate::made::{
-    Made, and, by, column, form, left, not, same, scan, select, truth, union, unknown, values,
+    Made, MadeExpr, and, column, form, left, made_by, not, same, scan, schema_of, select, told,
+    truth, union, unknown, values,
 };
 use std::alloc::Global;
 use std::test::Fail;
-use vkg_schema::read_schema;
+use vkg_base::Memory;
 use vkg_sure::{OwnColumns, SureNull};
 
 fn padded(alloc: Global) -> Made {
@@ -94,36 +95,34 @@ const OUTCOMES: [(&str, &str); 10] = [
 
 #[test]
 fn columns_that_are_never_null_are_tested_no_more(rt: HostRuntime) -> Result<(), Fail> {
-    let schema = read_schema(rt.alloc(), b"CREATE TABLE t (a INT PRIMARY KEY, b INT);")
-        .ok()
-        .ok_or("a schema")?;
-    for (name, expected) in OUTCOMES {
-        let plan = made(rt.alloc(), name)?;
-        let text = by(&SureNull, rt.alloc(), &schema, &plan)?;
-        assert_eq!(rt; text.as_str(), expected, "{name}");
+    let schema = schema_of(rt.alloc(), b"CREATE TABLE t (a INT PRIMARY KEY, b INT);")?;
+    for &(name, expected) in &OUTCOMES {
+        let found = made_by(&SureNull, rt.alloc(), &schema, made(rt.alloc(), name));
+        told(&rt, "SureNull", name, found, expected)?;
     }
     Ok(())
 }
 
+// Whether it is told that a value is never NULL.
+fn is_known(own: &OwnColumns<'_>, alloc: Global, e: MadeExpr) -> Result<bool, Memory> {
+    let e = e?;
+    own.is_known(alloc, &e)
+}
+
 #[test]
 fn it_is_told_which_columns_are_never_null(rt: HostRuntime) -> Result<(), Fail> {
-    let schema = read_schema(rt.alloc(), b"CREATE TABLE t (a INT PRIMARY KEY, b INT);")
-        .ok()
-        .ok_or("a schema")?;
+    let schema = schema_of(rt.alloc(), b"CREATE TABLE t (a INT PRIMARY KEY, b INT);")?;
     let plan = select(rt.alloc(), truth(rt.alloc(), true), padded(rt.alloc()))?;
     let own = OwnColumns::of(&schema, &plan);
-    for (column, expected) in [(0, true), (1, false), (2, false), (3, false), (4, false)] {
-        assert_eq!(rt;
-            own.is_never_null(rt.alloc(), column)?,
-            expected,
-            "{column}"
-        );
+    for &(column, expected) in &[(0, true), (1, false), (2, false), (3, false), (4, false)] {
+        let found = own.is_never_null(rt.alloc(), column)?;
+        assert!(rt; found == expected, "{column}");
     }
-    let strict = form(rt.alloc(), 0)?;
-    assert!(rt; own.is_known(rt.alloc(), &strict)?);
-    let null = form(rt.alloc(), 1)?;
-    assert!(rt; !own.is_known(rt.alloc(), &null)?);
-    let tested = unknown(rt.alloc(), 0)?;
-    assert!(rt; !own.is_known(rt.alloc(), &tested)?);
+    assert!(rt; is_known(&own, rt.alloc(), form(rt.alloc(), 0))?, "strict");
+    assert!(rt; !is_known(&own, rt.alloc(), form(rt.alloc(), 1))?, "null");
+    assert!(rt;
+        !is_known(&own, rt.alloc(), unknown(rt.alloc(), 0))?,
+        "tested"
+    );
     Ok(())
 }

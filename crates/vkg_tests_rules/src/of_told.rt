@@ -1,7 +1,8 @@
-use crate::made::{Made, MadeExpr, and, by, column, not, or, same, scan, select, unknown};
+use crate::made::{
+    Made, MadeExpr, and, column, made_by, not, or, same, scan, schema_of, select, told, unknown,
+};
 use std::alloc::Global;
 use std::test::Fail;
-use vkg_schema::read_schema;
 use vkg_sure::KnownMember;
 
 fn known(alloc: Global, at: usize) -> MadeExpr {
@@ -54,13 +55,10 @@ const OUTCOMES: [(&str, &str); 6] = [
 
 #[test]
 fn beside_what_says_so_a_column_is_tested_no_more(rt: HostRuntime) -> Result<(), Fail> {
-    let schema = read_schema(rt.alloc(), b"CREATE TABLE t (a INT PRIMARY KEY, b INT);")
-        .ok()
-        .ok_or("a schema")?;
-    for (name, expected) in OUTCOMES {
-        let plan = made(rt.alloc(), name)?;
-        let text = by(&KnownMember, rt.alloc(), &schema, &plan)?;
-        assert_eq!(rt; text.as_str(), expected, "{name}");
+    let schema = schema_of(rt.alloc(), b"CREATE TABLE t (a INT PRIMARY KEY, b INT);")?;
+    for &(name, expected) in &OUTCOMES {
+        let found = made_by(&KnownMember, rt.alloc(), &schema, made(rt.alloc(), name));
+        told(&rt, "KnownMember", name, found, expected)?;
     }
     Ok(())
 }

@@ -1,9 +1,8 @@
-use crate::made::{Made, by, distinct, scan, select, union, unknown};
+use crate::made::{Made, distinct, made_by, scan, schema_of, select, told, union, unknown};
 use std::alloc::Global;
 use std::test::Fail;
 use vkg_base::Memory;
-use vkg_plan::Plan;
-use vkg_schema::{Schema, read_schema};
+use vkg_schema::Schema;
 use vkg_unions::{DistinctDistinct, EqualMembers};
 
 fn some(alloc: Global, p: Made) -> Made {
@@ -20,10 +19,10 @@ fn made(alloc: Global, plan: &str) -> Made {
     }
 }
 
-fn outcome(alloc: Global, schema: &Schema, rule: &str, plan: &Plan) -> Result<String, Memory> {
+fn outcome(alloc: Global, schema: &Schema, rule: &str, plan: Made) -> Result<String, Memory> {
     match rule {
-        "DistinctDistinct" => by(&DistinctDistinct, alloc, schema, plan),
-        _ => by(&EqualMembers, alloc, schema, plan),
+        "DistinctDistinct" => made_by(&DistinctDistinct, alloc, schema, plan),
+        _ => made_by(&EqualMembers, alloc, schema, plan),
     }
 }
 
@@ -46,13 +45,10 @@ const OUTCOMES: [(&str, &str, &str); 5] = [
 
 #[test]
 fn what_a_distinct_makes_needless_goes(rt: HostRuntime) -> Result<(), Fail> {
-    let schema = read_schema(rt.alloc(), b"CREATE TABLE t (a INT PRIMARY KEY, b INT);")
-        .ok()
-        .ok_or("a schema")?;
-    for (rule, name, expected) in OUTCOMES {
-        let plan = made(rt.alloc(), name)?;
-        let text = outcome(rt.alloc(), &schema, rule, &plan)?;
-        assert_eq!(rt; text.as_str(), expected, "{rule}, {name}");
+    let schema = schema_of(rt.alloc(), b"CREATE TABLE t (a INT PRIMARY KEY, b INT);")?;
+    for &(rule, name, expected) in &OUTCOMES {
+        let found = outcome(rt.alloc(), &schema, rule, made(rt.alloc(), name));
+        told(&rt, rule, name, found, expected)?;
     }
     Ok(())
 }

@@ -1,9 +1,11 @@
-use crate::made::{Made, by, column, distinct, left, numbered, same, scan, table, union, values};
+use crate::made::{
+    Made, column, distinct, left, made_by, numbered, same, scan, schema_of, table, told, union,
+    values,
+};
 use std::alloc::Global;
 use std::test::Fail;
 use vkg_base::Memory;
-use vkg_plan::Plan;
-use vkg_schema::{Schema, read_schema};
+use vkg_schema::Schema;
 use vkg_unique::{DistinctUnique, UnusedLeft};
 
 fn iris(alloc: Global, front: &str, at: usize) -> Made {
@@ -45,10 +47,10 @@ fn made(alloc: Global, name: &str) -> Made {
     }
 }
 
-fn outcome(alloc: Global, schema: &Schema, rule: &str, plan: &Plan) -> Result<String, Memory> {
+fn outcome(alloc: Global, schema: &Schema, rule: &str, plan: Made) -> Result<String, Memory> {
     match rule {
-        "DistinctUnique" => by(&DistinctUnique, alloc, schema, plan),
-        _ => by(&UnusedLeft, alloc, schema, plan),
+        "DistinctUnique" => made_by(&DistinctUnique, alloc, schema, plan),
+        _ => made_by(&UnusedLeft, alloc, schema, plan),
     }
 }
 
@@ -80,16 +82,13 @@ const OUTCOMES: [(&str, &str, &str); 10] = [
 
 #[test]
 fn what_keys_make_needless_goes(rt: HostRuntime) -> Result<(), Fail> {
-    let schema = read_schema(
+    let schema = schema_of(
         rt.alloc(),
         b"CREATE TABLE t (a INT PRIMARY KEY, b INT); CREATE TABLE u (k INT UNIQUE, v INT); CREATE TABLE l (x INT, y INT);",
-    )
-    .ok()
-    .ok_or("a schema")?;
-    for (rule, name, expected) in OUTCOMES {
-        let plan = made(rt.alloc(), name)?;
-        let text = outcome(rt.alloc(), &schema, rule, &plan)?;
-        assert_eq!(rt; text.as_str(), expected, "{rule}, {name}");
+    )?;
+    for &(rule, name, expected) in &OUTCOMES {
+        let found = outcome(rt.alloc(), &schema, rule, made(rt.alloc(), name));
+        told(&rt, rule, name, found, expected)?;
     }
     Ok(())
 }

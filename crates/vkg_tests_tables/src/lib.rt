@@ -23,3 +23,5 @@ mod of_index;
 mod of_quads;
 #[cfg(test)]
 mod of_tables;
+#[cfg(test)]
+mod told;

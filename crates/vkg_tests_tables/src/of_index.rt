@@ -1,6 +1,6 @@
+use crate::told::told;
 use std::alloc::Global;
 use std::test::Fail;
-use vkg_base::Memory;
 use vkg_index::{grouped_lent, key_of_lent};
 use vkg_schema::read_schema;
 use vkg_tables::{Database, TableRows};
@@ -20,19 +20,19 @@ fn table(alloc: Global) -> Result<Database, Fail> {
 fn rows_of_a_table_are_grouped_by_their_keys(rt: HostRuntime) -> Result<(), Fail> {
     let database = table(rt.alloc())?;
     let index = grouped_lent(rt.alloc(), &[1], &database.table(0))?;
-    let groups: [(&str, usize); 3] = [("1\0", 2), ("\0", 0), ("2\0", 0)];
-    for (key, expected) in groups {
+    let groups = &[("1\0", 2), ("\0", 0), ("2\0", 0)];
+    for &(key, expected) in groups {
         let found = match index.get(key) {
             None => 0,
             Some(numbers) => numbers.len(),
         };
-        assert_eq!(rt; found, expected, "{key}");
+        assert!(rt; found == expected, "{key}");
     }
     Ok(())
 }
 
 // The key of each row by the second and the first column, or `none`.
-fn keys(alloc: Global, rows: &TableRows<'_>) -> Result<String, Memory> {
+fn keys(alloc: Global, rows: &TableRows<'_>) -> Result<String, Fail> {
     let mut all = String::new(alloc);
     for i in 0..rows.len() {
         match key_of_lent(alloc, &[1, 0], &rows.row(i))? {
@@ -47,7 +47,6 @@ fn keys(alloc: Global, rows: &TableRows<'_>) -> Result<String, Memory> {
 #[test]
 fn rows_of_a_table_have_keys(rt: HostRuntime) -> Result<(), Fail> {
     let database = table(rt.alloc())?;
-    let all = keys(rt.alloc(), &database.table(0))?;
-    assert_eq!(rt; all.as_str(), "1\0x\0;1\0y\0;none;");
-    Ok(())
+    let found = keys(rt.alloc(), &database.table(0));
+    told(&rt, "keys", found, "1\0x\0;1\0y\0;none;")
 }

@@ -1,3 +1,4 @@
+use crate::told::told;
 use std::alloc::Global;
 use std::test::Fail;
 use vkg_base::{Items, Memory, Text};
@@ -57,13 +58,13 @@ fn shown_field(alloc: Global, map: &TermMap, field: &str) -> Result<String, Fail
 #[test]
 fn a_column_gives_iris(rt: HostRuntime) -> Result<(), Fail> {
     let map = TermMap::Column(0, TermType::Iri);
-    for (cell, expected) in [
+    for &(cell, expected) in &[
         ("q", "<http://e/q>"),
         ("http://e/q", "<http://e/q>"),
         ("a b", "X01"),
         ("\\N", "none"),
     ] {
-        assert_eq!(rt; shown_field(rt.alloc(), &map, cell)?.as_str(), expected);
+        told(&rt, cell, shown_field(rt.alloc(), &map, cell), expected)?;
     }
     Ok(())
 }
@@ -72,12 +73,12 @@ fn a_column_gives_iris(rt: HostRuntime) -> Result<(), Fail> {
 fn a_form_is_of_its_datatype(rt: HostRuntime) -> Result<(), Fail> {
     let datatype = Annotation::typed(Text::new(rt.alloc(), INTEGER)?);
     let map = TermMap::Column(0, TermType::Literal(datatype));
-    for (cell, expected) in [
+    for &(cell, expected) in &[
         ("01", "\"01\"^^<http://www.w3.org/2001/XMLSchema#integer>"),
         ("x", "X02"),
         ("999999999999999999999999999999999999999", "X03"),
     ] {
-        assert_eq!(rt; shown_field(rt.alloc(), &map, cell)?.as_str(), expected);
+        told(&rt, cell, shown_field(rt.alloc(), &map, cell), expected)?;
     }
     Ok(())
 }
@@ -85,23 +86,27 @@ fn a_form_is_of_its_datatype(rt: HostRuntime) -> Result<(), Fail> {
 #[test]
 fn a_template_is_made_safe_in_an_iri(rt: HostRuntime) -> Result<(), Fail> {
     let map = template(rt.alloc(), TermType::Iri)?;
-    let found = shown_field(rt.alloc(), &map, "a b/é%")?;
-    assert_eq!(rt; found.as_str(), "<http://e/a%20b%2Fé%25>");
-    Ok(())
+    told(
+        &rt,
+        "a b/é%",
+        shown_field(rt.alloc(), &map, "a b/é%"),
+        "<http://e/a%20b%2Fé%25>",
+    )
 }
 
 #[test]
 fn a_template_is_kept_in_a_literal(rt: HostRuntime) -> Result<(), Fail> {
     let map = template(rt.alloc(), TermType::Literal(Annotation::Plain))?;
-    let found = shown_field(rt.alloc(), &map, "a b")?;
-    assert_eq!(rt; found.as_str(), "\"http://e/a b\"");
-    Ok(())
+    told(
+        &rt,
+        "a b",
+        shown_field(rt.alloc(), &map, "a b"),
+        "\"http://e/a b\"",
+    )
 }
 
 #[test]
 fn a_blank_node_is_labelled_by_octets(rt: HostRuntime) -> Result<(), Fail> {
     let map = TermMap::Column(0, TermType::Blank);
-    let found = shown_field(rt.alloc(), &map, "q1")?;
-    assert_eq!(rt; found.as_str(), "_:b7131");
-    Ok(())
+    told(&rt, "q1", shown_field(rt.alloc(), &map, "q1"), "_:b7131")
 }

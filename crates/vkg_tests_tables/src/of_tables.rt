@@ -27,16 +27,11 @@ fn an_error_leaves_the_rows(rt: HostRuntime) -> Result<(), Fail> {
     let schema = read_schema(rt.alloc(), COMPANY.as_bytes()).expect(&rt, "a schema");
     let mut database = Database::new(rt.alloc(), &schema).expect(&rt, "a database");
     assert!(rt; 0 < database.schema().tables().len());
-    assert_eq!(rt;
-        answer(database.load_table(rt.alloc(), 0, DEPT.as_bytes())),
-        ACCEPTED
-    );
+    assert!(rt; answer(database.load_table(rt.alloc(), 0, DEPT.as_bytes())) == ACCEPTED);
     assert!(rt; 0 < database.schema().tables().len());
-    assert_eq!(rt;
-        answer(database.load_table(rt.alloc(), 0, b"id,title\n3,x\ny,x\n")),
-        (6, 1, 2, 1)
-    );
-    assert_eq!(rt; database.rows(0), 2);
+    let refused = answer(database.load_table(rt.alloc(), 0, b"id,title\n3,x\ny,x\n"));
+    assert!(rt; refused == (6, 1, 2, 1));
+    assert!(rt; database.rows(0) == 2);
     let rows = database.table(0);
     assert!(rt; 1 < rows.len());
     let title = rows.row(1).cell(1).to_cell(rt.alloc())?;

@@ -23,7 +23,7 @@ fn lines(alloc: Global, texts: &[&str]) -> Result<Lines, Fail> {
 
 #[test]
 fn statuses_have_their_numbers(rt: HostRuntime) {
-    for (status, number) in [
+    for &(status, number) in &[
         (Status::Done, 0),
         (Status::Usage, 2),
         (Status::BadSchema, 3),
@@ -35,7 +35,15 @@ fn statuses_have_their_numbers(rt: HostRuntime) {
         (Status::WriteFault, 9),
         (Status::Memory, 10),
     ] {
-        assert_eq!(rt; status.number(), number);
+        assert!(rt; status.number() == number, "{number}");
+    }
+}
+
+// Whether a load gives the bytes of this text.
+fn are_loaded(loaded: Result<Vec<u8>, LoadFault>, text: &str) -> bool {
+    match loaded {
+        Ok(bytes) => bytes.as_slice() == text.as_bytes(),
+        Err(_) => false,
     }
 }
 
@@ -43,14 +51,11 @@ fn statuses_have_their_numbers(rt: HostRuntime) {
 fn a_file_is_cut_at_the_limit(rt: HostRuntime) -> Result<(), Fail> {
     let alloc = rt.alloc();
     let mut store = store(alloc, Vec::new(alloc))?;
-    for (limit, text) in [(10, "hello worl"), (11, "hello world"), (12, "hello world")] {
-        let Ok(bytes) = store.load(alloc, "greeting.txt", limit) else {
-            assert!(rt; false, "at {limit}");
-            return Ok(());
-        };
-        assert_eq!(rt; bytes.as_slice(), text.as_bytes(), "at {limit}");
+    for &(limit, text) in &[(10, "hello worl"), (11, "hello world"), (12, "hello world")] {
+        let loaded = store.load(alloc, "greeting.txt", limit);
+        assert!(rt; are_loaded(loaded, text), "at {limit}");
     }
-    assert_eq!(rt; store.faults(), 0);
+    assert!(rt; store.faults() == 0);
     Ok(())
 }
 
@@ -62,14 +67,14 @@ fn fault(alloc: Global, store: &mut MemStore, name: &str) -> Option<LoadFault> {
 #[test]
 fn listed_and_missing_loads_fail(rt: HostRuntime) -> Result<(), Fail> {
     let mut store = store(rt.alloc(), Vec::from_slice(rt.alloc(), &[2])?)?;
-    for (name, expected, faults) in [
+    for &(name, expected, faults) in &[
         ("greeting.txt", None, 0),
         ("greeting.txt", Some(LoadFault::Failed), 1),
         ("greeting.txt", None, 1),
         ("greeting", Some(LoadFault::Failed), 2),
     ] {
-        assert_eq!(rt; fault(rt.alloc(), &mut store, name), expected);
-        assert_eq!(rt; store.faults(), faults);
+        assert!(rt; fault(rt.alloc(), &mut store, name) == expected);
+        assert!(rt; store.faults() == faults);
     }
     Ok(())
 }
@@ -90,10 +95,22 @@ fn taken(
     Ok((sink.taken().to_vec(alloc)?, faults))
 }
 
+// Whether a sink of so much room, and with these failures, takes this text of the lines, and fails so often.
+fn takes(
+    alloc: Global,
+    lines: &Lines,
+    sink: (usize, (u64, usize)),
+    text: &str,
+    faults: u64,
+) -> Result<bool, Fail> {
+    let (bytes, count) = taken(alloc, lines, sink.0, sink.1)?;
+    Ok(bytes.as_slice() == text.as_bytes() && count == faults)
+}
+
 #[test]
 fn lines_go_into_a_room(rt: HostRuntime) -> Result<(), Fail> {
     let lines = lines(rt.alloc(), &["one", "two"])?;
-    for (room, listed, text, faults) in [
+    for &(room, listed, text, faults) in &[
         (8, (0, 0), "one\ntwo\n", 0),
         (7, (0, 0), "one\ntwo", 1),
         (8, (1, 0), "", 1),
@@ -103,17 +120,15 @@ fn lines_go_into_a_room(rt: HostRuntime) -> Result<(), Fail> {
         (8, (2, 9), "one\ntwo\n", 1),
         (8, (3, 0), "one\ntwo\n", 0),
     ] {
-        let (bytes, count) = taken(rt.alloc(), &lines, room, listed)?;
-        assert_eq!(rt; bytes.as_slice(), text.as_bytes());
-        assert_eq!(rt; count, faults);
+        let taken = takes(rt.alloc(), &lines, (room, listed), text, faults)?;
+        assert!(rt; taken, "{room}, {text}");
     }
     Ok(())
 }
 
-// What the lines write where there is room.
-fn written(alloc: Global, lines: &Lines) -> Result<Vec<u8>, Fail> {
-    let (bytes, _) = taken(alloc, lines, 100, (0, 0))?;
-    Ok(bytes)
+// Whether the lines write this text where there is room.
+fn write(alloc: Global, lines: &Lines, text: &str) -> Result<bool, Fail> {
+    takes(alloc, lines, (100, (0, 0)), text, 0)
 }
 
 // A line comes before those that it begins, also before one that goes on with a tab, which is below the line feed.
@@ -123,17 +138,11 @@ fn lines_are_sorted_without_their_line_feeds(rt: HostRuntime) -> Result<(), Fail
     let mut lines = lines(alloc, &["b", "a\tb", "a", "", "a", "\u{e9}"])?;
     assert!(rt; !lines.is_empty());
     lines.sort();
-    assert_eq!(rt; lines.len(), 6);
-    assert_eq!(rt;
-        written(alloc, &lines)?.as_slice(),
-        "\na\na\na\tb\nb\n\u{e9}\n".as_bytes()
-    );
+    assert!(rt; lines.len() == 6);
+    assert!(rt; write(alloc, &lines, "\na\na\na\tb\nb\n\u{e9}\n")?);
     lines.sort_once();
-    assert_eq!(rt; lines.len(), 5);
-    assert_eq!(rt;
-        written(alloc, &lines)?.as_slice(),
-        "\na\na\tb\nb\n\u{e9}\n".as_bytes()
-    );
+    assert!(rt; lines.len() == 5);
+    assert!(rt; write(alloc, &lines, "\na\na\tb\nb\n\u{e9}\n")?);
     Ok(())
 }
 
@@ -143,7 +152,7 @@ fn a_fixed_line_takes_texts_and_numbers(rt: HostRuntime) {
     line.push_str("vkg: ");
     line.push_number(u64::MAX);
     line.push_number(0);
-    assert_eq!(rt; line.as_bytes(), b"vkg: 184467440737095516150".as_slice());
+    assert!(rt; line.as_bytes() == b"vkg: 184467440737095516150".as_slice());
 }
 
 #[test]
@@ -151,12 +160,9 @@ fn the_system_gives_files(rt: HostRuntime) -> Result<(), Fail> {
     let alloc = rt.alloc();
     fs::write(&rt, "greeting.txt", "hello world")?;
     let mut store = HostStore::new(alloc, &rt);
-    for (limit, text) in [(0, ""), (10, "hello worl"), (20, "hello world")] {
-        let Ok(bytes) = store.load(alloc, "greeting.txt", limit) else {
-            assert!(rt; false, "at {limit}");
-            return Ok(());
-        };
-        assert_eq!(rt; bytes.as_slice(), text.as_bytes(), "at {limit}");
+    for &(limit, text) in &[(0, ""), (10, "hello worl"), (20, "hello world")] {
+        let loaded = store.load(alloc, "greeting.txt", limit);
+        assert!(rt; are_loaded(loaded, text), "at {limit}");
     }
     fs::remove_file(&rt, "greeting.txt")?;
     let missing = store.load(alloc, "greeting.txt", 20);
@@ -175,19 +181,19 @@ fn the_system_takes_bytes(rt: HostRuntime) -> Result<(), Fail> {
 #[test]
 fn a_box_and_a_text_give_back_what_they_hold(rt: HostRuntime) -> Result<(), Fail> {
     let alloc = rt.alloc();
-    assert_eq!(rt; Box::new(alloc, 7u8)?.into_inner(), 7);
+    assert!(rt; Box::new(alloc, 7u8)?.into_inner() == 7);
     let text = Text::new(alloc, "text")?;
-    assert_eq!(rt; text.copy()?.as_str(), "text");
-    assert_eq!(rt; text.into_string().as_str(), "text");
+    assert!(rt; text.copy()?.as_str() == "text");
+    assert!(rt; text.into_string().as_str() == "text");
     Ok(())
 }
 
 #[test]
 fn an_item_is_removed_and_another_set(rt: HostRuntime) -> Result<(), Fail> {
     let mut items = Items::from_slice(rt.alloc(), &[1u8, 2, 3])?;
-    assert_eq!(rt; items.remove(0), 1);
+    assert!(rt; items.remove(0) == 1);
     items.set(0, 5);
-    assert_eq!(rt; items.as_slice(), [5, 3].as_slice());
+    assert!(rt; items.as_slice() == [5, 3].as_slice());
     Ok(())
 }
 
@@ -202,23 +208,19 @@ fn grown(alloc: Global) -> Result<Items<u8>, Memory> {
 #[test]
 fn items_are_put_behind_and_taken(rt: HostRuntime) -> Result<(), Fail> {
     let mut items = grown(rt.alloc())?;
-    assert_eq!(rt; items.as_slice(), [5, 3, 6, 7].as_slice());
-    assert_eq!(rt; items.pop(), Some(7));
-    assert_eq!(rt; items.get(1).copied(), Some(3));
-    assert_eq!(rt; items.len(), 3);
+    assert!(rt; items.as_slice() == [5, 3, 6, 7].as_slice());
+    assert!(rt; items.pop() == Some(7));
+    assert!(rt; items.get(1).copied() == Some(3));
+    assert!(rt; items.len() == 3);
     Ok(())
 }
 
 #[test]
 fn the_least_place_counts(rt: HostRuntime) {
-    let found = [
-        lesser(Some(2), Some(1)),
-        lesser(None, Some(1)),
-        earlier(Some(2), 1),
-        earlier(None, 1),
-        place_if(true, 1),
-        place_if(false, 1),
-    ];
-    let expected = [Some(1), Some(1), Some(2), Some(1), Some(1), None];
-    assert_eq!(rt; found.as_slice(), expected.as_slice());
+    assert!(rt; lesser(Some(2), Some(1)) == Some(1));
+    assert!(rt; lesser(None, Some(1)) == Some(1));
+    assert!(rt; earlier(Some(2), 1) == Some(2));
+    assert!(rt; earlier(None, 1) == Some(1));
+    assert!(rt; place_if(true, 1) == Some(1));
+    assert!(rt; place_if(false, 1) == None);
 }

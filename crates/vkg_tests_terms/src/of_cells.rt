@@ -1,4 +1,9 @@
+ghost use Rattle.vkg_cells.specs.Order.{HasNumber};
+
+use std::alloc::Global;
 use std::cmp::Ordering;
+use std::test::Fail;
+use vkg_base::Memory;
 use vkg_cells::{
     Cell, CellRef, FieldFault, SqlType, form, is_too_wide, is_well_typed, key_parts, lex, natural,
     order, order_ref, read_cell, same, same_ref,
@@ -53,7 +58,7 @@ fn fault(rt: &HostRuntime, kind: SqlType, field: &str) -> Option<FieldFault> {
 
 #[test]
 fn accepted_fields(rt: HostRuntime) {
-    for (kind, field, expected) in [
+    for &(kind, field, expected) in &[
         (SqlType::Text, " a ", " a "),
         (SqlType::Int, "+7", "7"),
         (SqlType::Int, "-007", "-7"),
@@ -85,7 +90,7 @@ fn null_has_no_form(rt: HostRuntime) {
 
 #[test]
 fn natural_datatypes(rt: HostRuntime) {
-    for (kind, expected) in [
+    for &(kind, expected) in &[
         (SqlType::Int, "integer"),
         (SqlType::Dec, "decimal"),
         (SqlType::Bool, "boolean"),
@@ -101,7 +106,7 @@ fn natural_datatypes(rt: HostRuntime) {
 
 #[test]
 fn refused_fields(rt: HostRuntime) {
-    for (kind, field) in [
+    for &(kind, field) in &[
         (SqlType::Int, "1.0"),
         (SqlType::Dec, "."),
         (SqlType::Bool, "yes"),
@@ -115,19 +120,30 @@ fn refused_fields(rt: HostRuntime) {
         (SqlType::Time, "9:05:00"),
         (SqlType::Term, "a"),
     ] {
-        assert_eq!(rt;
-            fault(&rt, kind, field),
-            Some(FieldFault::BadValue),
-            "{field}"
-        );
+        let fault = fault(&rt, kind, field);
+        assert!(rt; fault == Some(FieldFault::BadValue), "{field}");
     }
     let wide = "123456789012345678901234567890123456789";
-    assert_eq!(rt; fault(&rt, SqlType::Dec, wide), Some(FieldFault::TooWide));
+    assert!(rt; fault(&rt, SqlType::Dec, wide) == Some(FieldFault::TooWide));
+}
+
+/// The IRI of a datatype of XML Schema.
+fn datatype(alloc: Global, name: &str) -> Result<String, Memory> {
+    Ok(format!(in alloc; "http://www.w3.org/2001/XMLSchema#{name}")?)
+}
+
+/// Whether the text is a form of the datatype, if it is not too wide for it.
+fn is_form(alloc: Global, name: &str, text: &str) -> Result<Option<bool>, Memory> {
+    let datatype = datatype(alloc, name)?;
+    if is_too_wide(datatype.as_str(), text) {
+        return Ok(None);
+    }
+    Ok(Some(is_well_typed(datatype.as_str(), text)))
 }
 
 #[test]
-fn well_typed_forms(rt: HostRuntime) {
-    for (name, text, expected) in [
+fn well_typed_forms(rt: HostRuntime) -> Result<(), Fail> {
+    for &(name, text, expected) in &[
         ("integer", "+007", true),
         ("decimal", ".5", true),
         ("decimal", "5e1", false),
@@ -138,59 +154,78 @@ fn well_typed_forms(rt: HostRuntime) {
         ("dateTime", "2024-02-29T24:00:00.01", false),
         ("dateTime", "2024-02-29T23:59:59.1234567890123Z", true),
     ] {
-        let datatype = format!(in rt.alloc(); "http://www.w3.org/2001/XMLSchema#{name}").expect(
-            &rt, "memory",
-        );
-        assert_eq!(rt; is_well_typed(datatype.as_str(), text), expected, "{text}");
-        assert!(rt; !is_too_wide(datatype.as_str(), text), "{text}");
+        let found = is_form(rt.alloc(), name, text)?;
+        assert!(rt; found == Some(expected), "{text}");
+    }
+    Ok(())
+}
+
+/// How a cell and a decimal are ordered, and whether they are the same.
+fn beside_decimal(rt: &HostRuntime, a: &Cell, other: &str) -> Option<(Ordering, Option<bool>)>
+    requires { HasNumber a.now }
+{
+    match read_cell(rt.alloc(), SqlType::Dec, other) {
+        Ok(b) => Some((order(a, &b), same(a, &b))),
+        Err(_) => None,
     }
 }
 
-/// How two fields are ordered, and whether their cells are the same.
-fn compared(
+/// Whether a field and a decimal are ordered so, and whether their cells are the same.
+fn are_ordered(
     rt: &HostRuntime,
     kind: SqlType,
     field: &str,
     other: &str,
-) -> Option<(Ordering, Option<bool>)> {
-    match (
-        read_cell(rt.alloc(), kind, field),
-        read_cell(rt.alloc(), SqlType::Dec, other),
-    ) {
-        (Ok(a), Ok(b)) => Some((order(&a, &b), same(&a, &b))),
-        _ => None,
+    expected: (Ordering, bool),
+) -> bool {
+    match read_cell(rt.alloc(), kind, field) {
+        Ok(a) => beside_decimal(rt, &a, other) == Some((expected.0, Some(expected.1))),
+        Err(_) => false,
     }
 }
 
 #[test]
 fn cells_in_order(rt: HostRuntime) {
-    assert_eq!(rt;
-        compared(&rt, SqlType::Int, "-10", "-9.5"),
-        Some((Ordering::Less, Some(false)))
-    );
-    assert_eq!(rt;
-        compared(&rt, SqlType::Int, "10", "9.99"),
-        Some((Ordering::Greater, Some(false)))
-    );
-    assert_eq!(rt;
-        compared(&rt, SqlType::Int, "7", "7.0"),
-        Some((Ordering::Equal, Some(true)))
-    );
-    assert_eq!(rt;
-        compared(&rt, SqlType::Text, "7", "7.0"),
-        Some((Ordering::Less, Some(false)))
-    );
+    for &(kind, field, other, order, same) in &[
+        (SqlType::Int, "-10", "-9.5", Ordering::Less, false),
+        (SqlType::Int, "10", "9.99", Ordering::Greater, false),
+        (SqlType::Int, "7", "7.0", Ordering::Equal, true),
+        (SqlType::Text, "7", "7.0", Ordering::Less, false),
+    ] {
+        assert!(rt;
+            are_ordered(&rt, kind, field, other, (order, same)),
+            "{field}, {other}"
+        );
+    }
+}
+
+fn has_no_key(rt: &HostRuntime, cell: &CellRef<'_>) -> bool {
+    matches!(key_parts(rt.alloc(), cell), Ok(None))
+}
+
+fn becomes_decimal(rt: &HostRuntime, cell: &CellRef<'_>) -> bool {
+    matches!(cell.to_cell(rt.alloc()), Ok(Cell::Dec(_)))
 }
 
 #[test]
-fn lent_cells(rt: HostRuntime) {
+fn lent_nulls(rt: HostRuntime) {
     let null = CellRef::null();
-    assert_eq!(rt; same_ref(&null, &null.shown()), None);
-    assert!(rt; matches!(key_parts(rt.alloc(), &null), Ok(None)));
-    let (seven, other) = (CellRef::int("7"), CellRef::dec("7"));
-    assert_eq!(rt; same_ref(&seven, &other), Some(true));
-    assert!(rt; matches!(other.to_cell(rt.alloc()), Ok(Cell::Dec(_))));
-    let (early, late) = (CellRef::time("09:05:00"), CellRef::time("09:05:00.5"));
-    assert_eq!(rt; order_ref(&early, &late), Ordering::Less);
-    assert_eq!(rt; late.form(), Some("09:05:00.5"));
+    assert!(rt; same_ref(&null, &null.shown()) == None);
+    assert!(rt; has_no_key(&rt, &null));
+}
+
+#[test]
+fn lent_numbers(rt: HostRuntime) {
+    let seven = CellRef::int("7");
+    let other = CellRef::dec("7");
+    assert!(rt; same_ref(&seven, &other) == Some(true));
+    assert!(rt; becomes_decimal(&rt, &other));
+}
+
+#[test]
+fn lent_times(rt: HostRuntime) {
+    let early = CellRef::time("09:05:00");
+    let late = CellRef::time("09:05:00.5");
+    assert!(rt; order_ref(&early, &late) == Ordering::Less);
+    assert!(rt; late.form() == Some("09:05:00.5"));
 }

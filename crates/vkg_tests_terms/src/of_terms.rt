@@ -1,10 +1,19 @@
+use std::alloc::Global;
 use std::test::Fail;
-use vkg_base::Text;
+use vkg_base::{Memory, Text};
 use vkg_terms::*;
+
+/// Whether this is the safe form of the text in an IRI.
+fn is_safe_form(rt: &HostRuntime, text: &str, form: &str) -> bool {
+    match iri_safe(rt.alloc(), text) {
+        Ok(safe) => safe.as_str() == form,
+        Err(_) => false,
+    }
+}
 
 #[test]
 fn safe_forms(rt: HostRuntime) {
-    let rows = [
+    let rows = &[
         ("a b/é%", "a%20b%2Fé%25"),
         ("-._~09AZaz", "-._~09AZaz"),
         ("/:@[`{", "%2F%3A%40%5B%60%7B"),
@@ -18,15 +27,14 @@ fn safe_forms(rt: HostRuntime) {
             "%EF%B7%90%EF%B7%AF\u{FDF0}\u{FFEF}",
         ),
     ];
-    for (text, form) in rows {
-        let safe = iri_safe(rt.alloc(), text).expect(&rt, "memory");
-        assert!(rt; safe.as_str() == form, "{text}");
+    for &(text, form) in rows {
+        assert!(rt; is_safe_form(&rt, text, form), "{text}");
     }
 }
 
 #[test]
 fn safe_forms_of_other_planes(rt: HostRuntime) {
-    let rows = [
+    let rows = &[
         (
             "\u{FFF0}\u{FFFF}\u{10000}\u{1FFFD}",
             "%EF%BF%B0%EF%BF%BF\u{10000}\u{1FFFD}",
@@ -57,30 +65,35 @@ fn safe_forms_of_other_planes(rt: HostRuntime) {
         ),
         ("\u{EFFFE}\u{10FFFF}", "%F3%AF%BF%BE%F4%8F%BF%BF"),
     ];
-    for (text, form) in rows {
-        let safe = iri_safe(rt.alloc(), text).expect(&rt, "memory");
-        assert!(rt; safe.as_str() == form, "{text}");
+    for &(text, form) in rows {
+        assert!(rt; is_safe_form(&rt, text, form), "{text}");
+    }
+}
+
+/// Whether this is the label of the blank node of the text.
+fn is_label(rt: &HostRuntime, text: &str, expected: &str) -> bool {
+    match blank_label(rt.alloc(), text) {
+        Ok(label) => label.as_str() == expected,
+        Err(_) => false,
     }
 }
 
 #[test]
 fn labels(rt: HostRuntime) {
-    let label = blank_label(rt.alloc(), "q1").expect(&rt, "memory");
-    assert!(rt; label.as_str() == "b7131");
-    let label = blank_label(rt.alloc(), "é").expect(&rt, "memory");
-    assert!(rt; label.as_str() == "bc3a9");
+    assert!(rt; is_label(&rt, "q1", "b7131"));
+    assert!(rt; is_label(&rt, "é", "bc3a9"));
 }
 
 #[test]
 fn absolute_iris(rt: HostRuntime) {
-    for iri in ["http://e/", "a:", "a+1.-:b", "http://e/é"] {
+    for &iri in &["http://e/", "a:", "a+1.-:b", "http://e/é"] {
         assert!(rt; is_absolute(iri), "{iri}");
     }
 }
 
 #[test]
 fn texts_that_are_no_absolute_iris(rt: HostRuntime) {
-    for text in [
+    for &text in &[
         "",
         "e",
         ":a",
@@ -149,106 +162,138 @@ const EXAMPLES: [(&str, &str); 42] = [
     ("http:g", "http:g"),
 ];
 
+/// Whether the reference to a base is resolved to this IRI.
+fn is_resolved(rt: &HostRuntime, base: &str, reference: &str, target: &str) -> bool {
+    match resolve(rt.alloc(), base, reference) {
+        Ok(resolved) => resolved.as_str() == target,
+        Err(_) => false,
+    }
+}
+
 #[test]
 fn references(rt: HostRuntime) {
-    for (reference, target) in EXAMPLES {
-        let resolved = resolve(rt.alloc(), "http://a/b/c/d;p?q", reference).expect(&rt, "memory");
-        assert!(rt; resolved.as_str() == target, "{reference}");
+    for &(reference, target) in &EXAMPLES {
+        let resolved = is_resolved(&rt, "http://a/b/c/d;p?q", reference, target);
+        assert!(rt; resolved, "{reference}");
     }
-    let merged = resolve(rt.alloc(), "http://e", "x").expect(&rt, "memory");
-    assert!(rt; merged.as_str() == "http://e/x");
+    assert!(rt; is_resolved(&rt, "http://e", "x", "http://e/x"));
+}
+
+fn iri(alloc: Global, iri: &str) -> Result<Term, Memory> {
+    Ok(Term::Iri(Text::new(alloc, iri)?))
+}
+
+fn blank(alloc: Global, label: &str) -> Result<Term, Memory> {
+    Ok(Term::Blank(Text::new(alloc, label)?))
+}
+
+fn literal(
+    alloc: Global,
+    form: &str,
+    annotation: Result<Annotation, Memory>,
+) -> Result<Term, Memory> {
+    let annotation = annotation?;
+    Ok(Term::Lit(Text::new(alloc, form)?, annotation))
+}
+
+fn typed(alloc: Global, datatype: &str) -> Result<Annotation, Memory> {
+    Ok(Annotation::typed(Text::new(alloc, datatype)?))
+}
+
+fn tagged(alloc: Global, tag: &str) -> Result<Annotation, Memory> {
+    Ok(Annotation::Lang(Text::new(alloc, tag)?))
 }
 
 /// Whether the text of the term is this one.
-fn is_written(rt: &HostRuntime, term: Term, expected: &str) -> bool {
-    match term_text(rt.alloc(), &term) {
-        Ok(written) => written.as_str() == expected,
-        Err(_) => false,
+fn is_written(alloc: Global, term: Result<Term, Memory>, expected: &str) -> Result<bool, Memory> {
+    let term = term?;
+    Ok(term_text(alloc, &term)?.as_str() == expected)
+}
+
+#[test]
+fn terms(rt: HostRuntime) -> Result<(), Fail> {
+    let alloc = rt.alloc();
+    assert!(rt; is_written(alloc, iri(alloc, "http://e/p"), "<http://e/p>")?);
+    assert!(rt; is_written(alloc, blank(alloc, "b7131"), "_:b7131")?);
+    let plain = literal(alloc, "a\"b\\c\nd\re\tf\u{8}é", Ok(Annotation::Plain));
+    assert!(rt; is_written(alloc, plain, "\"a\\\"b\\\\c\\nd\\re\\tf\u{8}é\"")?);
+    Ok(())
+}
+
+#[test]
+fn typed_terms(rt: HostRuntime) -> Result<(), Fail> {
+    let alloc = rt.alloc();
+    let seven = literal(
+        alloc,
+        "7",
+        typed(alloc, "http://www.w3.org/2001/XMLSchema#integer"),
+    );
+    let expected = "\"7\"^^<http://www.w3.org/2001/XMLSchema#integer>";
+    assert!(rt; is_written(alloc, seven, expected)?);
+    Ok(())
+}
+
+#[test]
+fn tagged_terms(rt: HostRuntime) -> Result<(), Fail> {
+    let x = literal(rt.alloc(), "x", tagged(rt.alloc(), "de-at"));
+    assert!(rt; is_written(rt.alloc(), x, "\"x\"@de-at")?);
+    Ok(())
+}
+
+/// Whether the term is the plain literal x, where its copy is the term.
+fn is_plain_x(alloc: Global, term: Result<Term, Memory>) -> Result<Option<bool>, Memory> {
+    let term = term?;
+    if !is_copied(&term)? {
+        return Ok(None);
     }
+    Ok(Some(is_same(&term, literal(alloc, "x", Ok(Annotation::Plain)))?))
+}
+
+fn is_copied(term: &Term) -> Result<bool, Memory> {
+    let copy = term.copy()?;
+    Ok(copy.same(term))
+}
+
+fn is_same(term: &Term, other: Result<Term, Memory>) -> Result<bool, Memory> {
+    let other = other?;
+    Ok(term.same(&other))
 }
 
 #[test]
-fn terms(rt: HostRuntime) {
-    let iri = Term::Iri(Text::new(rt.alloc(), "http://e/p").expect(&rt, "memory"));
-    assert!(rt; is_written(&rt, iri, "<http://e/p>"));
-    let blank = Term::Blank(Text::new(rt.alloc(), "b7131").expect(&rt, "memory"));
-    assert!(rt; is_written(&rt, blank, "_:b7131"));
-    let form = Text::new(rt.alloc(), "a\"b\\c\nd\re\tf\u{8}é").expect(&rt, "memory");
-    let plain = Term::Lit(form, Annotation::Plain);
-    assert!(rt; is_written(&rt, plain, "\"a\\\"b\\\\c\\nd\\re\\tf\u{8}é\""));
+fn string_is_plain(rt: HostRuntime) -> Result<(), Fail> {
+    let string = typed(rt.alloc(), "http://www.w3.org/2001/XMLSchema#string");
+    let x = literal(rt.alloc(), "x", string);
+    assert!(rt; is_plain_x(rt.alloc(), x)? == Some(true));
+    Ok(())
 }
 
 #[test]
-fn typed_terms(rt: HostRuntime) {
-    let iri = Text::new(rt.alloc(), "http://www.w3.org/2001/XMLSchema#integer").expect(
-        &rt, "memory",
-    );
-    let integer = Annotation::typed(iri);
-    let form = Text::new(rt.alloc(), "7").expect(&rt, "memory");
-    let seven = Term::Lit(form, integer);
-    assert!(rt;
-        is_written(
-            &rt,
-            seven,
-            "\"7\"^^<http://www.w3.org/2001/XMLSchema#integer>"
-        )
-    );
-}
-
-#[test]
-fn tagged_terms(rt: HostRuntime) {
-    let tag = Annotation::Lang(Text::new(rt.alloc(), "de-at").expect(&rt, "memory"));
-    let form = Text::new(rt.alloc(), "x").expect(&rt, "memory");
-    assert!(rt; is_written(&rt, Term::Lit(form, tag), "\"x\"@de-at"));
-}
-
-/// Whether a literal of this annotation is the plain one of this form, and its copy is the literal.
-fn is_plain(form: Text, plain: Text, annotation: Annotation) -> Option<bool> {
-    let literal = Term::Lit(form, annotation);
-    match literal.copy() {
-        Ok(copy) if copy.same(&literal) => Some(literal.same(&Term::Lit(plain, Annotation::Plain))),
-        _ => None,
-    }
-}
-
-#[test]
-fn string_is_plain(rt: HostRuntime) {
-    let iri = Text::new(rt.alloc(), "http://www.w3.org/2001/XMLSchema#string").expect(
-        &rt, "memory",
-    );
-    let form = Text::new(rt.alloc(), "x").expect(&rt, "memory");
-    let plain = Text::new(rt.alloc(), "x").expect(&rt, "memory");
-    assert!(rt; is_plain(form, plain, Annotation::typed(iri)) == Some(true));
-}
-
-#[test]
-fn tagged_is_not_plain(rt: HostRuntime) {
-    let tag = Text::new(rt.alloc(), "de-at").expect(&rt, "memory");
-    let form = Text::new(rt.alloc(), "x").expect(&rt, "memory");
-    let plain = Text::new(rt.alloc(), "x").expect(&rt, "memory");
-    assert!(rt; is_plain(form, plain, Annotation::Lang(tag)) == Some(false));
+fn tagged_is_not_plain(rt: HostRuntime) -> Result<(), Fail> {
+    let x = literal(rt.alloc(), "x", tagged(rt.alloc(), "de-at"));
+    assert!(rt; is_plain_x(rt.alloc(), x)? == Some(false));
+    Ok(())
 }
 
 /// Whether this is the line of the subject, the predicate and the subject once more, in the predicate's graph.
-fn is_line(rt: &HostRuntime, subject: Term, predicate: Term, expected: &str) -> bool {
-    match quad_line(rt.alloc(), &subject, &predicate, &subject, Some(&predicate)) {
-        Ok(line) => line.as_str() == expected,
-        Err(_) => false,
-    }
+fn is_line(
+    alloc: Global,
+    subject: Result<Term, Memory>,
+    predicate: Result<Term, Memory>,
+    expected: &str,
+) -> Result<bool, Memory> {
+    let subject = subject?;
+    let predicate = predicate?;
+    let line = quad_line(alloc, &subject, &predicate, &subject, Some(&predicate))?;
+    Ok(line.as_str() == expected)
 }
 
 #[test]
-fn quads(rt: HostRuntime) {
-    let subject = Term::Blank(Text::new(rt.alloc(), "b7131").expect(&rt, "memory"));
-    let predicate = Term::Iri(Text::new(rt.alloc(), "http://e/p").expect(&rt, "memory"));
-    assert!(rt;
-        is_line(
-            &rt,
-            subject,
-            predicate,
-            "_:b7131 <http://e/p> _:b7131 <http://e/p> ."
-        )
-    );
+fn quads(rt: HostRuntime) -> Result<(), Fail> {
+    let subject = blank(rt.alloc(), "b7131");
+    let predicate = iri(rt.alloc(), "http://e/p");
+    let expected = "_:b7131 <http://e/p> _:b7131 <http://e/p> .";
+    assert!(rt; is_line(rt.alloc(), subject, predicate, expected)?);
+    Ok(())
 }
 
 /// Whether the text is read as a fixed text and a hole after it.
@@ -265,7 +310,7 @@ fn is_read(rt: &HostRuntime, written: &str, fixed: &str, hole: &str) -> bool {
 
 #[test]
 fn good_templates(rt: HostRuntime) {
-    for (written, fixed, hole) in [
+    for &(written, fixed, hole) in &[
         ("http://e/{a}", "http://e/", "a"),
         ("\\{\\\\{\"a \\} b\"}", "{\\", "\"a } b\""),
     ] {
@@ -283,7 +328,7 @@ fn is_bad(rt: &HostRuntime, text: &str) -> bool {
 
 #[test]
 fn bad_templates(rt: HostRuntime) {
-    for text in [
+    for &text in &[
         "{",
         "}",
         "{}",
@@ -304,21 +349,21 @@ fn bad_templates(rt: HostRuntime) {
 
 #[test]
 fn names(rt: HostRuntime) {
-    for name in ["a b", "\"a\"\"b\"", "a\"b"] {
+    for &name in &["a b", "\"a\"\"b\"", "a\"b"] {
         assert!(rt; is_name(name), "{name}");
     }
 }
 
 #[test]
 fn texts_that_are_no_names(rt: HostRuntime) {
-    for text in ["", "\"", "\"\"", "\"a", "\"a\"b"] {
+    for &text in &["", "\"", "\"\"", "\"a", "\"a\"b"] {
         assert!(rt; !is_name(text), "{text}");
     }
 }
 
 #[test]
 fn standings(rt: HostRuntime) -> Result<(), Fail> {
-    for (text, stands) in [
+    for &(text, stands) in &[
         ("http://e/{a}", Standing::Absolute),
         ("a+1.-:{a}", Standing::Absolute),
         ("{a}:x", Standing::Doubtful),

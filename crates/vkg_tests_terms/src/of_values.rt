@@ -1,4 +1,5 @@
 use std::alloc::Global;
+use std::process::Abort;
 use std::test::Fail;
 use vkg_base::{Memory, Text};
 use vkg_terms::{Annotation, Term};
@@ -70,34 +71,73 @@ fn compared(
     compare_terms(alloc, compare, &a, &b)
 }
 
+// What is answered of these texts.
+fn answered(
+    rt: &impl Abort,
+    found: Result<Option<bool>, Memory>,
+    expected: Option<bool>,
+    a: &str,
+    b: &str,
+) -> Result<(), Fail> {
+    let found = found?;
+    assert_eq!(rt; found, expected, "{a}, {b}");
+    Ok(())
+}
+
+// What each comparison answers, given the answers of `=` and of `<`.
+fn all_compared(
+    rt: &impl Abort,
+    alloc: Global,
+    a: (&str, &str),
+    b: (&str, &str),
+    equal: Option<bool>,
+    less: Option<bool>,
+) -> Result<(), Fail> {
+    let (not_equal, not_less) = (negation(equal), negation(less));
+    answered(rt, compared(alloc, Compare::Equal, a, b), equal, a.1, b.1)?;
+    answered(
+        rt,
+        compared(alloc, Compare::NotEqual, a, b),
+        not_equal,
+        a.1,
+        b.1,
+    )?;
+    answered(rt, compared(alloc, Compare::Less, a, b), less, a.1, b.1)?;
+    answered(rt, compared(alloc, Compare::Greater, b, a), less, a.1, b.1)?;
+    answered(
+        rt,
+        compared(alloc, Compare::GreaterOrEqual, a, b),
+        not_less,
+        a.1,
+        b.1,
+    )?;
+    answered(
+        rt,
+        compared(alloc, Compare::LessOrEqual, b, a),
+        not_less,
+        a.1,
+        b.1,
+    )
+}
+
 // SPARQL 1.1 Query, 17.3: the answers of `=` and of `<`.
 #[test]
 fn literals_compare_by_value(rt: HostRuntime) -> Result<(), Fail> {
-    for (a_type, a, b_type, b, equal, less) in COMPARED {
-        let (a, b) = ((a_type, a), (b_type, b));
-        assert_eq!(rt; compared(rt.alloc(), Compare::Equal, a, b)?, equal);
-        assert_eq!(rt;
-            compared(rt.alloc(), Compare::NotEqual, a, b)?,
-            negation(equal)
-        );
-        assert_eq!(rt; compared(rt.alloc(), Compare::Less, a, b)?, less);
-        assert_eq!(rt; compared(rt.alloc(), Compare::Greater, b, a)?, less);
-        assert_eq!(rt;
-            compared(rt.alloc(), Compare::GreaterOrEqual, a, b)?,
-            negation(less)
-        );
-        assert_eq!(rt;
-            compared(rt.alloc(), Compare::LessOrEqual, b, a)?,
-            negation(less)
-        );
+    for &(a_type, a, b_type, b, equal, less) in &COMPARED {
+        all_compared(&rt, rt.alloc(), (a_type, a), (b_type, b), equal, less)?;
     }
     Ok(())
+}
+
+fn truth_of(alloc: Global, term: Result<Term, Memory>) -> Result<Option<bool>, Memory> {
+    let term = term?;
+    effective_truth(alloc, &term)
 }
 
 // SPARQL 1.1 Query, 17.2.2.
 #[test]
 fn literals_have_truths(rt: HostRuntime) -> Result<(), Fail> {
-    let rows: [(&str, &str, Option<bool>); 9] = [
+    let rows = &[
         ("boolean", "1", Some(true)),
         ("boolean", "yes", Some(false)),
         ("integer", "-0", Some(false)),
@@ -108,53 +148,93 @@ fn literals_have_truths(rt: HostRuntime) -> Result<(), Fail> {
         ("date", "2024-02-29", None),
         ("hexBinary", "00", None),
     ];
-    for (name, text, truth) in rows {
-        let term = typed(rt.alloc(), name, text)?;
-        assert_eq!(rt; effective_truth(rt.alloc(), &term)?, truth);
+    for &(name, text, truth) in rows {
+        let found = truth_of(rt.alloc(), typed(rt.alloc(), name, text));
+        answered(&rt, found, truth, name, text)?;
     }
-    let empty = tagged(rt.alloc(), "", "en")?;
-    assert_eq!(rt; effective_truth(rt.alloc(), &empty)?, Some(false));
-    Ok(())
+    let found = truth_of(rt.alloc(), tagged(rt.alloc(), "", "en"));
+    answered(&rt, found, Some(false), "tagged", "")
+}
+
+// What is asked of 7.
+fn seven_is(alloc: Global, test: Test) -> Result<bool, Memory> {
+    let number = typed(alloc, "integer", "7")?;
+    test_of(alloc, test, &number)
+}
+
+// Whether the value of a term is known.
+fn is_known(alloc: Global, term: Result<Term, Memory>) -> Result<bool, Memory> {
+    let term = term?;
+    Ok(known_value(alloc, &term)?.is_some())
 }
 
 // SPARQL 1.1 Query, 17.4.2.
 #[test]
 fn a_number_is_asked(rt: HostRuntime) -> Result<(), Fail> {
-    let number = typed(rt.alloc(), "integer", "7")?;
-    for (test, holds) in [
+    for &(test, holds) in &[
         (Test::IsNumeric, true),
         (Test::IsLiteral, true),
         (Test::IsIri, false),
         (Test::IsBlank, false),
     ] {
-        assert!(rt; test_of(rt.alloc(), test, &number)? == holds);
+        assert!(rt; seven_is(rt.alloc(), test)? == holds);
     }
-    assert!(rt; known_value(rt.alloc(), &number)?.is_some());
+    assert!(rt; is_known(rt.alloc(), typed(rt.alloc(), "integer", "7"))?);
     Ok(())
 }
 
-// Whether the string of this text is taken from the term.
-fn is_taken(alloc: Global, take: Take, term: &Term, text: &str) -> Result<bool, Memory> {
-    let Some(taken) = take_of(alloc, take, term)? else {
-        return Ok(false);
-    };
-    Ok(taken.same(&typed(alloc, "string", text)?))
+// What is taken from a term.
+fn taken(alloc: Global, take: Take, term: Result<Term, Memory>) -> Result<Option<Term>, Memory> {
+    let term = term?;
+    take_of(alloc, take, &term)
+}
+
+fn is_nothing(taken: Result<Option<Term>, Memory>) -> Result<bool, Memory> {
+    Ok(taken?.is_none())
+}
+
+// Whether it is the literal of this datatype and text that is taken.
+fn is_literal(
+    alloc: Global,
+    taken: Result<Option<Term>, Memory>,
+    name: &str,
+    text: &str,
+) -> Result<bool, Memory> {
+    match taken? {
+        Some(taken) => is_typed(alloc, &taken, name, text),
+        None => Ok(false),
+    }
+}
+
+fn is_typed(alloc: Global, term: &Term, name: &str, text: &str) -> Result<bool, Memory> {
+    let expected = typed(alloc, name, text)?;
+    Ok(term.same(&expected))
+}
+
+fn hello(alloc: Global) -> Result<Term, Memory> {
+    tagged(alloc, "hello", "en")
 }
 
 #[test]
 fn a_tag_and_a_text_are_taken(rt: HostRuntime) -> Result<(), Fail> {
-    let hello = tagged(rt.alloc(), "hello", "en")?;
-    assert!(rt; known_value(rt.alloc(), &hello)?.is_none());
-    assert!(rt; is_taken(rt.alloc(), Take::Lang, &hello, "en")?);
-    assert!(rt; is_taken(rt.alloc(), Take::Str, &hello, "hello")?);
+    let alloc = rt.alloc();
+    assert!(rt; !is_known(alloc, hello(alloc))?);
+    let tag = taken(alloc, Take::Lang, hello(alloc));
+    assert!(rt; is_literal(alloc, tag, "string", "en")?);
+    let text = taken(alloc, Take::Str, hello(alloc));
+    assert!(rt; is_literal(alloc, text, "string", "hello")?);
     Ok(())
+}
+
+fn blank(alloc: Global) -> Result<Term, Memory> {
+    Ok(Term::Blank(Text::new(alloc, "b1")?))
 }
 
 #[test]
 fn nothing_is_taken_from_a_blank_node(rt: HostRuntime) -> Result<(), Fail> {
-    let blank = Term::Blank(Text::new(rt.alloc(), "b1")?);
-    assert!(rt; take_of(rt.alloc(), Take::Str, &blank)?.is_none());
-    assert!(rt; take_of(rt.alloc(), Take::Datatype, &blank)?.is_none());
+    let alloc = rt.alloc();
+    assert!(rt; is_nothing(taken(alloc, Take::Str, blank(alloc)))?);
+    assert!(rt; is_nothing(taken(alloc, Take::Datatype, blank(alloc)))?);
     Ok(())
 }
 
@@ -218,51 +298,45 @@ fn of_strings(
 // SPARQL 1.1 Query, 17.4.3.6 to 17.4.3.8.
 #[test]
 fn strings_are_parts_of_strings(rt: HostRuntime) -> Result<(), Fail> {
-    for (text, part, [starts, ends, contains]) in STRINGS {
-        assert_eq!(rt;
-            of_strings(rt.alloc(), Compare::Starts, text, part)?,
-            starts
-        );
-        assert_eq!(rt; of_strings(rt.alloc(), Compare::Ends, text, part)?, ends);
-        assert_eq!(rt;
-            of_strings(rt.alloc(), Compare::Contains, text, part)?,
-            contains
-        );
+    for &(text, part, [starts, ends, contains]) in &STRINGS {
+        let found = of_strings(rt.alloc(), Compare::Starts, text, part);
+        answered(&rt, found, starts, text.0, part.0)?;
+        let found = of_strings(rt.alloc(), Compare::Ends, text, part);
+        answered(&rt, found, ends, text.0, part.0)?;
+        let found = of_strings(rt.alloc(), Compare::Contains, text, part);
+        answered(&rt, found, contains, text.0, part.0)?;
     }
     Ok(())
 }
 
 // Whether STRLEN of a term is the number of this text.
-fn is_long(alloc: Global, term: &Term, number: &str) -> Result<bool, Memory> {
-    let Some(length) = take_of(alloc, Take::Length, term)? else {
-        return Ok(false);
-    };
-    Ok(length.same(&typed(alloc, "integer", number)?))
+fn is_long(alloc: Global, term: Result<Term, Memory>, number: &str) -> Result<bool, Memory> {
+    is_literal(alloc, taken(alloc, Take::Length, term), "integer", number)
 }
 
 // SPARQL 1.1 Query, 17.4.3.2.
 #[test]
 fn characters_are_counted(rt: HostRuntime) -> Result<(), Fail> {
-    for (text, tag, number) in [
+    for &(text, tag, number) in &[
         ("", "", "0"),
         ("a\u{fc}b", "", "3"),
         ("\u{1f600}", "en", "1"),
         ("abcdefghijkl", "", "12"),
     ] {
-        let term = string(rt.alloc(), text, tag)?;
-        assert!(rt; is_long(rt.alloc(), &term, number)?);
+        let term = string(rt.alloc(), text, tag);
+        assert!(rt; is_long(rt.alloc(), term, number)?);
     }
-    let number = typed(rt.alloc(), "integer", "1")?;
-    assert!(rt; take_of(rt.alloc(), Take::Length, &number)?.is_none());
+    let number = typed(rt.alloc(), "integer", "1");
+    assert!(rt; is_nothing(taken(rt.alloc(), Take::Length, number))?);
     Ok(())
 }
 
 // SPARQL 1.1 Query, 17.2: an error beside a truth.
 #[test]
 fn errors_are_a_third_value(rt: HostRuntime) -> Result<(), Fail> {
-    assert_eq!(rt; conjunction(None, Some(false)), Some(false));
-    assert_eq!(rt; conjunction(None, Some(true)), None);
-    assert_eq!(rt; disjunction(Some(true), None), Some(true));
-    assert_eq!(rt; disjunction(Some(false), None), None);
+    assert!(rt; conjunction(None, Some(false)) == Some(false));
+    assert!(rt; conjunction(None, Some(true)) == None);
+    assert!(rt; disjunction(Some(true), None) == Some(true));
+    assert!(rt; disjunction(Some(false), None) == None);
     Ok(())
 }

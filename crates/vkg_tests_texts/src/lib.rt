@@ -21,3 +21,5 @@ mod of_sparql;
 mod of_tokens;
 #[cfg(test)]
 mod of_turtle;
+#[cfg(test)]
+mod told;

@@ -48,8 +48,8 @@ fn note(symbol: usize, act: Act) -> Note {
 
 #[test]
 fn two_ways_that_begin_alike_are_not_ll1(rt: HostRuntime) -> Result<(), Fail> {
-    assert_eq!(rt; check_ll1(rt.alloc(), &ambiguous())?, false);
-    assert_eq!(rt; check_ll1(rt.alloc(), &brackets())?, true);
+    assert!(rt; !check_ll1(rt.alloc(), &ambiguous())?);
+    assert!(rt; check_ll1(rt.alloc(), &brackets())?);
     Ok(())
 }
 
@@ -69,7 +69,7 @@ fn a_text_has_a_note_for_each_symbol(rt: HostRuntime) -> Result<(), Fail> {
         note(3, Act::Nothing),
         note(4, Act::Leaf),
     ];
-    assert_eq!(rt; notes.as_slice(), outer.as_slice());
+    assert!(rt; notes.as_slice() == outer.as_slice());
     Ok(())
 }
 
@@ -81,18 +81,15 @@ fn fault(rt: &HostRuntime, tokens: &[Token]) -> Option<ParseFault>
 
 #[test]
 fn each_fault_has_its_place(rt: HostRuntime) -> Result<(), Fail> {
-    assert_eq!(rt; fault(&rt, &[OPEN, CLOSE]), None);
-    assert_eq!(rt; fault(&rt, &[CLOSE]), Some(ParseFault::Dead { index: 0 }));
-    assert_eq!(rt;
-        fault(&rt, &[OPEN, CLOSE, CLOSE]),
-        Some(ParseFault::Dead { index: 2 })
-    );
-    assert_eq!(rt; fault(&rt, &[OPEN, OPEN]), Some(ParseFault::Ended));
-    assert_eq!(rt; fault(&rt, &[]), Some(ParseFault::Ended));
+    assert!(rt; fault(&rt, &[OPEN, CLOSE]) == None);
+    assert!(rt; fault(&rt, &[CLOSE]) == Some(ParseFault::Dead { index: 0 }));
+    assert!(rt; fault(&rt, &[OPEN, CLOSE, CLOSE]) == Some(ParseFault::Dead { index: 2 }));
+    assert!(rt; fault(&rt, &[OPEN, OPEN]) == Some(ParseFault::Ended));
+    assert!(rt; fault(&rt, &[]) == Some(ParseFault::Ended));
     // depth is looked at before the machine, which would stop at the first token
-    assert_eq!(rt;
-        fault(&rt, &[CLOSE, CLOSE, OPEN, OPEN, OPEN, OPEN]),
-        Some(ParseFault::TooDeep { index: 4 }),
+    assert!(rt;
+        fault(&rt, &[CLOSE, CLOSE, OPEN, OPEN, OPEN, OPEN])
+            == Some(ParseFault::TooDeep { index: 4 })
     );
     Ok(())
 }
@@ -100,12 +97,12 @@ fn each_fault_has_its_place(rt: HostRuntime) -> Result<(), Fail> {
 #[test]
 fn a_text_has_one_tree(rt: HostRuntime) -> Result<(), Fail> {
     let parsed = parse_tree(rt.alloc(), &brackets(), &[OPEN, CLOSE])?;
-    assert_eq!(rt; parsed.root, 4);
-    assert_eq!(rt; parsed.forest.node(parsed.root), Node::Pair(3, 2));
-    assert_eq!(rt; parsed.forest.len(), 5);
-    assert_eq!(rt; parsed.forest.node(0), Node::Leaf(1));
-    assert_eq!(rt; parsed.forest.node(1), Node::Nothing);
-    assert_eq!(rt; parsed.forest.node(2), Node::Pair(1, 0));
-    assert_eq!(rt; parsed.forest.node(3), Node::Leaf(0));
+    assert!(rt; parsed.root == 4);
+    assert!(rt; parsed.forest.node(parsed.root) == Node::Pair(3, 2));
+    assert!(rt; parsed.forest.len() == 5);
+    assert!(rt; parsed.forest.node(0) == Node::Leaf(1));
+    assert!(rt; parsed.forest.node(1) == Node::Nothing);
+    assert!(rt; parsed.forest.node(2) == Node::Pair(1, 0));
+    assert!(rt; parsed.forest.node(3) == Node::Leaf(0));
     Ok(())
 }

@@ -1,9 +1,11 @@
+use crate::told::answered;
+use std::alloc::Global;
 use std::test::Fail;
-use vkg_schema::{SchemaError, SchemaFault, read_schema};
+use vkg_schema::{Schema, SchemaError, SchemaFault, read_schema};
 
 // The number of tables, or the fault.
-fn answer(rt: &HostRuntime, bytes: &[u8]) -> Result<usize, (u8, usize)> {
-    match read_schema(rt.alloc(), bytes) {
+fn answer(alloc: Global, bytes: &[u8]) -> Result<usize, (u8, usize)> {
+    match read_schema(alloc, bytes) {
         Ok(schema) => Ok(schema.tables().len()),
         Err(SchemaError::Fault(SchemaFault { check, at })) => Err((check, at)),
         Err(SchemaError::Memory) => Err((0, 0)),
@@ -12,7 +14,7 @@ fn answer(rt: &HostRuntime, bytes: &[u8]) -> Result<usize, (u8, usize)> {
 
 #[test]
 fn each_fault_has_its_place(rt: HostRuntime) {
-    for (text, want) in [
+    for &(text, want) in &[
         ("CREATE TABLE t (a INT) - ", (1u8, 23usize)),
         ("CREATE TABLE t (\"\" INT);", (1, 16)),
         ("CREATE TABLE t (a INTEGER", (2, 25)),
@@ -44,34 +46,55 @@ fn each_fault_has_its_place(rt: HostRuntime) {
             (13, 37),
         ),
     ] {
-        assert_eq!(rt; answer(&rt, text.as_bytes()), Err(want), "at {text}");
+        answered(&rt, text, answer(rt.alloc(), text.as_bytes()), Err(want));
     }
-    assert_eq!(rt; answer(&rt, b"CREATE \xff"), Err((15, 7)));
+    answered(
+        &rt,
+        "bytes",
+        answer(rt.alloc(), b"CREATE \xff"),
+        Err((15, 7)),
+    );
+}
+
+#[test]
+fn no_text_has_no_tables(rt: HostRuntime) {
+    answered(&rt, "", answer(rt.alloc(), b""), Ok(0));
+}
+
+// Two tables, of which the first refers to the second.
+fn two_tables(alloc: Global) -> Result<Schema, Fail> {
+    let text =
+        "CREATE TABLE emp (id INT PRIMARY KEY, dept INT, FOREIGN KEY (dept) REFERENCES DEPT); \
+        create table Dept (\"a\"\"b\" TEXT, id INT, PRIMARY KEY (ID)); -- the end";
+    Ok(read_schema(alloc, text.as_bytes()).ok().ok_or("no schema")?)
 }
 
 #[test]
 fn names_are_resolved(rt: HostRuntime) -> Result<(), Fail> {
-    assert_eq!(rt; answer(&rt, b""), Ok(0));
-    let text =
-        "CREATE TABLE emp (id INT PRIMARY KEY, dept INT, FOREIGN KEY (dept) REFERENCES DEPT); \
-        create table Dept (\"a\"\"b\" TEXT, id INT, PRIMARY KEY (ID)); -- the end";
-    let Ok(schema) = read_schema(rt.alloc(), text.as_bytes()) else {
-        return Err(Fail::new("no schema"));
-    };
-    assert_eq!(rt; schema.find_table("dEPT", false), Some(1));
-    assert_eq!(rt; schema.find_table("dEPT", true), None);
-    assert_eq!(rt; schema.find_column(1, "a\"b", true), Some(0));
-    assert_eq!(rt; schema.find_column(0, "name", false), None);
-    let (Some(emp), Some(dept)) = (schema.tables().get(0), schema.tables().get(1)) else {
-        return Err(Fail::new("no two tables"));
-    };
-    let Some(reference) = emp.references.as_slice().get(0) else {
-        return Err(Fail::new("no reference"));
-    };
-    assert_eq!(rt; reference.table, 1);
-    assert_eq!(rt; reference.pairs.as_slice(), [(1usize, 1usize)].as_slice());
+    let schema = two_tables(rt.alloc())?;
+    assert!(rt; schema.find_table("dEPT", false) == Some(1));
+    assert!(rt; schema.find_table("dEPT", true) == None);
+    assert!(rt; schema.find_column(1, "a\"b", true) == Some(0));
+    assert!(rt; schema.find_column(0, "name", false) == None);
+    Ok(())
+}
+
+#[test]
+fn references_are_resolved(rt: HostRuntime) -> Result<(), Fail> {
+    let schema = two_tables(rt.alloc())?;
+    let emp = schema.tables().get(0).ok_or("no table")?;
+    let reference = emp.references.as_slice().get(0).ok_or("no reference")?;
+    assert!(rt; reference.table == 1);
+    assert!(rt; reference.pairs.as_slice() == [(1usize, 1usize)].as_slice());
+    Ok(())
+}
+
+#[test]
+fn key_columns_are_not_null(rt: HostRuntime) -> Result<(), Fail> {
+    let schema = two_tables(rt.alloc())?;
+    let dept = schema.tables().get(1).ok_or("no second table")?;
     let columns = dept.columns.as_slice();
-    assert_eq!(rt; columns.get(0).is_some_and(|c| c.not_null), false);
-    assert_eq!(rt; columns.get(1).is_some_and(|c| c.not_null), true);
+    assert!(rt; !columns.get(0).ok_or("no column")?.not_null);
+    assert!(rt; columns.get(1).ok_or("no second column")?.not_null);
     Ok(())
 }

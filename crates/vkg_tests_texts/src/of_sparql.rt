@@ -1,27 +1,38 @@
+use crate::told::told;
+use std::alloc::Global;
+use std::process::Abort;
 use std::test::Fail;
 use vkg_sparql::{QueryError, Slice, read_query};
 
 // The check and the place of the first fault, or the number of names and whether DISTINCT is asked.
-fn shown(rt: &HostRuntime, bytes: &[u8]) -> Result<String, Fail> {
-    match read_query(rt.alloc(), bytes, "http://h/") {
+fn shown(alloc: Global, bytes: &[u8]) -> Result<String, Fail> {
+    match read_query(alloc, bytes, "http://h/") {
         Ok(query) => {
             let names = query.names.len();
             let parts = query.group.len();
             let distinct = query.distinct;
-            Ok(format!(in rt.alloc(); "{names} {parts} {distinct}")?)
+            Ok(format!(in alloc; "{names} {parts} {distinct}")?)
         }
         Err(QueryError::Fault(fault)) => {
             let check = fault.check;
             let at = fault.at;
-            Ok(format!(in rt.alloc(); "Q{check:02} {at}")?)
+            Ok(format!(in alloc; "Q{check:02} {at}")?)
         }
         Err(QueryError::Memory) => Err(Fail::new("memory")),
     }
 }
 
+// What is shown of each query.
+fn all_shown(rt: &impl Abort, alloc: Global, rows: &[(&str, &str)]) -> Result<(), Fail> {
+    for &(text, want) in rows {
+        told(rt, text, shown(alloc, text.as_bytes()), want)?;
+    }
+    Ok(())
+}
+
 #[test]
 fn queries_are_read(rt: HostRuntime) -> Result<(), Fail> {
-    let rows = [
+    let rows = &[
         ("SELECT * {}", "0 0 false"),
         ("\u{feff}select distinct ?a where { ?a <p> 1 }", "1 1 true"),
         (
@@ -33,16 +44,12 @@ fn queries_are_read(rt: HostRuntime) -> Result<(), Fail> {
             "6 3 false",
         ),
     ];
-    for (text, want) in rows.iter() {
-        let found = shown(&rt, text.as_bytes())?;
-        assert_eq!(rt; found.as_str(), *want, "at {text}");
-    }
-    Ok(())
+    all_shown(&rt, rt.alloc(), rows)
 }
 
 #[test]
 fn each_fault_is_named(rt: HostRuntime) -> Result<(), Fail> {
-    let rows = [
+    let rows = &[
         ("SELECT * { ' }", "Q01 11"),
         ("SELECT * WHERE {", "Q02 16"),
         ("SELECT * { FILTERBOUND(?x) }", "Q02 11"),
@@ -61,17 +68,13 @@ fn each_fault_is_named(rt: HostRuntime) -> Result<(), Fail> {
             "Q08 17",
         ),
     ];
-    for (text, want) in rows.iter() {
-        let found = shown(&rt, text.as_bytes())?;
-        assert_eq!(rt; found.as_str(), *want, "at {text}");
-    }
-    Ok(())
+    all_shown(&rt, rt.alloc(), rows)
 }
 
 // STRLEN takes one argument, STRSTARTS, STRENDS and CONTAINS take two, and they stand in conditions alone.
 #[test]
 fn string_functions_have_their_arguments(rt: HostRuntime) -> Result<(), Fail> {
-    let rows = [
+    let rows = &[
         ("SELECT * { FILTER(STRLEN('a', 'b')) }", "Q02 28"),
         ("SELECT * { FILTER(CONTAINS('a')) }", "Q02 30"),
         ("SELECT * { FILTER strends('a') }", "Q02 29"),
@@ -79,11 +82,7 @@ fn string_functions_have_their_arguments(rt: HostRuntime) -> Result<(), Fail> {
         ("SELECT * { ?s STRLEN ?o }", "Q02 14"),
         ("SELECT CONTAINS {}", "Q02 7"),
     ];
-    for (text, want) in rows.iter() {
-        let found = shown(&rt, text.as_bytes())?;
-        assert_eq!(rt; found.as_str(), *want, "at {text}");
-    }
-    Ok(())
+    all_shown(&rt, rt.alloc(), rows)
 }
 
 // The word of a call is a node, as the sign behind it is: the last one here is the 1,025th.
@@ -94,49 +93,44 @@ fn words_of_calls_are_counted(rt: HostRuntime) -> Result<(), Fail> {
         text.push_str("STRLEN('')||")?;
     }
     text.push_str("STRLEN('')) }")?;
-    let found = shown(&rt, text.as_bytes())?;
-    assert_eq!(rt; found.as_str(), "Q09 6150");
-    Ok(())
+    let found = shown(rt.alloc(), text.as_bytes());
+    told(&rt, "1,025 words", found, "Q09 6150")
 }
 
 // Each is told where it stands: as left out, or as a word that no query goes on with.
 #[test]
 fn words_to_come_are_refused(rt: HostRuntime) -> Result<(), Fail> {
-    let rows = [
+    let rows = &[
         ("SELECT * { MINUS {} }", "Q07 11"),
         ("SELECT * { BIND(1 AS ?x) }", "Q07 11"),
         ("SELECT * { VALUES ?x { UNDEF } }", "Q07 11"),
         ("SELECT * { UNDEF }", "Q02 11"),
         ("CONSTRUCT {} {}", "Q07 0"),
     ];
-    for (text, want) in rows.iter() {
-        let found = shown(&rt, text.as_bytes())?;
-        assert_eq!(rt; found.as_str(), *want, "at {text}");
-    }
-    Ok(())
+    all_shown(&rt, rt.alloc(), rows)
 }
 
 // The number of keys, and the slice.
-fn order_of(rt: &HostRuntime, text: &str) -> Result<(usize, Slice), QueryError> {
-    let query = read_query(rt.alloc(), text.as_bytes(), "http://h/")?;
+fn order_of(alloc: Global, text: &str) -> Result<(usize, Slice), QueryError> {
+    let query = read_query(alloc, text.as_bytes(), "http://h/")?;
     Ok((query.keys.len(), query.slice))
 }
 
 // The number of keys, OFFSET, and LIMIT if there is one.
-fn ordered(rt: &HostRuntime, text: &str) -> Result<String, Fail> {
-    let Ok((keys, slice)) = order_of(rt, text) else {
+fn ordered(alloc: Global, text: &str) -> Result<String, Fail> {
+    let Ok((keys, slice)) = order_of(alloc, text) else {
         return Err(Fail::new("refused"));
     };
     let offset = slice.offset;
     match slice.limit {
-        Some(limit) => Ok(format!(in rt.alloc(); "{keys} {offset} {limit}")?),
-        None => Ok(format!(in rt.alloc(); "{keys} {offset} none")?),
+        Some(limit) => Ok(format!(in alloc; "{keys} {offset} {limit}")?),
+        None => Ok(format!(in alloc; "{keys} {offset} none")?),
     }
 }
 
 #[test]
 fn orders_and_slices_are_read(rt: HostRuntime) -> Result<(), Fail> {
-    let rows = [
+    let rows = &[
         ("SELECT * {}", "0 0 none"),
         ("SELECT * {} ORDER BY ?x", "1 0 none"),
         (
@@ -153,9 +147,8 @@ fn orders_and_slices_are_read(rt: HostRuntime) -> Result<(), Fail> {
             "0 0 1",
         ),
     ];
-    for (text, want) in rows.iter() {
-        let found = ordered(&rt, text)?;
-        assert_eq!(rt; found.as_str(), *want, "at {text}");
+    for &(text, want) in rows {
+        told(&rt, text, ordered(rt.alloc(), text), want)?;
     }
     Ok(())
 }
@@ -163,7 +156,7 @@ fn orders_and_slices_are_read(rt: HostRuntime) -> Result<(), Fail> {
 // The number of a slice is no literal; the checks of the rest of the query come first.
 #[test]
 fn faults_of_slices_are_named(rt: HostRuntime) -> Result<(), Fail> {
-    let rows = [
+    let rows = &[
         ("SELECT * {} LIMIT -1", "Q12 18"),
         ("SELECT * {} LIMIT +1", "Q12 18"),
         ("SELECT * {} LIMIT 4294967296", "Q12 18"),
@@ -179,16 +172,12 @@ fn faults_of_slices_are_named(rt: HostRuntime) -> Result<(), Fail> {
         ("SELECT * {} LIMIT ?x", "Q02 18"),
         ("SELECT * { LIMIT 1 }", "Q02 11"),
     ];
-    for (text, want) in rows.iter() {
-        let found = shown(&rt, text.as_bytes())?;
-        assert_eq!(rt; found.as_str(), *want, "at {text}");
-    }
-    Ok(())
+    all_shown(&rt, rt.alloc(), rows)
 }
 
 #[test]
 fn faults_of_orders_are_named(rt: HostRuntime) -> Result<(), Fail> {
-    let rows = [
+    let rows = &[
         (
             "SELECT * {} ORDER BY (999999999999999999999999999999999999999) LIMIT -1",
             "Q08 22",
@@ -203,24 +192,19 @@ fn faults_of_orders_are_named(rt: HostRuntime) -> Result<(), Fail> {
         ("SELECT * {} desc(?x)", "Q02 12"),
         ("SELECT * {} ORDER BY <http://e/f>(?x)", "Q02 21"),
     ];
-    for (text, want) in rows.iter() {
-        let found = shown(&rt, text.as_bytes())?;
-        assert_eq!(rt; found.as_str(), *want, "at {text}");
-    }
-    Ok(())
+    all_shown(&rt, rt.alloc(), rows)
 }
 
 // The least place at which no token begins or the bytes are no UTF-8.
 #[test]
 fn bad_bytes_have_their_place(rt: HostRuntime) -> Result<(), Fail> {
-    let rows = [
+    let rows = &[
         (b"SELECT * { ?s ~ ?o } # \xff".as_slice(), "Q01 14"),
         (b"SELECT * { ?s ?p ?o } # \xff".as_slice(), "Q01 24"),
         (b"\xef\xbb\xbfSELECT * { 'a\xff' }".as_slice(), "Q01 11"),
     ];
-    for (bytes, want) in rows.iter() {
-        let found = shown(&rt, bytes)?;
-        assert_eq!(rt; found.as_str(), *want);
+    for &(bytes, want) in rows {
+        told(&rt, want, shown(rt.alloc(), bytes), want)?;
     }
     Ok(())
 }

@@ -1,25 +1,41 @@
+use crate::told::told;
+use std::alloc::Global;
+use std::process::Abort;
 use std::test::Fail;
 use vkg_tokens::{Lang, TokensError, tokens};
 
 // The kind and the length of each token, or the place of the fault.
-fn shown(rt: &HostRuntime, lang: Lang, text: &str) -> Result<String, Fail> {
-    let found = match tokens(rt.alloc(), lang, text) {
+fn shown(alloc: Global, lang: Lang, text: &str) -> Result<String, Fail> {
+    let found = match tokens(alloc, lang, text) {
         Ok(found) => found,
-        Err(TokensError::LexFault { at }) => return Ok(format!(in rt.alloc(); "fault {at}")?),
+        Err(TokensError::LexFault { at }) => return Ok(format!(in alloc; "fault {at}")?),
         Err(TokensError::Memory) => return Err(Fail::new("memory")),
     };
-    let mut shown = String::new(rt.alloc());
+    let mut shown = String::new(alloc);
     for token in found.iter() {
         let kind = token.kind;
         let length = token.end.saturating_sub(token.start);
-        shown.push_str(&format!(in rt.alloc(); " {kind}:{length}")?)?;
+        shown.push_str(&format!(in alloc; " {kind}:{length}")?)?;
     }
     Ok(shown)
 }
 
+// What is shown of each text.
+fn all_shown(
+    rt: &impl Abort,
+    alloc: Global,
+    lang: Lang,
+    rows: &[(&str, &str)],
+) -> Result<(), Fail> {
+    for &(text, want) in rows {
+        told(rt, text, shown(alloc, lang, text), want)?;
+    }
+    Ok(())
+}
+
 #[test]
 fn the_ddl(rt: HostRuntime) -> Result<(), Fail> {
-    let rows = [
+    let rows = &[
         ("", ""),
         ("a1_b", " 6:4"),
         ("a 1_b", " 6:1 7:1 6:2"),
@@ -36,16 +52,12 @@ fn the_ddl(rt: HostRuntime) -> Result<(), Fail> {
         ("a \"b", "fault 2"),
         ("a.b", "fault 1"),
     ];
-    for (text, want) in rows.iter() {
-        let found = shown(&rt, Lang::Ddl, text)?;
-        assert_eq!(rt; found.as_str(), *want, "at {text}");
-    }
-    Ok(())
+    all_shown(&rt, rt.alloc(), Lang::Ddl, rows)
 }
 
 #[test]
 fn words_and_signs_of_turtle(rt: HostRuntime) -> Result<(), Fail> {
-    let rows = [
+    let rows = &[
         ("@prefix p: <x> .", " 0:7 16:2 15:3 4:1"),
         ("@base @BASE @prefixes", " 1:5 20:5 20:9"),
         ("PreFix bAse", " 2:6 3:4"),
@@ -58,16 +70,12 @@ fn words_and_signs_of_turtle(rt: HostRuntime) -> Result<(), Fail> {
         ("?a", "fault 0"),
         ("a - 1", "fault 2"),
     ];
-    for (text, want) in rows.iter() {
-        let found = shown(&rt, Lang::Turtle, text)?;
-        assert_eq!(rt; found.as_str(), *want, "at {text}");
-    }
-    Ok(())
+    all_shown(&rt, rt.alloc(), Lang::Turtle, rows)
 }
 
 #[test]
 fn names_of_turtle(rt: HostRuntime) -> Result<(), Fail> {
-    let rows = [
+    let rows = &[
         ("p:a.", " 17:3 4:1"),
         ("p:a..b", " 17:6"),
         ("p:a\\.", " 17:5"),
@@ -87,24 +95,20 @@ fn names_of_turtle(rt: HostRuntime) -> Result<(), Fail> {
         ("a..b.c\u{e9}.d:e", " 17:12"),
         ("a..b.c\u{d7}d:e", "fault 6"),
     ];
-    for (text, want) in rows.iter() {
-        let found = shown(&rt, Lang::Turtle, text)?;
-        assert_eq!(rt; found.as_str(), *want, "at {text}");
-    }
-    Ok(())
+    all_shown(&rt, rt.alloc(), Lang::Turtle, rows)
 }
 
 // A prefix of one letter, and behind it a character with which a local name may or may not go on.
-fn goes_on(rt: &HostRuntime, c: char) -> Result<bool, Fail> {
-    let mut text = String::from_str(rt.alloc(), "p:a")?;
+fn goes_on(alloc: Global, c: char) -> Result<bool, Fail> {
+    let mut text = String::from_str(alloc, "p:a")?;
     text.push(c)?;
-    let found = shown(rt, Lang::Turtle, text.as_str())?;
+    let found = shown(alloc, Lang::Turtle, text.as_str())?;
     Ok(found.as_str() != "fault 3")
 }
 
 #[test]
 fn ends_of_the_ranges_of_names(rt: HostRuntime) -> Result<(), Fail> {
-    let ranges = [
+    let ranges = &[
         ('\u{c0}', '\u{d6}'),
         ('\u{d8}', '\u{f6}'),
         ('\u{f8}', '\u{37d}'),
@@ -118,16 +122,16 @@ fn ends_of_the_ranges_of_names(rt: HostRuntime) -> Result<(), Fail> {
         ('\u{fdf0}', '\u{fffd}'),
         ('\u{10000}', '\u{effff}'),
     ];
-    for (first, last) in ranges.iter() {
-        assert!(rt; goes_on(&rt, *first)?, "{first}");
-        assert!(rt; goes_on(&rt, *last)?, "{last}");
+    for &(first, last) in ranges {
+        assert!(rt; goes_on(rt.alloc(), first)?, "{first}");
+        assert!(rt; goes_on(rt.alloc(), last)?, "{last}");
     }
     Ok(())
 }
 
 #[test]
 fn neighbours_of_the_ranges_of_names(rt: HostRuntime) -> Result<(), Fail> {
-    let outside = [
+    let outside = &[
         '\u{bf}',
         '\u{d7}',
         '\u{f7}',
@@ -149,34 +153,33 @@ fn neighbours_of_the_ranges_of_names(rt: HostRuntime) -> Result<(), Fail> {
         '\u{fffe}',
         '\u{f0000}',
     ];
-    for c in outside.iter() {
-        assert!(rt; !goes_on(&rt, *c)?, "{c}");
+    for &c in outside {
+        assert!(rt; !goes_on(rt.alloc(), c)?, "{c}");
     }
     Ok(())
 }
 
-fn run_of_words(rt: &HostRuntime, times: usize) -> Result<String, Fail> {
-    Ok("a.b1.".repeat(rt.alloc(), times)?)
+fn run_of_words(alloc: Global, times: usize) -> Result<String, Fail> {
+    Ok("a.b1.".repeat(alloc, times)?)
 }
 
 #[test]
 fn words_joined_by_dots(rt: HostRuntime) -> Result<(), Fail> {
-    let mut text = run_of_words(&rt, 200)?;
+    let mut text = run_of_words(rt.alloc(), 200)?;
     let want = " 9:1 4:1 24:1 21:1 4:1".repeat(rt.alloc(), 200)?;
-    let found = shown(&rt, Lang::Turtle, text.as_str())?;
-    assert_eq!(rt; found.as_str(), want.as_str());
+    let found = shown(rt.alloc(), Lang::Turtle, text.as_str());
+    told(&rt, "words", found, want.as_str())?;
     text.push_str("c:d")?;
-    let found = shown(&rt, Lang::Turtle, text.as_str())?;
-    assert_eq!(rt; found.as_str(), " 17:1003");
-    Ok(())
+    let found = shown(rt.alloc(), Lang::Turtle, text.as_str());
+    told(&rt, "one name", found, " 17:1003")
 }
 
 // Were each word's search to read such a run to its end, this would take minutes.
 #[test]
 fn a_long_run_of_words(rt: HostRuntime) -> Result<(), Fail> {
-    let text = run_of_words(&rt, 20000)?;
+    let text = run_of_words(rt.alloc(), 20000)?;
     match tokens(rt.alloc(), Lang::Turtle, text.as_str()) {
-        Ok(found) => assert_eq!(rt; found.len(), 100000),
+        Ok(found) => assert!(rt; found.len() == 100000),
         Err(_) => return Err(Fail::new("no tokens")),
     }
     Ok(())
@@ -184,7 +187,7 @@ fn a_long_run_of_words(rt: HostRuntime) -> Result<(), Fail> {
 
 #[test]
 fn strings_and_iris_of_turtle(rt: HostRuntime) -> Result<(), Fail> {
-    let rows = [
+    let rows = &[
         ("\"\" '' \"a\" 'b'", " 19:2 19:2 19:3 19:3"),
         ("\"\"\"\"\"\" \"\"\"a\"b\"\"c\"\"\"", " 19:6 19:12"),
         ("'''a''''", "fault 7"),
@@ -205,16 +208,12 @@ fn strings_and_iris_of_turtle(rt: HostRuntime) -> Result<(), Fail> {
         ("'a'@en-GB-1 @en-", "fault 15"),
         ("'a'@1", "fault 3"),
     ];
-    for (text, want) in rows.iter() {
-        let found = shown(&rt, Lang::Turtle, text)?;
-        assert_eq!(rt; found.as_str(), *want, "at {text}");
-    }
-    Ok(())
+    all_shown(&rt, rt.alloc(), Lang::Turtle, rows)
 }
 
 #[test]
 fn numbers_of_turtle(rt: HostRuntime) -> Result<(), Fail> {
-    let rows = [
+    let rows = &[
         ("1 -1 +1", " 21:1 21:2 21:2"),
         ("1.", " 21:1 4:1"),
         (".5 1.5 -.5", " 22:2 22:3 22:3"),
@@ -223,11 +222,7 @@ fn numbers_of_turtle(rt: HostRuntime) -> Result<(), Fail> {
         (".", " 4:1"),
         ("1.2.3", " 22:3 22:2"),
     ];
-    for (text, want) in rows.iter() {
-        let found = shown(&rt, Lang::Turtle, text)?;
-        assert_eq!(rt; found.as_str(), *want, "at {text}");
-    }
-    Ok(())
+    all_shown(&rt, rt.alloc(), Lang::Turtle, rows)
 }
 
 // Texts, and their tokens: of each its kind and its length in bytes.
@@ -287,9 +282,5 @@ const TOKENS_OF_SPARQL: [(&str, &str); 21] = [
 
 #[test]
 fn tokens_of_sparql(rt: HostRuntime) -> Result<(), Fail> {
-    for (text, want) in TOKENS_OF_SPARQL.iter() {
-        let found = shown(&rt, Lang::Sparql, text)?;
-        assert_eq!(rt; found.as_str(), *want, "at {text}");
-    }
-    Ok(())
+    all_shown(&rt, rt.alloc(), Lang::Sparql, &TOKENS_OF_SPARQL)
 }

@@ -1,3 +1,4 @@
+use crate::told::{answered, told};
 use std::alloc::Global;
 use std::test::Fail;
 use vkg_terms::term_text;
@@ -27,8 +28,8 @@ fn lines(alloc: Global, bytes: &[u8]) -> Result<String, Fail> {
 }
 
 // The number of triples, or the fault.
-fn answer(rt: &HostRuntime, bytes: &[u8]) -> Result<usize, (u8, usize)> {
-    match read_turtle(rt.alloc(), bytes, BASE) {
+fn answer(alloc: Global, bytes: &[u8]) -> Result<usize, (u8, usize)> {
+    match read_turtle(alloc, bytes, BASE) {
         Ok(triples) => Ok(triples.len()),
         Err(TurtleError::Fault(TurtleFault { check, at })) => Err((check, at)),
         Err(TurtleError::Memory) => Err((0, 0)),
@@ -37,7 +38,7 @@ fn answer(rt: &HostRuntime, bytes: &[u8]) -> Result<usize, (u8, usize)> {
 
 #[test]
 fn statements_and_names(rt: HostRuntime) -> Result<(), Fail> {
-    for (text, want) in [
+    for &(text, want) in &[
         ("", ""),
         (" # no statement", ""),
         (
@@ -72,15 +73,20 @@ fn statements_and_names(rt: HostRuntime) -> Result<(), Fail> {
             24 <http://e/s> <http://e/q> \"1\"^^<http://www.w3.org/2001/XMLSchema#integer>\n",
         ),
     ] {
-        let found = lines(rt.alloc(), text.as_bytes())?;
-        assert_eq!(rt; found.as_str(), want, "at {text}");
+        told(&rt, text, lines(rt.alloc(), text.as_bytes()), want)?;
     }
     Ok(())
 }
 
+// The triple of an object.
+fn lines_of(alloc: Global, object: &str) -> Result<String, Fail> {
+    let document = format!(in alloc; "<s> <p> {object} .")?;
+    lines(alloc, document.as_bytes())
+}
+
 #[test]
 fn literals(rt: HostRuntime) -> Result<(), Fail> {
-    for (text, want) in [
+    for &(text, want) in &[
         ("\"a\\tb\\\"\"", "\"a\\tb\\\"\""),
         ("'''x'y'''", "\"x'y\""),
         ("\"\"\"\"\"\"", "\"\""),
@@ -107,10 +113,8 @@ fn literals(rt: HostRuntime) -> Result<(), Fail> {
             "\"false\"^^<http://www.w3.org/2001/XMLSchema#boolean>",
         ),
     ] {
-        let document = format!(in rt.alloc(); "<s> <p> {text} .")?;
         let want = format!(in rt.alloc(); "8 <http://e/s> <http://e/p> {want}\n")?;
-        let found = lines(rt.alloc(), document.as_bytes())?;
-        assert_eq!(rt; found.as_str(), want.as_str(), "at {text}");
+        told(&rt, text, lines_of(rt.alloc(), text), want.as_str())?;
     }
     Ok(())
 }
@@ -125,14 +129,12 @@ fn blank_nodes(rt: HostRuntime) -> Result<(), Fail> {
         44 _:.37 <http://e/p> <http://e/o>\n\
         56 _:.50 <http://e/q> <http://e/o>\n\
         66 _:.50 <http://e/r> <http://e/o>\n";
-    let found = lines(rt.alloc(), text.as_bytes())?;
-    assert_eq!(rt; found.as_str(), want);
-    Ok(())
+    told(&rt, text, lines(rt.alloc(), text.as_bytes()), want)
 }
 
 #[test]
 fn each_fault_has_its_place(rt: HostRuntime) {
-    for (text, want) in [
+    for &(text, want) in &[
         ("<#m> a:b \"c", (1u8, 9usize)),
         ("<#m> a:b .", (2, 9)),
         ("<#m> a:b \"c\"", (2, 12)),
@@ -145,21 +147,21 @@ fn each_fault_has_its_place(rt: HostRuntime) {
         ("@base <http://e/\\u003C> . @prefix a: <\\u003E> .", (5, 6)),
         ("<http://e/\\u0020> <p> 1, \"x\"^^a:b .", (4, 30)),
     ] {
-        assert_eq!(rt; answer(&rt, text.as_bytes()), Err(want), "at {text}");
+        answered(&rt, text, answer(rt.alloc(), text.as_bytes()), Err(want));
     }
 }
 
 // The least place at which no token begins or the bytes are no UTF-8.
 #[test]
 fn bad_bytes_have_their_place(rt: HostRuntime) {
-    for (bytes, want) in [
+    for &(bytes, want) in &[
         (b"a \" \xff".as_slice(), (1u8, 2usize)),
         (b"a # \" \xff".as_slice(), (1, 6)),
         (b"\xef\xbb\xbf\xff".as_slice(), (1, 0)),
         (b"\xef\xbb\xbfa \" \xff".as_slice(), (1, 2)),
         (b"<s> <p> <\xff> .".as_slice(), (1, 8)),
     ] {
-        assert_eq!(rt; answer(&rt, bytes), Err(want));
+        answered(&rt, "bytes", answer(rt.alloc(), bytes), Err(want));
     }
 }
 
@@ -176,8 +178,13 @@ fn nested(alloc: Global, depth: usize) -> Result<String, Fail> {
 #[test]
 fn brackets_nest_to_64(rt: HostRuntime) -> Result<(), Fail> {
     let text = nested(rt.alloc(), 64)?;
-    assert_eq!(rt; answer(&rt, text.as_bytes()), Ok(64));
+    answered(&rt, "64", answer(rt.alloc(), text.as_bytes()), Ok(64));
     let text = nested(rt.alloc(), 65)?;
-    assert_eq!(rt; answer(&rt, text.as_bytes()), Err((3, 392)));
+    answered(
+        &rt,
+        "65",
+        answer(rt.alloc(), text.as_bytes()),
+        Err((3, 392)),
+    );
     Ok(())
 }

@@ -69,7 +69,7 @@ fn translated(alloc: Global, text: &str) -> Result<String, Fail> {
 #[test]
 fn queries_have_their_algebra(rt: HostRuntime) -> Result<(), Fail> {
     let alloc = rt.alloc();
-    for (text, wanted) in ROWS {
+    for &(text, wanted) in &ROWS {
         let found = translated(alloc, text)?;
         assert_eq!(rt; found.as_str(), wanted, "{text}");
     }
