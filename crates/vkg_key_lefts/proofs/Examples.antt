@@ -1,4 +1,5 @@
--- Worked rows: two left joins of a table with itself, and a foreign key without NULL.
+-- Worked rows: two left joins of a table with itself, one by a foreign key without NULL, the key of a table that is referred to, and a member that stands
+-- on the left.
 use Rattle.std.proofs.Common.{◌≡◌, Bool, true, false, [], ◌∷◌, Some, refl}
 use Rattle.vkg_cells.specs.declared.cell.Cell.TheVariants as cell
 use Rattle.vkg_cells.specs.declared.cell.SqlType.{SqlType}
@@ -6,12 +7,15 @@ use Rattle.vkg_cells.specs.declared.cell.SqlType.TheVariants as kind
 use Rattle.vkg_schema.specs.declared.table.Column.{Column}
 use Rattle.vkg_schema.specs.Rows.{Database}
 use Rattle.vkg_expr.specs.Expr.{Col, And, IsNull, Not, Same, exprs}
+use Rattle.vkg_expr.specs.Logic.{truth_const}
 use Rattle.vkg_plan.specs.Kinds.{Tables}
 use Rattle.vkg_plan.specs.Plan.{Plan, Scan, Project, Join, Left, plans}
 use Rattle.vkg_plan.specs.Rows.{rows_of}
 use Rattle.vkg_rules.specs.declared.rewrite.Fell.TheVariants as fell
+use Rattle.vkg_key_lefts.specs.ParentLeft.{parent_left}
 use Rattle.vkg_key_lefts.specs.ReferenceLeft.{reference_left}
 use Rattle.vkg_key_lefts.specs.SelfLeft.{is_left, is_null_unless, self_left}
+use Rattle.vkg_key_lefts.specs.SelfLeftMember.{self_left_member}
 
 column : SqlType → Bool → Column
 column k not_null = record { name = 97 ∷ []; kind = k; not_null = not_null }
@@ -82,3 +86,27 @@ leader_joined = Join (plans (Scan 1 ∷ Scan 0 ∷ [])) (Same (Col 2) (Col 1))
 leader-there : reference_left two_tables with_leader ≡ Some (leader_joined, fell.Weight)
 unfolding column two_tables with_leader leader_joined
 leader-there = refl
+
+-- ---- the leader's key of each department
+
+leader_key : Plan
+leader_key = Project (Col 2 ∷ []) with_leader
+
+key_alone : Plan
+key_alone = Project (Col 1 ∷ []) (Scan 1)
+
+leader-gone : parent_left two_tables leader_key ≡ Some (key_alone, fell.Weight)
+unfolding column two_tables with_leader leader_key key_alone is_left
+leader-gone = refl
+
+-- ---- the departments that each employee leads
+
+with_led : Plan
+with_led = Project (Col 6 ∷ []) (Left (Scan 0) (Join (plans (Scan 0 ∷ Scan 1 ∷ [])) (Same (Col 0) (Col 4))) (Same (Col 0) (Col 3)))
+
+led : Plan
+led = Project (Col 3 ∷ []) (Left (Scan 0) (Join (plans (Scan 1 ∷ [])) (truth_const true)) (And (exprs (Same (Col 0) (Col 4) ∷ Same (Col 0) (Col 0) ∷ []))))
+
+member-gone : self_left_member two_tables with_led ≡ Some (led, fell.Weight)
+unfolding column two_tables with_led led
+member-gone = refl

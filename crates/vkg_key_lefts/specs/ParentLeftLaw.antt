@@ -438,6 +438,9 @@ module _ (s : Tables) (form : IsWellFormed s) (p : Plan) (c : Expr) (es : List E
 
 -- ---- the rule
 
+table-columns : (s : Tables) (at : ℕ) (t : Table) → slice_get s at ≡ Some t → columns_of s at ≡ t.columns
+table-columns s at t e = ap (λ o. option_map_or (λ (x : Table). x.columns) o []) e
+
 with-keeps : (s : Tables) → IsWellFormed s → (es : List Expr) (p : Plan) (c : Expr) (q : Plan) (r : Step) → IsTyped s (Project es (Left p q c)) → with_right s es p c q ≡ Some r → Keeps s (Project es (Left p q c)) r.0
 with-keeps s form es p c (Scan table) r t e =
     let f = made-given (λ x. first_made (without_parent s es p table c x) (references_of s x.table)) (standing s [] p) r e in
@@ -457,9 +460,9 @@ with-keeps s form es p c (Scan table) r t e =
     let is : reference.table ≡ table = eqb-true reference.table table b.0 in
     let child = of-reference (slice_get s x.table) reference g.1 in
     let parent = refers s form x.table child.0 child.1 reference child.2 in
-    let of_columns : columns_of s x.table ≡ child.0.columns = ap (λ o. option_map_or (λ (t : Table). t.columns) o []) child.1 in
+    let of_columns : columns_of s x.table ≡ child.0.columns = table-columns s x.table child.0 child.1 in
     let made : ℕ → Step = λ z. (Project (map (put (at_place (named_left s (width s p) z x reference.pairs))) es) p, fell.Weight) in
-    let to_columns : columns_of s table ≡ parent.0.columns = ap (columns_of s) (sym is) ∙ ap (λ o. option_map_or (λ (t : Table). t.columns) o []) parent.1 in
+    let to_columns : columns_of s table ≡ parent.0.columns = ap (columns_of s) (sym is) ∙ table-columns s reference.table parent.0 parent.1 in
     subst (λ z. Keeps s (Project es (Left p (Scan z) c)) r.0) is
     (subst (λ (z : Step). Keeps s (Project es (Left p (Scan reference.table) c)) z.0) (ap made is ∙ v.1)
     (unused-keeps s form p c es x f.1 child.0 child.1 reference child.2 parent.0 parent.1
