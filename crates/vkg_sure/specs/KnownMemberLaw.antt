@@ -1,5 +1,5 @@
 -- Its laws: where the column is NULL the And is false with the test and without it, elsewhere the test is false.
-use Rattle.std.proofs.Common.{◌≡◌, ◌∙◌, inl, inr, ◌<◌, ◌≤◌, ℕ, Bool, true, false, cond, not, ◌||◌, List, [], ◌∷◌, map, nat_eq, refl, sym, ap, subst, arith}
+use Rattle.std.proofs.Common.{◌≡◌, ◌∙◌, inl, inr, ℕ, Bool, true, false, cond, not, ◌||◌, List, [], ◌∷◌, map, nat_eq, refl, sym, ap, subst, arith}
 use Rattle.std.specs.Prelude.{Option, Some, None, fold, option_and_then, option_map}
 use Rattle.std.specs.List.{list_any}
 use Rattle.std.proofs.lemmas.Bool.{cases_Bool, eqb-true}
@@ -13,7 +13,7 @@ use Rattle.vkg_cells.specs.declared.cell.SqlType.{SqlType}
 use Rattle.vkg_cells.specs.declared.cell.SqlType.TheVariants as kind
 use Rattle.vkg_schema.specs.Rows.{Row, cell_at, is_null}
 use Rattle.vkg_values.specs.Logic.{and3}
-use Rattle.vkg_expr.specs.Expr.{Expr, Exprs, Col, IsNull, Not, And, each, exprs}
+use Rattle.vkg_expr.specs.Expr.{Expr, Exprs, Col, IsNull, Not, And, each}
 use Rattle.vkg_expr.specs.Logic.{and_of, truth_const}
 use Rattle.vkg_expr.specs.Places.{first_place}
 use Rattle.vkg_expr.specs.Typing.{are_all, is_column, kind_of, kinds_of}

@@ -1,8 +1,8 @@
 -- Its laws: of two terms of which one is no literal `=` is true where they are one term, so that the verdict on them holds of the same rows.
-use Rattle.std.proofs.Common.{◌≡◌, ◌∙◌, ◌⊎◌, inl, inr, ◌+◌, ◌<◌, ◌≤◌, ℕ, Bool, true, false, cond, not, ◌&&◌, ◌||◌, List, [], ◌∷◌, ◌++◌, map, length, refl, sym, ap, subst, arith}
+use Rattle.std.proofs.Common.{◌≡◌, ◌∙◌, inl, inr, ◌+◌, ◌<◌, ◌≤◌, ℕ, Bool, true, false, cond, not, ◌&&◌, ◌||◌, List, [], ◌∷◌, ◌++◌, map, length, refl, sym, ap, subst, arith}
 use Rattle.std.specs.Prelude.{Option, Some, None, option_and_then, option_map, replicate, if◌then◌else◌, nat_lt, ◌==◌}
 use Rattle.std.specs.List.{AllByRecursion, filter, list_all}
-use Rattle.std.proofs.lemmas.Bool.{cases_Bool, ltb-true, or_cases}
+use Rattle.std.proofs.lemmas.Bool.{ltb-true, or_cases}
 use Rattle.std.proofs.lemmas.Option.{option_and_then_some}
 use Rattle.vkg_lists.proofs.Bags.{bag_same}
 use Rattle.vkg_lists.proofs.Bools.{and_parts, not_true}
@@ -26,9 +26,9 @@ use Rattle.vkg_schema.specs.Meets.{IsWellFormed}
 use Rattle.vkg_schema.specs.Rows.{Row, is_known_true}
 use Rattle.vkg_expr.specs.declared.expr.Operator.TheVariants as op
 use Rattle.vkg_expr.specs.Expr.{Expr, Const, MakeIri, MakeBlank, Same, And, Sparql, Nil, More, each, exprs}
-use Rattle.vkg_expr.specs.Logic.{and_of, conjuncts}
+use Rattle.vkg_expr.specs.Logic.{and_of}
 use Rattle.vkg_expr.specs.Typing.{are_all, arity, equality_kind, is_one, kind_of, kinds_of}
-use Rattle.vkg_expr.specs.Value.{holds, term_cell, term_of, text_of, truth_cell, truth_of, value_of}
+use Rattle.vkg_expr.specs.Value.{holds, term_cell, term_of, text_of, value_of}
 use Rattle.vkg_expr.proofs.KindLists.{are_all-more}
 use Rattle.vkg_expr.proofs.ReadBack.{truth_back}
 use Rattle.vkg_expr.proofs.TypedParts.{one_is}
