@@ -25,6 +25,7 @@ mod taken_apart;
 mod under_both;
 mod unknown;
 
+pub use kinds::kinds;
 pub use left_to_join::LeftToJoin;
 pub use merge_projects::MergeProjects;
-pub use merge_selects::MergeSelects;
+pub use merge_selects::{MergeSelects, part_behind};
