@@ -1,5 +1,5 @@
 #!/usr/bin/env python3
-"""Compares what PostgreSQL makes of the plans that `vkg sql` prints with what `vkg query` writes, byte for byte once both are sorted.
+"""Compares what PostgreSQL makes of the plans that `vkg sql` prints with what `vkg query` writes, byte for byte, once both are sorted where no order is asked.
 
 usage: tools/postgres/compare.py --vkg PROGRAM [options]
 
@@ -34,8 +34,8 @@ from random_inputs.plans import PlanMaker, most_rows
 from random_inputs.terms import IRIS, LITERALS
 from reference.calls import Ending, lines_text
 from reference.plan_nodes import Column, Project, call, expression_kind, kinds_of, plan_text, term_constant, text_constant
-from reference.plans import plan_lines
-from reference.rdf import XSD, in_byte_order
+from reference.plans import ORDER, plan_rows
+from reference.rdf import XSD, in_byte_order, term_text
 from reference.refusal import Refused
 
 CASES = TOP / "crates/vkg_cases/data"
@@ -54,6 +54,11 @@ def copied_line(line):
     return "\t".join(fields)
 
 
+def is_ordered(plan):
+    """Whether keys stand behind a plan."""
+    return ORDER.search(plan.rstrip())[1] is not None
+
+
 class Tables:
     """A server in which the tables of one case stand at a time."""
 
@@ -66,27 +71,29 @@ class Tables:
         return subprocess.run(words, input=script.encode(), env=self.server.environment, capture_output=True, check=False)
 
     def endings(self, schema, folder, queries):
-        """How each of some queries ends over the files of a case: its lines in the order of their bytes, or PostgreSQL's words."""
+        """How each of some queries ends over the files of a case: its lines, or PostgreSQL's words. Each comes with whether it is ordered; the lines
+        of others are given in the order of their bytes."""
         script = io.StringIO()
         write_script(schema, folder, script)
         with tempfile.TemporaryDirectory() as room:
             parts = [HERE, script.getvalue(), "\\set ON_ERROR_STOP off\n"]
-            for number, query in enumerate(queries):
+            for number, (query, _) in enumerate(queries):
                 parts.append(f"\\o '{room}/{number}'\nCOPY ({query.rstrip(ENDS)}) TO STDOUT;\n"
                              f"\\o '{room}/{number}.end'\n\\qecho :SQLSTATE :LAST_ERROR_MESSAGE\n")
             ended = self.psql("".join(parts))
             if ended.returncode != 0:
                 return [Ending(ended.returncode, "", ended.stderr.decode())] * len(queries)
-            return [self.ending(os.path.join(room, str(number))) for number in range(len(queries))]
+            return [self.ending(os.path.join(room, str(number)), is_kept) for number, (_, is_kept) in enumerate(queries)]
 
     @staticmethod
-    def ending(path):
+    def ending(path, is_kept):
         """How one query ended."""
         with open(path + ".end", encoding="utf-8") as end, open(path, encoding="utf-8", newline="") as output:
             state = end.read()
             if not state.startswith("00000"):
                 return Ending(1, "", state)
-            return Ending(0, lines_text(in_byte_order(map(copied_line, output.read().split("\n")[:-1]))))
+            lines = [copied_line(line) for line in output.read().split("\n")[:-1]]
+            return Ending(0, lines_text(lines if is_kept else in_byte_order(lines)))
 
     def compare(self, name, schema, data, asked):
         """Compares PostgreSQL's rows over the files of a case with what is expected, and gives how many plans were compared.
@@ -96,7 +103,7 @@ class Tables:
         queries, kept = [], []
         for one in asked:
             try:
-                queries.append(query_of(schema, one[2].encode()))
+                queries.append((query_of(schema, one[2].encode()), is_ordered(one[2])))
                 kept.append(one)
             except Refused as refused:
                 self.refused(name, one, refused)
@@ -118,15 +125,26 @@ class Tables:
             self.comparison.differ(name, one[0], one[1], Ending(0, one[3]), Ending(1, "", f"{refused.code} at {refused.place}"))
 
 
+def has_distinct(query):
+    """Whether the file of a query may have the word DISTINCT."""
+    with open(query, "rb") as file:
+        return re.search(rb"(?i)\bDISTINCT\b", file.read()) is not None
+
+
 def asked_of(comparison, words, folder):
-    """A query that `vkg` answers as `compare` asks for it, by the words of the call of `query`; None where it is refused."""
+    """A query that `vkg` answers as `compare` asks for it, by the words of the call of `query`; None where it is refused, or the plan does not tell its lines."""
     answer = comparison.call(words, folder)
     if answer is None or answer.status != 0:
         comparison.count("queries that are not answered")
         return None
     place = words.index("--data")
     plan = comparison.call(["sql", *words[1:place], *words[place + 2 :]], folder)
-    return None if plan is None else (words, folder, plan.output, answer.output.partition("\n")[2])
+    if plan is None:
+        return None
+    if is_ordered(plan.output) and has_distinct(os.path.join(folder, words[words.index("--query") + 1])):
+        comparison.count("queries with DISTINCT and ORDER BY, whose lines the plan alone does not tell")
+        return None
+    return words, folder, plan.output, answer.output.partition("\n")[2]
 
 
 def compare_files(tables, name, calls, folder):
@@ -191,6 +209,11 @@ def random_operator(chance, kinds):
     return call(chance.choice(["EBV", "STR", "LANG", "DATATYPE", "STRLEN", "IS_IRI", "IS_BLANK", "IS_LITERAL", "IS_NUMERIC"]), random_term(chance, kinds))
 
 
+def plan_lines(rows):
+    """The lines of rows of terms, in the order of their bytes."""
+    return in_byte_order("\t".join("" if cell is None else term_text(cell) for cell in row) for row in rows)
+
+
 def compare_plans(tables, seed, folder):
     """Compares random plans over one random database, with operators on their columns; what is no term is made a literal, so that rows are lines."""
     case, asked = random_case(seed), []
@@ -203,7 +226,7 @@ def compare_plans(tables, seed, folder):
             outputs = [Column(place) for place in range(len(kinds))] + [random_operator(maker.chance, kinds) for _ in range(4)]
             terms = [one if expression_kind(one, kinds) == "term" else call("LIT", call("LEX", one)) for one in outputs]
             text = plan_text(Project(tuple(terms), plan), case.tables)
-            asked.append(([f"plan {number}", text], folder, text, lines_text(plan_lines(text, case.tables))))
+            asked.append(([f"plan {number}", text], folder, text, lines_text(plan_lines(plan_rows(text, case.tables)))))
     return tables.compare("random plans", case.files["schema.sql"].encode(), os.path.join(folder, "data"), asked)
 
 

@@ -5,7 +5,8 @@ usage: tools/postgres/plan.py --schema FILE [PLAN]     (PLAN is a file; without 
 
 The tables and columns are those of the schema, by their names: a name that is written without quotes is folded to small letters. The
 query's columns c1, c2 and so on are the query's variables in their order, terms as N-Quads has them, NULL where one is unbound; so
-`psql -At -F TAB` prints the lines of `vkg query` behind its first one, in any order.
+`psql -At -F TAB` prints the lines of `vkg query` behind its first one: in the asked order, and of them the asked slice, where one of the
+two is asked, else in any order. Under DISTINCT with ORDER BY a line may come more than once, as the plan's rows have it.
 
 A text that is no plan of the schema is refused: one line with the byte at which it goes wrong on standard error, status 1, and
 nothing is written. This is outside the proof: what is proved of the plan says nothing of this translation (docs/SCALE.md).
@@ -25,7 +26,7 @@ DEEPEST = 50000  # calls within calls; a plan is as deep as its query, and its t
 def query_of(schema, plan):
     """The query of the bytes of a plan over those of a schema."""
     tables = read_schema(schema)
-    return QueryWriter(tables, names_of(schema)).statement(PlanReader(plan, tables).whole()) + ";\n"
+    return QueryWriter(tables, names_of(schema)).whole(*PlanReader(plan, tables).whole()) + ";\n"
 
 
 def bytes_of(path):

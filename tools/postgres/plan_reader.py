@@ -4,6 +4,7 @@ Each reader gives a value of `reference/plan_nodes.py` with the kinds of its col
 kind does not fit: at the byte of the first token that cannot stand there.
 """
 import re
+from typing import NamedTuple
 
 from names import NO_CHARACTER
 from reference.datatypes import BadField, lexical_form
@@ -17,7 +18,7 @@ from reference.tables import family
 from reference.tokens import Cursor, cut, decoded
 
 NO_PLAN = "no plan of this schema"
-CLASSES = [("KEYWORD", "[A-Za-z_][A-Za-z0-9_]*"), ("NAME", '"(?:[^"]|"")*"'), ("TEXT", "'(?:[^']|'')*'"), ("SIGN", "[(),*]")]
+CLASSES = [("KEYWORD", "[A-Za-z_][A-Za-z0-9_]*"), ("NAME", '"(?:[^"]|"")*"'), ("TEXT", "'(?:[^']|'')*'"), ("NUMBER", "[0-9]+"), ("SIGN", "[(),*]")]
 SKIPPED = r"[ \t\r\n]*"
 KINDS = {name: kind for kind, name in KIND_NAMES.items()}
 
@@ -72,6 +73,14 @@ def result_kind(name, kinds):
     return "term" if name in TERM_FUNCTIONS else "string" if name in TEXT_FUNCTIONS else "boolean"
 
 
+class Order(NamedTuple):
+    """What stands behind a plan: for each key, whose columns are the last ones, whether it descends, and the slice."""
+
+    keys: list
+    limit: int | None
+    offset: int
+
+
 class PlanReader(Cursor):
     """Reads a plan over the tables of a schema; Refused where the bytes are none."""
 
@@ -80,11 +89,29 @@ class PlanReader(Cursor):
         self.tables = tables
 
     def whole(self):
-        """Reads the whole text: one plan."""
-        plan, _ = self.plan()
+        """Reads the whole text: one plan, and behind it its order and slice."""
+        plan, kinds = self.plan()
+        keys = self.keys(kinds) if self.takes("ORDER") else []
+        order = Order(keys, self.number_behind("LIMIT"), self.number_behind("OFFSET") or 0)
         if not self.sees_kind("END"):
             self.refuse()
-        return plan
+        return plan, order
+
+    def keys(self, kinds):
+        """Reads what stands behind ORDER: the last columns, which are terms."""
+        self.expect("BY")
+        found = []
+        while not found or self.takes(","):
+            column = self.take("KEYWORD")
+            found.append((column, self.expect("ASC", "DESC").text == "DESC"))
+        for place, (column, _) in enumerate(found, len(kinds) - len(found)):
+            if place < 0 or column.text != f"c{place + 1}" or kinds[place] != "term":
+                raise Refused(NO_PLAN, column.at)
+        return [descends for _, descends in found]
+
+    def number_behind(self, word):
+        """Reads a number behind this word, where it comes next."""
+        return int(self.take("NUMBER").text) if self.takes(word) else None
 
     def words(self, text):
         """Takes these words and signs, which have to come next."""

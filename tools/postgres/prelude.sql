@@ -148,6 +148,21 @@ BEGIN
 END
 $$;
 
+-- ---- the order of terms (SPARQL 1.1 Query, 15.1; "The order of answers" of docs/DECISIONS.md) ----
+
+-- nothing, blank nodes, IRIs, and literals by the sort of their known value; within a class by a number, or a text that compares by its bytes
+CREATE OR REPLACE FUNCTION vkg.rank(t text, OUT class integer, OUT number numeric, OUT form text) LANGUAGE plpgsql IMMUTABLE PARALLEL SAFE AS
+$$
+DECLARE
+  value record := vkg.known(t);
+BEGIN
+  class := CASE WHEN t IS NULL THEN 0 WHEN t LIKE '\_%' THEN 1 WHEN t LIKE '<%' THEN 2 WHEN value.sort IS NULL THEN 8
+    ELSE 2 + array_position(ARRAY['number', 'string', 'boolean', 'dateTime', 'date'], value.sort) END;
+  number := value.number;
+  form := CASE class WHEN 2 THEN substr(t, 2, length(t) - 2) WHEN 1 THEN t WHEN 8 THEN t ELSE value.form END;
+END
+$$;
+
 -- ---- operators (SPARQL 1.1 Query, 17.3 and 17.4) ----
 
 -- by value, else two literals that are not one term are an error

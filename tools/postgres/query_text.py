@@ -5,7 +5,7 @@ another as a SELECT of its own in brackets.
 """
 from typing import NamedTuple
 
-from expression_text import MOMENTS, Value, constant, lex, value_of
+from expression_text import MOMENTS, Value, constant, lex, quoted, value_of
 from reference.plan_nodes import Anti, Distinct, Empty, Join, Left, Project, Scan, Select, Unit, UnionAll, conjuncts, kinds_of
 
 
@@ -34,6 +34,17 @@ def select_text(block, head):
     return "\n".join(parts)
 
 
+def ranked(column, descends):
+    """A key of ORDER BY: a term's class, and then its number or its text (prelude.sql, vkg.rank)."""
+    direction = " DESC" if descends else ""
+    return [f"(vkg.rank({column})).{part}{direction}" for part in ("class", "number", 'form COLLATE "C"')]
+
+
+def line_of(columns):
+    """The line of some columns, by its bytes."""
+    return "concat(" + ", E'\\t', ".join(columns or ["''"]) + ') COLLATE "C"'
+
+
 class QueryWriter:
     """Writes plans over tables; `names` are the names that PostgreSQL has for the tables and their columns."""
 
@@ -44,6 +55,19 @@ class QueryWriter:
         """A name that was not given before."""
         self.count += 1
         return f"t{self.count}"
+
+    def whole(self, plan, order):
+        """The SELECT of a plan in an order: the columns before those of its keys. Where nothing is asked of the order, there is none."""
+        if order == ([], None, 0):
+            return self.statement(plan)
+        columns = [f"c{number}" for number in range(1, len(kinds_of(plan, self.tables)) + 1)]
+        width = len(columns) - len(order.keys)
+        line, keys = columns[:width], zip(columns[width:], order.keys)
+        parts = [f"SELECT {', '.join(line) or quoted('') + ' AS nothing'}\nFROM (\n{self.statement(plan)}\n) AS asked"]
+        parts.append("ORDER BY " + ", ".join(sum((ranked(*key) for key in keys), []) + [line_of(line)]))
+        parts += [] if order.limit is None else [f"LIMIT {order.limit}"]
+        parts += [f"OFFSET {order.offset}"] if order.offset else []
+        return "\n".join(parts)
 
     def statement(self, plan):
         """The whole SELECT of a plan, whose columns are c1, c2 and so on."""

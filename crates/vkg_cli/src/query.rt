@@ -28,7 +28,7 @@ use vkg_sparql::{Query, QueryError, read_query};
 use vkg_tables::{Database, MOST_BYTES};
 
 /// The query of a file's bytes.
-#[tactic(auto, unfolding(crate::specs::Work::ReadsQuery), using(crate::proofs::Numbers::query_number))]
+#[tactic(auto, unfolding(crate::specs::Work::ReadsQuery), using(crate::proofs::Numbers::query_number, crate::proofs::Numbers::is_limit))]
 fn query_of(alloc: Global, base: &str, bytes: &[u8]) -> Result<Query, Stop>
     ensures value { Answers (ReadsQuery bytes.now base.now) result }
     ensures lawful { IfOk result (λ query. IsLawfulQuery (query_seen query)) }

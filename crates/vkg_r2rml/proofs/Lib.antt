@@ -2,10 +2,11 @@ mod Examples
 pub mod FirstFault
 pub mod GatheredLemmas
 pub mod IndexLemmas
-pub mod KeptLemmas
+pub mod InOrder
 pub mod Least
 pub mod LeastFault
 pub mod MappingLemmas
 pub mod RuleCount
 pub mod Parts
+pub mod PassedLemmas
 pub mod Within

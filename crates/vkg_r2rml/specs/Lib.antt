@@ -1,6 +1,6 @@
 pub mod Checked
 pub mod Gathered
-pub mod KeptMaps
+pub mod Passed
 pub mod LogicalTable
 pub mod TriplesMaps
 pub mod ReferencingMap

@@ -35,6 +35,11 @@ abbrev pub of_maps : List ℕ → Result (List TriplesMap) MapFault → Result M
 of_maps base (Ok ms) = within_rules (record { base = base; maps = ms })
 of_maps base (Err f) = Err f
 
+-- where maps have too many rules: the fault of those behind them, or else this limit
+abbrev pub past_limit : Option MapFault → Result Mapping MapFault
+past_limit (Some f) = Err f
+past_limit None = Err (fault 22 0)
+
 -- there is a triples map, and there are not too many
 abbrev pub count_fault : List MapNode → Option MapFault
 count_fault [] = Some (fault 21 0)

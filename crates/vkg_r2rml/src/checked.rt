@@ -1,5 +1,6 @@
 // What checks make of a part of a mapping.
 ghost use Rattle.std.specs.Prelude.{◌≡◌, min};
+ghost use Rattle.std.specs.Result.{result_err};
 ghost use Rattle.vkg_lists.specs.Results.{unless as unless_of};
 ghost use Rattle.vkg_lists.specs.Places.{lesser as lesser_of};
 ghost use Rattle.vkg_r2rml.specs.Checked.{both as both_of};
@@ -15,6 +16,16 @@ pub fn lesser(a: Option<u8>, b: Option<u8>) -> Option<u8>
         (None, b) => b,
         (Some(a), None) => Some(a),
         (Some(a), Some(b)) => Some(a.min(b)),
+    }
+}
+
+/// The least check of a part that fails.
+pub fn fault_of<A: Drop>(part: Checked<A>) -> Option<u8>
+    ensures { result ≡ result_err part }
+{
+    match part {
+        Ok(_) => None,
+        Err(check) => Some(check),
     }
 }
 

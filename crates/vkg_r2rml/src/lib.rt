@@ -12,14 +12,15 @@
 
 mod checked;
 mod gathered;
-mod kept_maps;
 pub mod laws;
 mod logical_table;
+mod map_check;
 mod map_error;
 mod map_node;
 mod mapping;
 mod maps;
 mod object_maps;
+mod past_limit;
 mod predicate_object_map;
 mod referencing_map;
 mod rule_limit;

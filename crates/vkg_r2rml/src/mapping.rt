@@ -1,19 +1,21 @@
-ghost use Rattle.std.specs.Prelude.{◌≡◌, List, map, IfOk, IfErr, Ok};
-ghost use Rattle.vkg_maps.specs.declared.mapping.TriplesMap.{TriplesMap as OneMap};
-ghost use Rattle.vkg_r2rml.specs.KeptMaps.{Keeps};
+ghost use Rattle.std.specs.Prelude.{◌≡◌, ◌≤◌, map, sum_by, IfOk, IfErr, Ok};
+ghost use Rattle.vkg_maps.specs.QuadRules.{rule_limit};
 ghost use Rattle.vkg_r2rml.specs.Mapping.{mapping_of, mapping_over as mapping_of_maps, count_fault as fault_of_count, in_order as all_in_order, of_maps as of_read_maps, within_rules, IsFault, Fails};
 ghost use Rattle.vkg_r2rml.specs.Faults.{IsFaultless, IsLeast};
+ghost use Rattle.vkg_r2rml.specs.RuleCount.{rules_of_map};
 ghost use Rattle.vkg_r2rml.specs.TriplesMaps.{triples_maps};
 ghost use Rattle.vkg_r2rml.specs.TriplesMap.{triples_map as one_map};
 
-use crate::kept_maps::KeptMaps;
 use crate::map_error::{MapError, MapFault};
 use crate::map_node::MapNode;
 use crate::maps::{Maps, read_maps};
+use crate::past_limit::past_limit;
+use crate::rule_limit::{RULE_LIMIT, after_map};
 use crate::triples_map::triples_map;
 use std::alloc::Global;
-use vkg_base::Text;
-use vkg_maps::Mapping;
+use std::mem;
+use vkg_base::{Items, Text};
+use vkg_maps::{Mapping, TriplesMap};
 use vkg_schema::Schema;
 use vkg_term_maps::Graph;
 use vkg_turtle::Triple;
@@ -53,8 +55,9 @@ fn mapping_over(
     if let Some(fault) = count_fault(maps.as_slice()) {
         return Err(MapError::Fault(fault));
     }
-    let kept = in_order(alloc, graph, schema, base, maps)?;
-    within_limit(alloc, base, kept)
+    let maps = in_order(alloc, graph, schema, base, maps)?;
+    let base = Text::new(alloc, base)?;
+    Ok(Mapping { base, maps })
 }
 
 fn count_fault(maps: &[MapNode]) -> Option<MapFault>
@@ -72,37 +75,34 @@ fn count_fault(maps: &[MapNode]) -> Option<MapFault>
     }
 }
 
-/// The triples maps, which are let go once they have too many rules, or the first of them of which a check fails: the limit on rules is
-/// told only where no other check fails.
+/// The triples maps, if a mapping may have their rules. The first of them of which a check fails is told before the limit on rules:
+/// once that is passed, those behind are not kept, but their checks are still asked.
 fn in_order(
     alloc: Global,
     graph: &Graph<'_>,
     schema: &Schema,
     base: &str,
     maps: &Maps,
-) -> Result<KeptMaps, MapError>
-    ensures ok { IfOk result (λ kept. (read : List OneMap) × (all_in_order 1 (map (one_map graph.now schema.now base.now maps.now) maps.now) ≡ Ok read) × Keeps read kept) }
-    ensures err { IfErr result (IsFault (all_in_order 1 (map (one_map graph.now schema.now base.now maps.now) maps.now))) }
+) -> Result<Items<TriplesMap>, MapError>
+    ensures ok { IfOk result (λ read. (all_in_order 1 (map (one_map graph.now schema.now base.now maps.now) maps.now) ≡ Ok read) × (sum_by rules_of_map read ≤ rule_limit)) }
+    ensures err { IfErr result (IsFault (of_read_maps base.now (all_in_order 1 (map (one_map graph.now schema.now base.now maps.now) maps.now)))) }
 {
-    let mut kept = KeptMaps::new(alloc);
+    let mut read = Items::new(alloc);
+    let mut left = RULE_LIMIT;
     for (k, m) in maps.as_slice().iter().enumerate() {
         match triples_map(alloc, graph, schema, base, maps, m)? {
-            Ok(made) => kept.add(alloc, made)?,
+            Ok(made) => match after_map(left, &made) {
+                Some(rest) => {
+                    left = rest;
+                    read.push(made)?;
+                }
+                None => {
+                    mem::drop(made);
+                    return Err(past_limit(alloc, graph, schema, base, maps, k + 1));
+                }
+            },
             Err(check) => return Err(MapError::Fault(MapFault { check, map: k + 1 })),
         }
     }
-    Ok(kept)
-}
-
-/// The mapping of these triples maps, or that it has too many rules.
-fn within_limit(alloc: Global, base: &str, kept: KeptMaps) -> Result<Mapping, MapError>
-    ensures ok { IfOk result (λ mapping. (read : List OneMap) → Keeps read kept → of_read_maps base.now (Ok read) ≡ Ok mapping) }
-    ensures err { IfErr result (λ e. (read : List OneMap) → Keeps read kept → IsFault (of_read_maps base.now (Ok read)) e) }
-{
-    let KeptMaps { maps, left } = kept;
-    let Some(_) = left else {
-        return Err(MapError::Fault(MapFault { check: 22, map: 0 }));
-    };
-    let base = Text::new(alloc, base)?;
-    Ok(Mapping { base, maps })
+    Ok(read)
 }

@@ -37,7 +37,8 @@ pub fn subject(
     }
 }
 
-fn subject_at(
+/// The subject map at a place.
+pub fn subject_at(
     alloc: Global,
     graph: &Graph<'_>,
     columns: &[Column],

@@ -1,4 +1,4 @@
-use Rattle.std.proofs.Common.{◌∙◌, ap, arith, refl}
+use Rattle.std.proofs.Common.{◌∙◌, ap, arith, drop, refl, take}
 use Rattle.vkg_algebra.specs.Answer.{solution_line}
 use Rattle.vkg_algebra.proofs.Offers.{offered_more, one_more_at, stands_none}
 use Rattle.vkg_plain.proofs.lines.offered.Goals as goal
@@ -11,5 +11,6 @@ loop-row-preserved c = record {
   asked = c.in_ok-offer.ensures.asked ∙ c.loop-row.invariant.asked;
   stands = offered_more (λ s. s) c.args.width c.args.keeper.modifiers _ c.args.rows.now c.loop-row.row-index _ _ c.row-item.result _ _ c.loop-row.invariant.asked c.loop-row.invariant.stands
       (one_more_at (λ s. s) c.args.width c.args.rows.now c.loop-row.row-index c.row-item.result (omega arith) c.row-item.is)
-      (c.in_ok-cells.ensures ∙ c.parts.ensures.behind) (c.in_ok-solution_line.ensures ∙ ap solution_line c.parts.ensures.shown) c.in_ok-offer.ensures.ok;
+      (c.in_ok-cells.ensures ∙ c.parts.ensures.behind ∙ ap (drop c.args.width) c.as_slice.ensures)
+      (c.in_ok-solution_line.ensures ∙ ap solution_line (c.parts.ensures.shown ∙ ap (take c.args.width) c.as_slice.ensures)) c.in_ok-offer.ensures.ok;
 }
