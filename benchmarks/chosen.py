@@ -115,6 +115,8 @@ def cases(size):
     yield "other literals", *literals(f"'x-{number}'@a" for number in range(size))
     yield "BASE <a/>, so many times", *planned("BASE <a/> " * size + "SELECT * {}")
     yield "BASE <http://e/>, so many times", *planned("BASE <http://e/> " * size + "SELECT * {}")
+    yield "BASE <#a>, so many times behind a long base", *planned(f"BASE <http://e/{'a' * 10 * size}> " + "BASE <#a> " * size + "SELECT * {}")
+    yield "BASE <./a/>, so many times", *planned("BASE <./a/> " * size + "SELECT * {}")
     yield "@base <a/>, so many times", *mapped("@base <a/> . " * size + PREFIX + MAP)
     yield "@base <http://e/>, so many times", *mapped("@base <http://e/> . " * size + PREFIX + MAP)
     yield "1,024 maps with one subject map of so many classes", *shared(size, "_:s")

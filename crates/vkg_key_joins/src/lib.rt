@@ -10,6 +10,8 @@
 //!   be NULL is still asked to be equal to itself, so rows with NULL there are not kept.
 //! - `ParentJoin`: below a projection the table that a foreign key refers to goes; the columns of the foreign key are asked not to be NULL.
 //!
+//! `names_given`, `are_all_tied`, `are_of_one_kind` and `all_tied_to` say what is used of a table that is referred to, and name its columns in the other.
+//!
 //! Stands on vkg_keys for keys in joins and for the columns of the members that are left, on vkg_rules for rules and their laws, and
 //! on vkg_columns for expressions with others put in.
 #![tactic(auto)]
@@ -22,4 +24,7 @@ mod tables;
 mod without_scan;
 
 pub use parent_join::ParentJoin;
+pub use parent_names::all_tied_to;
+pub use parent_use::{are_all_tied, are_of_one_kind, names_given};
 pub use self_join::SelfJoin;
+pub use tables::columns_of;

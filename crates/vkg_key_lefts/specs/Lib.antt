@@ -6,3 +6,8 @@ pub mod SelfLeft
 pub mod SelfLeftLaw
 pub mod ReferenceLeft
 pub mod ReferenceLeftLaw
+pub mod Nulls
+pub mod SelfLeftMember
+pub mod SelfLeftMemberLaw
+pub mod ParentLeft
+pub mod ParentLeftLaw

@@ -6,7 +6,7 @@ use Rattle.std.specs.Option.{option_map_or}
 use Rattle.std.proofs.Math.Nat.{mul_assoc}
 use Rattle.std.proofs.lemmas.Bool.{cases_Bool, eqb-true, or_cases}
 use Rattle.vkg_lists.proofs.Bags.{bag_same}
-use Rattle.vkg_lists.proofs.Bools.{and_parts}
+use Rattle.vkg_lists.proofs.Bools.{and_parts, not_true}
 use Rattle.vkg_lists.proofs.Counts.{eq_same}
 use Rattle.vkg_lists.proofs.Members.{all_of_each, each_of_all, filter_drops}
 use Rattle.vkg_lists.proofs.Onto.{both_given}
@@ -19,7 +19,7 @@ use Rattle.vkg_cells.specs.Order.{same}
 use Rattle.vkg_schema.specs.declared.table.Reference.{Reference}
 use Rattle.vkg_schema.specs.declared.table.Table.{Table}
 use Rattle.vkg_schema.specs.Meets.{IsWellFormed, MeetsSchema, child_columns}
-use Rattle.vkg_schema.specs.Rows.{Database, Row, agree, cell_at, equal_at, is_known_true, rows_of as table_rows}
+use Rattle.vkg_schema.specs.Rows.{Database, Row, agree, cell_at, equal_at, is_known_true, is_null, rows_of as table_rows}
 use Rattle.vkg_schema.proofs.RowCells.{cell_at-right}
 use Rattle.vkg_expr.specs.Expr.{Expr, Col, Same}
 use Rattle.vkg_expr.specs.Logic.{conjuncts}
@@ -78,11 +78,37 @@ pairs-alone pass n ls rs h =
     ap (λ lone. filter pass (pairs ls rs) ++ map (λ l. l ++ replicate n cell.Null) lone) (filter_drops (is_alone pass rs) ls h)
     ∙ append-nil (filter pass (pairs ls rs))
 
-met : (pass : Row → Bool) (rs : List Row) (l q : Row) → Contains rs q → pass (l ++ q) ≡ true → is_alone pass rs l ≡ false
+pub met : (pass : Row → Bool) (rs : List Row) (l q : Row) → Contains rs q → pass (l ++ q) ≡ true → is_alone pass rs l ≡ false
 met pass rs l q c t = elim (cases_Bool (is_alone pass rs l)) [
   | inl a ↦ let f : not (pass (l ++ q)) ≡ true = each_of_all (λ r. not (pass (l ++ r))) rs a q c in let g : not (pass (l ++ q)) ≡ false = ap not t in cc
   | inr f ↦ f
 ]
+
+-- ---- a row of a child, and the row that it refers to, in a row of both
+
+module _ (b n : ℕ) (pairs : List (ℕ × ℕ)) (row own q : Row) (e : agree pairs own q ≡ true) (left : (k : ℕ) → k < length own → cell_at row (b + k) ≡ cell_at own k) where
+  -- the cells of such a pair are equal
+  equal-pair : (z : ℕ × ℕ) → Contains pairs z → are_same (cell_at own z.0) (cell_at q z.1) ≡ true
+  equal-pair z i = equal-cells own q z (each_of_all (equal_at own q) pairs e z i)
+
+  -- so a conjunct holds that says so
+  pub pair-holds : ((k : ℕ) → cell_at row (n + k) ≡ cell_at q k) → (d : Expr) → ties_pair b n pairs d ≡ true → holds d row ≡ true
+  pair-holds right d t =
+      let f = found (λ (z : ℕ × ℕ). ties (b + z.0) (n + z.1) d) pairs t in
+      let k : Found (λ (z : ℕ × ℕ). ties (b + z.0) (n + z.1) d) pairs f.0 f.1 = f.2 in
+      let eq = equal-pair f.1 (get_member pairs f.0 f.1 k.at) in
+      let inside = known-inside own f.1.0 (same-known (cell_at own f.1.0) (cell_at q f.1.1) eq) in
+      tie-true (b + f.1.0) (n + f.1.1) d row k.passes ((λ i. are_same (left f.1.0 inside i) (right f.1.1 i)) ∙ eq)
+
+  -- and none of the child's columns is NULL
+  pub child-known : (at : ℕ) → list_any (λ (z : ℕ × ℕ). nat_eq at (b + z.0)) pairs ≡ true → is_null (cell_at row at) ≡ false
+  child-known at h =
+      let f = found (λ (z : ℕ × ℕ). nat_eq at (b + z.0)) pairs h in
+      let k : Found (λ (z : ℕ × ℕ). nat_eq at (b + z.0)) pairs f.0 f.1 = f.2 in
+      let known = same-known (cell_at own f.1.0) (cell_at q f.1.1) (equal-pair f.1 (get_member pairs f.0 f.1 k.at)) in
+      ap (λ i. is_null (cell_at row i)) (eqb-true at (b + f.1.0) k.passes)
+      ∙ ap is_null (left f.1.0 (known-inside own f.1.0 known))
+      ∙ not_true (is_null (cell_at own f.1.0)) known
 
 its-reference : (s : Tables) (n : ℕ) (t : Table) (r : Reference) → slice_get s n ≡ Some t → Contains (references_of s n) r → Contains t.references r
 its-reference s n t r is c = subst (λ rs. Contains rs r) (ap (λ o. option_map_or (λ (x : Table). x.references) o []) is) c
@@ -125,12 +151,8 @@ module _ (s : Tables) (form : IsWellFormed s) (p : Plan) (table : ℕ) (c : Expr
     -- the conjuncts hold of a row and of the row that it refers to
     each-holds : (l q : Row) → length l ≡ width s p → (r : HasRow db u.scan l) → agree u.reference.pairs r.own q ≡ true → (d : Expr) → ties_pair (length u.scan.before) (width s p) u.reference.pairs d ≡ true → holds d (l ++ q) ≡ true
     each-holds l q w r e d t =
-        let f = found (λ (z : ℕ × ℕ). ties (length u.scan.before + z.0) (width s p + z.1) d) u.reference.pairs t in
-        let k : Found (λ (z : ℕ × ℕ). ties (length u.scan.before + z.0) (width s p + z.1) d) u.reference.pairs f.0 f.1 = f.2 in
-        let eq = equal-cells r.own q f.1 (each_of_all (equal_at r.own q) u.reference.pairs e f.1 (get_member u.reference.pairs f.0 f.1 k.at)) in
-        let inside = known-inside r.own f.1.0 (same-known (cell_at r.own f.1.0) (cell_at q f.1.1) eq) in
-        tie-true (length u.scan.before + f.1.0) (width s p + f.1.1) d (l ++ q) k.passes
-        ((λ i. are_same (standing-cell db u.scan l q r f.1.0 inside i) (cell_at-right l q (width s p + f.1.1) f.1.1 (ap (λ n. n + f.1.1) (sym w)) i)) ∙ eq)
+        pair-holds (length u.scan.before) (width s p) u.reference.pairs (l ++ q) r.own q e (λ k b. standing-cell db u.scan l q r k b)
+        (λ k. cell_at-right l q (width s p + k) k (ap (λ n. n + k) (sym w))) d t
 
     referring : (l : Row) → Contains (rows_of s p db) l → is_alone (holds c) (table_rows db table) l ≡ false
     referring l d =

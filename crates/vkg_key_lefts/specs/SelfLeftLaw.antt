@@ -153,7 +153,7 @@ module _ (ks : List SqlType) (row : Row) (w : FitsRow ks row) (known : ℕ → B
       known-test x row ∙ ap not (null-exactly ks row w x m.0 m.1 b.0 ∙ none-null (columns x) b.1)
   known-holds _ t h = cc
 
-  says-holds : (d : Expr) → IsTruth ks d → says_known known d ≡ true → holds d row ≡ true
+  pub says-holds : (d : Expr) → IsTruth ks d → says_known known d ≡ true → holds d row ≡ true
   says-holds (Same d e) t h = itself-holds d e h
   says-holds (Not e) t h = known-holds e (one_is kind.Bool (kind_of e ks) (then_given (is_one kind.Bool (kind_of e ks)) kind.Bool kind.Bool t).0) h
   says-holds _ t h = cc

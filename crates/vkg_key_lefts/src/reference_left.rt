@@ -207,7 +207,7 @@ fn each_ties(list: &[Expr], first: usize, second: usize, pairs: &[(usize, usize)
     true
 }
 
-fn ties_pair(c: &Expr, first: usize, second: usize, pairs: &[(usize, usize)]) -> bool
+pub fn ties_pair(c: &Expr, first: usize, second: usize, pairs: &[(usize, usize)]) -> bool
     ensures { result ≡ ties_a_pair first second pairs.now (expr_seen c.now) }
 {
     for pair in pairs {

@@ -145,7 +145,7 @@ fn named_left(
 
 /// The expressions over the plan, with those of a list in the place of their columns.
 #[tactic(auto, using(vkg_rules::proofs::Seen::seen_nodes))]
-fn over(alloc: Global, names: &[Expr], es: &[Expr], p: &Plan) -> Result<(Plan, Fell), Memory>
+pub fn over(alloc: Global, names: &[Expr], es: &[Expr], p: &Plan) -> Result<(Plan, Fell), Memory>
     ensures { IfOk result (λ x. step_seen x ≡ (Project (map (put_in (at_place (map expr_seen names.now))) (map expr_seen es.now)) (plan_seen p.now), weight.Weight)) }
 {
     let p = copy_plan_box(alloc, p)?;

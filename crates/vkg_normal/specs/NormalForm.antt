@@ -18,10 +18,14 @@ use Rattle.vkg_key_joins.specs.ParentJoin.{parent_join}
 use Rattle.vkg_key_joins.specs.ParentJoinLaw.{parent_join-falls, parent_join-keeps}
 use Rattle.vkg_key_joins.specs.SelfJoin.{self_join}
 use Rattle.vkg_key_joins.specs.SelfJoinLaw.{self_join-falls, self_join-keeps}
+use Rattle.vkg_key_lefts.specs.ParentLeft.{parent_left}
+use Rattle.vkg_key_lefts.specs.ParentLeftLaw.{parent_left-falls, parent_left-keeps}
 use Rattle.vkg_key_lefts.specs.ReferenceLeft.{reference_left}
 use Rattle.vkg_key_lefts.specs.ReferenceLeftLaw.{reference_left-falls, reference_left-keeps}
 use Rattle.vkg_key_lefts.specs.SelfLeft.{self_left}
 use Rattle.vkg_key_lefts.specs.SelfLeftLaw.{self_left-falls, self_left-keeps}
+use Rattle.vkg_key_lefts.specs.SelfLeftMember.{self_left_member}
+use Rattle.vkg_key_lefts.specs.SelfLeftMemberLaw.{self_left_member-falls, self_left_member-keeps}
 use Rattle.vkg_lifts.specs.LiftProjects.{lift_projects}
 use Rattle.vkg_lifts.specs.LiftProjectsLaw.{lift_projects-falls, lift_projects-keeps}
 use Rattle.vkg_moves.specs.LeftToJoin.{left_to_join}
@@ -46,8 +50,12 @@ use Rattle.vkg_spreads.specs.DistributeUnion.{distribute_union}
 use Rattle.vkg_spreads.specs.DistributeUnionLaw.{distribute_union-falls, distribute_union-keeps}
 use Rattle.vkg_sure.specs.FirstKnown.{first_known}
 use Rattle.vkg_sure.specs.FirstKnownLaw.{first_known-falls, first_known-keeps}
+use Rattle.vkg_sure.specs.KnownMember.{known_member}
+use Rattle.vkg_sure.specs.KnownMemberLaw.{known_member-falls, known_member-keeps}
 use Rattle.vkg_sure.specs.SureNull.{sure_null}
 use Rattle.vkg_sure.specs.SureNullLaw.{sure_null-falls, sure_null-keeps}
+use Rattle.vkg_sure.specs.TermComparison.{term_comparison}
+use Rattle.vkg_sure.specs.TermComparisonLaw.{term_comparison-falls, term_comparison-keeps}
 use Rattle.vkg_unions.specs.DistinctDistinct.{distinct_distinct}
 use Rattle.vkg_unions.specs.DistinctDistinctLaw.{distinct_distinct-falls, distinct_distinct-keeps}
 use Rattle.vkg_unions.specs.EqualMembers.{equal_members}
@@ -102,9 +110,9 @@ first_rules =
     (either conditions
     anti_joins)))))))
 
--- rules of our own: on what is never NULL, and on left joins over keys
+-- rules of our own: on what is sure of an expression, and on left joins over keys
 unfoldable pub own_rules : Rule
-own_rules = either sure_null (either first_known (either self_left reference_left))
+own_rules = either sure_null (either first_known (either known_member (either term_comparison (either self_left (either self_left_member (either parent_left reference_left))))))
 
 -- all rules in the order in which they are asked, our own behind the others
 unfoldable pub all_rules : Rule
@@ -236,14 +244,22 @@ unfolding own_rules
 own_rules-keep =
     either-keeps sure_null _ sure_null-keeps
     (either-keeps first_known _ first_known-keeps
-    (either-keeps self_left reference_left self_left-keeps reference_left-keeps))
+    (either-keeps known_member _ known_member-keeps
+    (either-keeps term_comparison _ term_comparison-keeps
+    (either-keeps self_left _ self_left-keeps
+    (either-keeps self_left_member _ self_left_member-keeps
+    (either-keeps parent_left reference_left parent_left-keeps reference_left-keeps))))))
 
 own_rules-fall : FallsAll own_rules
 unfolding own_rules
 own_rules-fall =
     either-falls sure_null _ sure_null-falls
     (either-falls first_known _ first_known-falls
-    (either-falls self_left reference_left self_left-falls reference_left-falls))
+    (either-falls known_member _ known_member-falls
+    (either-falls term_comparison _ term_comparison-falls
+    (either-falls self_left _ self_left-falls
+    (either-falls self_left_member _ self_left_member-falls
+    (either-falls parent_left reference_left parent_left-falls reference_left-falls))))))
 
 pub rules-keep : KeepsAll all_rules
 unfolding all_rules

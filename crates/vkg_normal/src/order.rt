@@ -7,14 +7,14 @@ use vkg_conditions::SimplifyCondition;
 use vkg_equalities::TermEquality;
 use vkg_joins::JoinInJoin;
 use vkg_key_joins::{ParentJoin, SelfJoin};
-use vkg_key_lefts::{ReferenceLeft, SelfLeft};
+use vkg_key_lefts::{ParentLeft, ReferenceLeft, SelfLeft, SelfLeftMember};
 use vkg_lifts::LiftProjects;
 use vkg_moves::{LeftToJoin, MergeProjects, MergeSelects};
 use vkg_nulls::SimplifyNull;
 use vkg_rules::{Either, Rewrite};
 use vkg_shapes::{FalseCondition, FewMembers, FlatUnion, PropagateEmpty, SelectTrue};
 use vkg_spreads::DistributeUnion;
-use vkg_sure::{FirstKnown, SureNull};
+use vkg_sure::{FirstKnown, KnownMember, SureNull, TermComparison};
 use vkg_unions::{DistinctDistinct, EqualMembers};
 use vkg_unique::{DistinctUnique, UnusedLeft};
 
@@ -54,8 +54,14 @@ pub type Conditions = Either<TermEquality, Either<SimplifyCondition, SimplifyNul
 /// The rules on anti joins.
 pub type AntiJoins = Either<AntiNothing, AntiRight>;
 
-/// Rules of our own: on what is never NULL, and on left joins over keys.
-pub type OwnRules = Either<SureNull, Either<FirstKnown, Either<SelfLeft, ReferenceLeft>>>;
+/// Rules of our own: on what is sure of an expression, and on left joins over keys.
+pub type OwnRules = Either<
+    SureNull,
+    Either<FirstKnown, Either<KnownMember, Either<TermComparison, KeyLefts>>>,
+>;
+
+/// Those on left joins over keys.
+pub type KeyLefts = Either<SelfLeft, Either<SelfLeftMember, Either<ParentLeft, ReferenceLeft>>>;
 
 /// The rules in their order.
 #[tactic(auto, unfolding(crate::specs::NormalForm::all_rules))]
@@ -155,8 +161,12 @@ fn anti_joins() -> AntiJoins
 fn own_rules() -> OwnRules
     ensures { ⟦<OwnRules as Rewrite>⟧.becomes result ≡ all_own_rules }
 {
-    let lefts = or_else(SelfLeft, ReferenceLeft);
-    let known = or_else(FirstKnown, lefts);
+    let references = or_else(ParentLeft, ReferenceLeft);
+    let members = or_else(SelfLeftMember, references);
+    let lefts = or_else(SelfLeft, members);
+    let compared = or_else(TermComparison, lefts);
+    let told = or_else(KnownMember, compared);
+    let known = or_else(FirstKnown, told);
     or_else(SureNull, known)
 }
 

@@ -1,6 +1,6 @@
 -- What the tokens of a query mean, where no check fails of them.
 use Rattle.vkg_lists.proofs.Results.{none_if}
-use Rattle.std.proofs.Common.{◌≡◌, ◌∙◌, ℕ, ◌≤◌, ◌||◌, ◌&&◌, ◌==◌, not, true≢false, Bool, true, false, if◌then◌else◌, zero, suc, List, [], ◌∷◌, codes, drop, Option, Some, None, option_map, refl, sym, ap, subst, arith, eqb-true}
+use Rattle.std.proofs.Common.{◌≡◌, ◌∙◌, ℕ, ◌≤◌, ◌-◌, ◌||◌, ◌&&◌, ◌==◌, not, true≢false, Bool, true, false, if◌then◌else◌, zero, suc, List, [], ◌∷◌, codes, drop, Option, Some, None, option_map, refl, sym, ap, subst, arith, eqb-true}
 use Rattle.std.specs.Prelude.{slice_get}
 use Rattle.std.specs.Str.{str_to_ascii_lowercase}
 use Rattle.std.proofs.lemmas.Bool.{and_right, cond-true}
@@ -47,13 +47,14 @@ dropped (suc s) (y ∷ xs) (suc i) x l e =
 
 -- ---- a token's meaning is that of its lexeme
 
-meaning_is : (e : Environment) (keys : List (List ℕ)) (xs : List Lexeme) (i : ℕ) (x : Lexeme) → slice_get xs i ≡ Some x → meaning_at (meanings_of e keys xs) i ≡ meaning_of e keys x (behind xs i)
-meaning_is e keys [] zero x h = absurd (cc)
-meaning_is e keys [] (suc i) x h = absurd (cc)
-meaning_is e keys (y ∷ xs) zero x h =
+meaning_is : (e : Environment) (keys : List (List ℕ)) (start : ℕ) (xs : List Lexeme) (i : ℕ) (x : Lexeme) → start ≤ i → slice_get xs i ≡ Some x → meaning_at (meanings_of e keys start xs) i ≡ meaning_of e keys x (behind xs i)
+meaning_is e keys start [] zero x l h = absurd (cc)
+meaning_is e keys start [] (suc i) x l h = absurd (cc)
+meaning_is e keys zero (y ∷ xs) zero x l h =
     let same : y ≡ x = cc in
     ap (λ z. meaning_of e keys z xs) same
-meaning_is e keys (y ∷ xs) (suc i) x h = meaning_is e keys xs i x h
+meaning_is e keys (suc s) (y ∷ xs) zero x l h = absurd (omega (arith, l))
+meaning_is e keys start (y ∷ xs) (suc i) x l h = meaning_is e keys (start - 1) xs i x (omega (arith, l)) h
 
 -- ---- no token is a number of too many digits: before the slice by the check of that, in the slice by the check of its numbers
 
@@ -281,7 +282,7 @@ module _ (text : List ℕ) (tokens : List Token) (e : Environment) (start : ℕ)
   body_keys = (named_of body).keys
 
   abbrev pub all_meanings : List Meaning
-  all_meanings = meanings_of e body_keys lexed
+  all_meanings = meanings_of e body_keys start lexed
 
   module _ (fine : Fine e body) (i k : ℕ) (l : start ≤ i) (h : slice_get (kinds_of tokens) i ≡ Some k) where
     at_token : (P : Meaning → Type 0)
@@ -292,7 +293,7 @@ module _ (text : List ℕ) (tokens : List Token) (e : Environment) (start : ℕ)
     at_token P f =
         let s = stands text tokens i k h in
         let d = dropped start lexed i (lexeme_of text s.token) l s.at in
-        subst P (sym (meaning_is e body_keys lexed i (lexeme_of text s.token) s.at))
+        subst P (sym (meaning_is e body_keys start lexed i (lexeme_of text s.token) l s.at))
         (f s.token.kind s.token.start (between text s.token.start s.token.end) (behind lexed i) s.kind
         (λ key q. numbered body d.place (lexeme_of text s.token) key d.at q)
         (subst (λ xs. fails Wide e (lexeme_of text s.token) xs ≡ false) d.rest (passes_at e body d.place (lexeme_of text s.token) fine d.at)))

@@ -22,10 +22,14 @@ begun base = record { base = base; prefixes = []; relative = None }
 abbrev pub relative_or : Option ℕ → List ℕ → ℕ → Option ℕ
 relative_or before iri at = if is_absolute iri then before else earlier before at
 
+-- what references are resolved against from now on
+abbrev pub based : Environment → List ℕ → ℕ → Environment
+based e iri at = record e { base = iri; relative = relative_or e.relative iri at }
+
 -- BASE: its IRI is resolved against the base before it
 abbrev pub with_base : Environment → Option Lexeme → Environment
 with_base e None = e
-with_base e (Some x) = record e { base = iri_text e x.word; relative = relative_or e.relative (iri_text e x.word) x.at }
+with_base e (Some x) = based e (iri_text e x.word) x.at
 
 -- PREFIX: a prefix named again takes the last IRI
 abbrev pub with_prefix : Environment → Option Lexeme → Option Lexeme → Environment

@@ -1,5 +1,5 @@
 -- SPARQL 1.1, 4.1.2: the terms and the other meanings of the tokens of a query.
-use Rattle.std.specs.Prelude.{ℕ, Bool, ◌||◌, List, [], ◌∷◌, codes, if◌then◌else◌, ◌==◌}
+use Rattle.std.specs.Prelude.{ℕ, Bool, ◌-◌, ◌||◌, List, [], ◌∷◌, codes, if◌then◌else◌, ◌==◌, nat_lt}
 use Rattle.std.specs.Str.{str_to_ascii_lowercase}
 use Rattle.vkg_terms.specs.declared.term.Term.{Term}
 use Rattle.vkg_terms.specs.declared.term.Term.TheVariants.{Iri, Lit}
@@ -78,6 +78,7 @@ meaning_of e keys x xs =
     else if is_term x.kind then Fixed (term_of e x.word xs)
     else operator_of x.kind
 
-abbrev pub meanings_of : Environment → List (List ℕ) → List Lexeme → List Meaning
-meanings_of e keys [] = []
-meanings_of e keys (x ∷ xs) = meaning_of e keys x xs ∷ meanings_of e keys xs
+-- of each token; the first ones, so many, are those of the prologue, which declares and means nothing else
+abbrev pub meanings_of : Environment → List (List ℕ) → ℕ → List Lexeme → List Meaning
+meanings_of e keys start [] = []
+meanings_of e keys start (x ∷ xs) = (if nat_lt 0 start then Mark else meaning_of e keys x xs) ∷ meanings_of e keys (start - 1) xs

@@ -123,7 +123,7 @@ fault_of r = option_or (token_fault r) (part_fault r)
 
 -- the query
 abbrev pub query_of : Read → Query
-query_of r = query_value r.named.names (meanings r) r.tree
+query_of r = query_value r.named.names (meanings_of r.environment r.named.keys (body_start r.tree) r.lexemes) r.tree
 
 -- The text is one of the grammar, and this is what was read of it.
 pub record Says (text base : List ℕ) (r : Read) : Type 0 where

@@ -7,6 +7,7 @@ ghost use Rattle.vkg_grammar.specs.OneTree.{IsTheTree};
 ghost use Rattle.vkg_sparql.specs.Checks.{triples_over, size_over};
 ghost use Rattle.vkg_sparql.specs.Nodes.{nodes_over};
 ghost use Rattle.vkg_lists.specs.Places.{lesser as lesser_of};
+ghost use Rattle.vkg_sparql.specs.Environment.{body_start};
 ghost use Rattle.vkg_sparql.specs.Groups.{query_value, query_triples};
 ghost use Rattle.vkg_sparql.specs.Lexemes.{lexemes_of};
 ghost use Rattle.vkg_sparql.specs.Literals.{meanings_of};
@@ -168,9 +169,10 @@ fn query_of(
     at: usize,
 ) -> Result<Query, Memory>
     requires { at < node_count forest.now }
-    ensures { IfOk result (λ q. q ≡ query_value named.names (meanings_of environment.now named.keys lexemes.now) (tree forest.now at)) }
+    ensures { IfOk result (λ q. q ≡ query_value named.names (meanings_of environment.now named.keys (body_start (tree forest.now at)) lexemes.now) (tree forest.now at)) }
 {
-    let meanings = meanings_of(alloc, environment, &named.keys, lexemes)?;
+    let start = body_start(forest, at);
+    let meanings = meanings_of(alloc, environment, &named.keys, start, lexemes)?;
     read_tree(alloc, named.names, &meanings, forest, at)
 }
 

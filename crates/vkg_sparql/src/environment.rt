@@ -1,22 +1,24 @@
 ghost use Rattle.std.specs.Prelude.{◌≡◌, ◌<◌, ◌++◌, option_map, Some, [], IfOk, OnOk};
 ghost use Rattle.std.specs.Option.{option_copied};
 ghost use Rattle.vkg_grammar.specs.Forest.{tree, node_count};
-ghost use Rattle.vkg_sparql.specs.Environment.{iri_of, iri_text, begun, relative_or, with_base, with_prefix, declaration, declarations, environment_of, body_start};
+ghost use Rattle.vkg_terms.specs.Resolve.{resolve};
+ghost use Rattle.vkg_sparql.specs.Environment.{iri_of, iri_text, based, begun, relative_or, with_base, with_prefix, declaration, declarations, environment_of, body_start};
 
 use crate::lexeme::Lexeme;
 use crate::meaning::first_token;
 use std::alloc::Global;
+use std::mem;
 use vkg_base::{Memory, Text, at as lexeme_at, earlier};
 use vkg_grammar::{Forest, Node};
 use vkg_hash::Seed;
 use vkg_terms::is_absolute;
-use vkg_turtle::{Prefixes, Word, iri_named, or_empty, prefix_of};
+use vkg_turtle::{Base, Prefixes, Word, iri_named, or_empty, prefix_of};
 
 /// What a query's IRIs are read against: the base and the prefixes, with the place of the first IRI of the prologue that is
 /// not absolute.
 #[derive(Drop)]
 pub struct Environment {
-    pub base: Text,
+    pub base: Base,
     pub prefixes: Prefixes,
     pub relative: Option<usize>,
 }
@@ -36,7 +38,7 @@ impl Environment {
         ensures { IfOk result (λ e. e ≡ begun base.now) }
     {
         Ok(Environment {
-            base: Text::new(alloc, base)?,
+            base: Base::new(alloc, base)?,
             prefixes: Prefixes::new(alloc, seed),
             relative: None,
         })
@@ -56,16 +58,37 @@ impl Environment {
         or_empty(alloc, self.iri_of(alloc, word)?)
     }
 
+    // The base is moved by a reference, in place where that is plain.
+    fn move_base(&mut self, alloc: Global, reference: &str, at: usize) -> Result<(), Memory>
+        ensures { OnOk result (self.new ≡ based self.old (resolve self.old.base reference.now) at) }
+    {
+        let base = mem::replace(&mut self.base, Base::empty(alloc));
+        self.base = base.moved(alloc, reference)?;
+        if !self.base.is_absolute() {
+            self.relative = earlier(self.relative, at);
+        }
+        Ok(())
+    }
+
+    fn put_base(&mut self, alloc: Global, lexeme: &Lexeme) -> Result<(), Memory>
+        ensures { OnOk result (self.new ≡ with_base self.old (Some lexeme.now)) }
+    {
+        let iri = self.iri_text(alloc, &lexeme.word)?;
+        self.relative = relative_or(self.relative, iri.as_str(), lexeme.at);
+        self.base = Base::new(alloc, iri.as_str())?;
+        Ok(())
+    }
+
     fn set_base(&mut self, alloc: Global, lexeme: Option<&Lexeme>) -> Result<(), Memory>
         ensures { OnOk result (self.new ≡ with_base self.old (option_copied lexeme.entry)) }
     {
         let Some(lexeme) = lexeme else {
             return Ok(());
         };
-        let iri = self.iri_text(alloc, &lexeme.word)?;
-        self.relative = relative_or(self.relative, iri.as_str(), lexeme.at);
-        self.base = iri;
-        Ok(())
+        match &lexeme.word {
+            Word::Reference(text) => self.move_base(alloc, text.as_str(), lexeme.at),
+            _ => self.put_base(alloc, lexeme),
+        }
     }
 
     fn declare(&mut self, alloc: Global, name: &Lexeme, lexeme: &Lexeme) -> Result<(), Memory>

@@ -1,6 +1,7 @@
-ghost use Rattle.std.specs.Prelude.{◌≡◌, IfOk};
+ghost use Rattle.std.specs.Prelude.{◌≡◌, IfOk, nat_lt, if◌then◌else◌};
 ghost use Rattle.vkg_sparql.specs.Lexemes.{key_of, number_in};
 ghost use Rattle.vkg_sparql.specs.Literals.{type_behind, tag_or_type, annotation, term_of, operator_of, is_term, meaning_of, meanings_of};
+ghost use Rattle.vkg_sparql.specs.declared.meaning.Meaning.TheVariants.{Mark};
 
 use crate::environment::Environment;
 use crate::lexeme::Lexeme;
@@ -149,19 +150,39 @@ fn meaning_of(
     }
 }
 
-/// What each token stands for.
+// The same behind the prologue, of which so many tokens are left.
+fn meaning_behind(
+    alloc: Global,
+    environment: &Environment,
+    keys: &Names,
+    left: usize,
+    lexeme: &Lexeme,
+    rest: &[Lexeme],
+) -> Result<Meaning, Memory>
+    ensures { IfOk result (λ m. m ≡ (if nat_lt 0 left then Mark else meaning_of environment.now keys.now lexeme.now rest.now)) }
+{
+    if 0 < left {
+        return Ok(Meaning::Mark);
+    }
+    meaning_of(alloc, environment, keys, lexeme, rest)
+}
+
+/// What each token stands for. Those of the prologue, the first ones, mean nothing.
 pub fn meanings_of(
     alloc: Global,
     environment: &Environment,
     keys: &Names,
+    start: usize,
     lexemes: &[Lexeme],
 ) -> Result<Vec<Meaning>, Memory>
-    ensures { IfOk result (λ ms. ms.items ≡ meanings_of environment.now keys.now lexemes.now) }
+    ensures { IfOk result (λ ms. ms.items ≡ meanings_of environment.now keys.now start lexemes.now) }
 {
     let mut meanings = Vec::new(alloc);
     let mut rest = lexemes;
+    let mut left = start;
     while let Some((lexeme, more)) = rest.split_first() {
-        meanings.push(meaning_of(alloc, environment, keys, lexeme, more)?)?;
+        meanings.push(meaning_behind(alloc, environment, keys, left, lexeme, more)?)?;
+        left = left.saturating_sub(1);
         rest = more;
     }
     Ok(meanings)

@@ -17,6 +17,7 @@ use Rattle.vkg_conditions.proofs.InCondition.{twice}
 use Rattle.vkg_nulls.specs.NullTests.{known_column}
 use Rattle.vkg_nulls.specs.SimplifyNull.{changed_by}
 use Rattle.vkg_sure.specs.FirstKnown.{first_known, first_known_of}
+use Rattle.vkg_sure.specs.KnownMember.{known_member, known_member_of}
 use Rattle.vkg_sure.specs.NeverNull.{own_never_null}
 use Rattle.vkg_sure.specs.SureNull.{sure_null}
 
@@ -40,6 +41,10 @@ pub first_known_is : (s : Tables) (p : Plan) → has_condition p ≡ true → fi
 unfolding first_known
 first_known_is s p h = changed_is (first_known_of (own_never_null s p)) p h
 
+pub known_member_is : (s : Tables) (p : Plan) → has_condition p ≡ true → known_member s p ≡ conditioned fell.Size p (option_and_then (first_place known_member_of) (condition_of p))
+unfolding known_member
+known_member_is s p h = changed_is known_member_of p h
+
 -- ---- by what was told of the plan, moved and behind references
 
 -- a plan, and what is less, as others are
@@ -60,3 +65,9 @@ pub first_known_again : (s : Tables) (p x y : PlanValue) (o : Option ExprValue) 
 first_known_again s p x y o b first second told is h =
     ap (conditioned fell.Size (plan_seen p)) (h ∙ ap (λ z. option_and_then (first_place (first_known_of (own_never_null s (plan_seen z)))) (condition_of (plan_seen z))) second)
     ∙ sym (first_known_is s (plan_seen p) (has p x b first told is))
+
+pub known_member_again : (s : Tables) (p x y : PlanValue) (o : Option ExprValue) (b : Bool) → x ≡ p → y ≡ p → b ≡ has_condition (plan_seen x) → b ≡ true →
+    option_map expr_seen o ≡ option_and_then (first_place known_member_of) (condition_of (plan_seen y)) → conditioned fell.Size (plan_seen p) (option_map expr_seen o) ≡ known_member s (plan_seen p)
+known_member_again s p x y o b first second told is h =
+    ap (conditioned fell.Size (plan_seen p)) (h ∙ ap (λ z. option_and_then (first_place known_member_of) (condition_of (plan_seen z))) second)
+    ∙ sym (known_member_is s (plan_seen p) (has p x b first told is))

@@ -6,3 +6,7 @@ pub mod NeverNullLaw
 pub mod SureNull
 pub mod SureNullLaw
 pub mod ToldAt
+pub mod TermComparison
+pub mod TermComparisonLaw
+pub mod KnownMember
+pub mod KnownMemberLaw

@@ -14,6 +14,8 @@ mod made;
 #[cfg(test)]
 mod of_antis;
 #[cfg(test)]
+mod of_comparisons;
+#[cfg(test)]
 mod of_conditions;
 #[cfg(test)]
 mod of_equalities;
@@ -35,6 +37,8 @@ mod of_shapes;
 mod of_spreads;
 #[cfg(test)]
 mod of_sure;
+#[cfg(test)]
+mod of_told;
 #[cfg(test)]
 mod of_unions;
 #[cfg(test)]

@@ -9,7 +9,8 @@ use vkg_plan::{CheckedPlan, Plan, well_typed};
 use vkg_rules::Rewrite;
 use vkg_schema::Schema;
 use vkg_sqltext::sql_text;
-use vkg_values::Test;
+use vkg_terms::Term;
+use vkg_values::{Compare, Test};
 
 pub type MadeExpr = Result<Box<Expr>, Memory>;
 
@@ -64,6 +65,17 @@ pub fn numbered(alloc: Global, front: &str, at: usize) -> MadeExpr {
     let pieces = both(alloc, text(alloc, front), safe(alloc, at))?;
     let address = Box::new(alloc, Expr::Concat(pieces))?;
     Box::new(alloc, Expr::MakeIri(Shared::from_box(alloc, address)?))
+}
+
+pub fn iri(alloc: Global, name: &str) -> MadeExpr {
+    let name = Text::new(alloc, name)?;
+    constant(alloc, Cell::Term(Term::Iri(name)), SqlType::Term)
+}
+
+// What a comparison of two terms asks.
+pub fn compared(alloc: Global, operator: Compare, a: MadeExpr, b: MadeExpr) -> MadeExpr {
+    let es = both(alloc, a, b)?;
+    Box::new(alloc, Expr::Sparql(Operator::Compare(operator), es))
 }
 
 fn both(alloc: Global, a: MadeExpr, b: MadeExpr) -> Result<Items<Expr>, Memory> {

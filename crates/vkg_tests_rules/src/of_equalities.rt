@@ -1,6 +1,6 @@
 use crate::made::{
-    Made, MadeExpr, and, by, constant, form, join, left, not, numbered, same, scan, select, truth,
-    union, unknown,
+    Made, MadeExpr, and, by, constant, form, iri, join, left, not, numbered, same, scan, select,
+    truth, union, unknown,
 };
 use std::alloc::Global;
 use std::test::Fail;
@@ -10,7 +10,6 @@ use vkg_equalities::TermEquality;
 use vkg_expr::{Expr, Shared};
 use vkg_plan::Plan;
 use vkg_schema::read_schema;
-use vkg_terms::Term;
 
 // The IRI of an employee whose number is in a column.
 fn employee(alloc: Global, at: usize) -> MadeExpr {
@@ -20,11 +19,6 @@ fn employee(alloc: Global, at: usize) -> MadeExpr {
 fn blank(alloc: Global, at: usize) -> MadeExpr {
     let form = Shared::from_box(alloc, form(alloc, at)?)?;
     Box::new(alloc, Expr::MakeBlank(form))
-}
-
-fn iri(alloc: Global, name: &str) -> MadeExpr {
-    let name = Text::new(alloc, name)?;
-    constant(alloc, Cell::Term(Term::Iri(name)), SqlType::Term)
 }
 
 // The employee is the one with this IRI.

@@ -1,6 +1,6 @@
 use crate::made::{
-    Made, MadeExpr, and, by, column, form, join, left, same, scan, select, table, truth, unknown,
-    values,
+    Made, MadeExpr, and, by, column, form, join, left, not, same, scan, select, table, truth,
+    unknown, values,
 };
 use std::alloc::Global;
 use std::test::Fail;
@@ -8,7 +8,10 @@ use vkg_base::{Items, Memory};
 use vkg_cells::SqlType;
 use vkg_expr::Expr;
 use vkg_key_lefts::standing::{kinds, standing};
-use vkg_key_lefts::{ReferenceLeft, SelfLeft, is_left, named_columns, put_each, renamed, ties_key};
+use vkg_key_lefts::{
+    ParentLeft, ReferenceLeft, SelfLeft, SelfLeftMember, is_left, named_columns, put_each, renamed,
+    ties_key,
+};
 use vkg_plan::Plan;
 use vkg_schema::{Schema, read_schema};
 
@@ -108,9 +111,52 @@ fn of_reference(alloc: Global, plan: &str) -> Made {
     }
 }
 
+// A form of a column of references, and the references with their departments of a condition.
+fn with_departments(alloc: Global, at: usize, c: MadeExpr) -> Made {
+    let both = join(alloc, table(alloc, 3), table(alloc, 1), equal(alloc, 1, 2));
+    values(
+        alloc,
+        form(alloc, at),
+        left(alloc, table(alloc, 3), both, c),
+    )
+}
+
+fn of_member(alloc: Global, plan: &str) -> Made {
+    match plan {
+        "the same row beside another" => with_departments(alloc, 5, equal(alloc, 0, 2)),
+        "a column of the same row is used" => with_departments(alloc, 3, equal(alloc, 0, 2)),
+        _ => with_departments(alloc, 5, equal(alloc, 1, 3)),
+    }
+}
+
+// What is projected of references and their departments.
+fn of_departments_of(alloc: Global, e: MadeExpr, c: MadeExpr) -> Made {
+    values(alloc, e, left(alloc, table(alloc, 3), table(alloc, 1), c))
+}
+
+fn of_parent(alloc: Global, plan: &str) -> Made {
+    let tied = equal(alloc, 1, 2);
+    match plan {
+        "the key alone is used" => of_departments_of(alloc, form(alloc, 2), tied),
+        "a reference that is tested" => {
+            let known = not(alloc, unknown(alloc, 1));
+            of_departments_of(alloc, form(alloc, 2), and(alloc, known, tied))
+        }
+        "nothing is used" => of_departments_of(alloc, form(alloc, 0), tied),
+        "another column is used" => of_departments_of(alloc, form(alloc, 3), tied),
+        "whether there is one" => of_departments_of(alloc, unknown(alloc, 2), tied),
+        _ => {
+            let known = not(alloc, unknown(alloc, 0));
+            of_departments_of(alloc, form(alloc, 2), and(alloc, tied, known))
+        }
+    }
+}
+
 fn made(alloc: Global, rule: &str, plan: &str) -> Made {
     match rule {
         "SelfLeft" => of_self(alloc, plan),
+        "SelfLeftMember" => of_member(alloc, plan),
+        "ParentLeft" => of_parent(alloc, plan),
         _ => of_reference(alloc, plan),
     }
 }
@@ -118,12 +164,14 @@ fn made(alloc: Global, rule: &str, plan: &str) -> Made {
 fn outcome(alloc: Global, schema: &Schema, rule: &str, plan: &Plan) -> Result<String, Memory> {
     match rule {
         "SelfLeft" => by(&SelfLeft, alloc, schema, plan),
+        "SelfLeftMember" => by(&SelfLeftMember, alloc, schema, plan),
+        "ParentLeft" => by(&ParentLeft, alloc, schema, plan),
         _ => by(&ReferenceLeft, alloc, schema, plan),
     }
 }
 
 // Rules, plans, and the texts of what the rules make of them.
-const OUTCOMES: [(&str, &str, &str); 16] = [
+const OUTCOMES: [(&str, &str, &str); 25] = [
     (
         "SelfLeft",
         "the same row",
@@ -155,6 +203,31 @@ const OUTCOMES: [(&str, &str, &str); 16] = [
         "SELECT c4 AS c1 FROM (SELECT * FROM (TABLE \"u\") AS t1 CROSS JOIN (TABLE \"d\") AS t2 WHERE TRUE) AS t",
     ),
     ("SelfLeft", "another table", "none"),
+    (
+        "SelfLeftMember",
+        "the same row beside another",
+        "SELECT LEX(c4) AS c1 FROM (SELECT * FROM (TABLE \"f\") AS t1 LEFT JOIN (SELECT * FROM (TABLE \"d\") AS t1 WHERE TRUE) AS t2 ON AND(SAME(c2, c3), SAME(c1, c1))) AS t",
+    ),
+    ("SelfLeftMember", "a column of the same row is used", "none"),
+    ("SelfLeftMember", "equal values of no key", "none"),
+    (
+        "ParentLeft",
+        "the key alone is used",
+        "SELECT LEX(c2) AS c1 FROM (TABLE \"f\") AS t",
+    ),
+    (
+        "ParentLeft",
+        "a reference that is tested",
+        "SELECT LEX(c2) AS c1 FROM (TABLE \"f\") AS t",
+    ),
+    (
+        "ParentLeft",
+        "nothing is used",
+        "SELECT LEX(c1) AS c1 FROM (TABLE \"f\") AS t",
+    ),
+    ("ParentLeft", "another column is used", "none"),
+    ("ParentLeft", "whether there is one", "none"),
+    ("ParentLeft", "another column is asked for", "none"),
     (
         "ReferenceLeft",
         "a reference",

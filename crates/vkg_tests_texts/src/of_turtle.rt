@@ -59,6 +59,13 @@ fn statements_and_names(rt: HostRuntime) -> Result<(), Fail> {
             71 <http://f/d/g/s> <http://f/d/g/p> <http://f/d/g/o>\n",
         ),
         (
+            "@base <http://f/d/> . @base <g/h?q#f> . <s> <p> <> . BASE <#x> <s> <p> <#y> . BASE <?r> <s> <p> <> . BASE <../i/j> <s> <p> <k> .",
+            "48 <http://f/d/g/s> <http://f/d/g/p> <http://f/d/g/h?q>\n\
+            71 <http://f/d/g/s> <http://f/d/g/p> <http://f/d/g/h?q#y>\n\
+            96 <http://f/d/g/s> <http://f/d/g/p> <http://f/d/g/h?r>\n\
+            123 <http://f/d/i/s> <http://f/d/i/p> <http://f/d/i/k>\n",
+        ),
+        (
             "<s> <p> 1, 2, 1 ; ; <q> 1 ; . <s> <p> 2 .",
             "8 <http://e/s> <http://e/p> \"1\"^^<http://www.w3.org/2001/XMLSchema#integer>\n\
             11 <http://e/s> <http://e/p> \"2\"^^<http://www.w3.org/2001/XMLSchema#integer>\n\

@@ -1,9 +1,15 @@
 pub mod Certificate
+pub mod Cutting
 pub mod Declared
 pub mod Escaping
 pub mod Examples
 pub mod Failing
+pub mod Fronting
+pub mod Keeping
+pub mod Known
 pub mod Lasts
 pub mod Lexical
 pub mod Meaning
 pub mod One
+pub mod PathLemmas
+pub mod Placing

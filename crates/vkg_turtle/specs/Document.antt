@@ -131,6 +131,10 @@ with_prefix iri d = record d { prefixes = declared d.prefix iri d.prefixes }
 abbrev pub iri_text : Lexeme → Document → List ℕ
 iri_text x d = unwrap_or (iri_of x.word d) []
 
+-- 7.1, base: what references are resolved against from now on
+abbrev pub based : List ℕ → ℕ → Document → Document
+based iri at d = record (noted_iri (Some iri) at d) { base = iri }
+
 -- what a token that means this does
 abbrev pub act : Role → Lexeme → Document → Document
 act role.PrefixName x d = record d { prefix = prefix_of x.word }

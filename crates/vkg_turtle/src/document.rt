@@ -1,8 +1,10 @@
 ghost use Rattle.std.specs.Prelude.{◌≡◌, ◌++◌, codes, IfOk, OnOk, unwrap_or, []};
 ghost use Rattle.vkg_terms.specs.declared.term.Term.TheVariants.{Iri};
-ghost use Rattle.vkg_turtle.specs.Document.{begun, annotation_of_type, iri_of, iri_text, typed, term_of, noted_iri, noted, node_at, with_object, annotated, annotated_triple, with_annotation, outer_of, opened, restored, last_of, prefix_of, text_of_tag, with_subject, with_outer, act};
+ghost use Rattle.vkg_terms.specs.Resolve.{resolve};
+ghost use Rattle.vkg_turtle.specs.Document.{begun, annotation_of_type, iri_of, iri_text, typed, term_of, noted_iri, noted, node_at, with_object, annotated, annotated_triple, with_annotation, outer_of, opened, restored, last_of, prefix_of, text_of_tag, with_subject, with_outer, act, based};
 ghost use Rattle.vkg_turtle.specs.declared.role.Role.TheVariants.{PrefixName, PrefixIri, BaseIri, Subject, Verb, Object, Datatype, Language};
 
+use crate::base::Base;
 use crate::lexeme::{Lexeme, Word};
 use crate::names::{iri_named, prefix_of};
 use crate::prefixes::Prefixes;
@@ -10,6 +12,7 @@ use crate::role::Role;
 use crate::triple::Triple;
 use itoa::Buffer;
 use std::alloc::Global;
+use std::mem;
 use vkg_base::{Items, Memory, Text, earlier};
 use vkg_hash::Seed;
 use vkg_terms::vocabulary::{RDF_TYPE, XSD_BOOLEAN, XSD_DECIMAL, XSD_DOUBLE, XSD_INTEGER};
@@ -25,7 +28,7 @@ pub struct Outer {
 /// What was read of a document (RDF 1.1 Turtle, 7.1), with the places of its first faults.
 #[derive(Drop)]
 pub struct Document {
-    pub base: Text,
+    pub base: Base,
     pub prefixes: Prefixes,
     /// The prefix that is being declared.
     pub prefix: Text,
@@ -113,7 +116,7 @@ impl Document {
     pub fn new(alloc: Global, base: &str, seed: Seed) -> Result<Document, Memory>
         ensures { IfOk result (λ d. d ≡ begun base.now) }
     {
-        let base = Text::new(alloc, base)?;
+        let base = Base::new(alloc, base)?;
         let prefix = Text::new(alloc, "")?;
         let subject = no_iri(alloc)?;
         let predicate = no_iri(alloc)?;
@@ -180,12 +183,29 @@ impl Document {
         }
     }
 
+    // The base is moved by a reference, in place where that is plain.
+    fn move_base(&mut self, alloc: Global, reference: &str, at: usize) -> Result<(), Memory>
+        ensures { OnOk result (self.new ≡ based (resolve self.old.base reference.now) at self.old) }
+    {
+        let base = mem::replace(&mut self.base, Base::empty(alloc));
+        self.base = base.moved(alloc, reference)?;
+        if !self.base.is_absolute() {
+            self.relative = earlier(self.relative, at);
+        }
+        Ok(())
+    }
+
     fn set_base(&mut self, alloc: Global, lexeme: &Lexeme) -> Result<(), Memory>
         ensures { OnOk result (self.new ≡ act BaseIri lexeme.now self.old) }
     {
-        let iri = self.iri(alloc, lexeme)?;
-        self.base = iri;
-        Ok(())
+        match &lexeme.word {
+            Word::Reference(text) => self.move_base(alloc, text.as_str(), lexeme.at),
+            _ => {
+                let iri = self.iri(alloc, lexeme)?;
+                self.base = Base::new(alloc, iri.as_str())?;
+                Ok(())
+            }
+        }
     }
 
     fn set_prefix(&mut self, alloc: Global, lexeme: &Lexeme) -> Result<(), Memory>

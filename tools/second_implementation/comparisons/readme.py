@@ -55,7 +55,7 @@ def compare(comparison, _, folder):
         for command, shown in shown_in(read(document)):
             if command.startswith("./vkg ") and not re.search("[|;<]", command):
                 check_call(comparison, document, command, folder, shown)
-    for name in ("kinds", "members", "payroll"):
+    for name in ("best_paid", "kinds", "members", "payroll"):
         query = ["--query", f"{COMPANY}/queries/{name}.rq"]
         check(comparison, ["query", "--data", f"{COMPANY}/data", *CALL, *query], folder, read(COMPANY, "queries", name + ".tsv"))
         check(comparison, ["sql", *CALL, *query], folder, read(COMPANY, "queries", name + ".sql"))

@@ -1,5 +1,5 @@
-"""The rules SimplifyCondition and SimplifyNull: what is constant, nested or said twice in a condition goes. And SureNull and FirstKnown:
-what a node's rows say of NULL decides tests for NULL and shortens a COALESCE.
+"""The rules SimplifyCondition and SimplifyNull: what is constant, nested or said twice in a condition goes. And SureNull, FirstKnown and
+KnownMember: what a node's rows say of NULL, or a condition, decides tests for NULL and shortens a COALESCE.
 
 A case is a function that gives what an expression becomes, or None. Of a rule the first case that changes any of a node's own
 expressions does, at the first place in the order of the text.
@@ -234,6 +234,34 @@ def sure_null(plan, tables):
     if not isinstance(plan, (Select, Project, Join, Left, Anti)):
         return None
     return by_cases([known_column(below(plan, tables))], plan)
+
+
+# ---- KnownMember ----
+
+
+def said_column(expression):
+    """The place of the column of which an expression says that it is not NULL, or None (SQL-92, 8.6)."""
+    match expression:
+        case Call("NOT", (Call("IS_NULL", (Column(place),)),)):
+            return place
+    return None
+
+
+@of_several
+def told_member(name, members):
+    """In an And the first member that says so of a column decides the first test of that column in another."""
+    for place in filter(lambda one: one is not None, map(said_column, members if name == "AND" else ())):
+        tested = call("IS_NULL", Column(place))
+        found = first_changed(lambda one: None if said_column(one) == place
+                              else first_place(lambda part: FALSE if part == tested else None, one), members)
+        if found is not None:
+            return tuple(found)
+    return None
+
+
+def known_member(plan, tables):
+    """KnownMember: beside what says that a column is not NULL a test of it is false."""
+    return by_cases([told_member], plan)
 
 
 # ---- FirstKnown ----

@@ -1,11 +1,11 @@
-"""The rules SelfLeft, SelfLeftMember and ReferenceLeft: left joins that a key makes superfluous, or that a foreign key makes joins.
+"""The rules SelfLeft, SelfLeftMember, ParentLeft and ReferenceLeft: left joins that a key makes superfluous, or that a foreign key makes joins.
 
 Rows of a table that agree on a key are one row, a row without NULL in a foreign key refers to exactly one row, and NULL is
 equal to nothing (SQL-92, 4.10.2 and 8.2; SQL:1999, 11.8). A left join fills up its right columns alone with NULLs (SQL-92, 7.5).
 """
 from reference.conditions import is_strict
 from reference.key_joins import columns_from, tied
-from reference.plan_nodes import TRUE, Call, Column, Join, Left, Project, Scan, Select, columns_in, conjunction, conjuncts, moved, put_in, width
+from reference.plan_nodes import TRUE, Call, Column, Join, Left, Project, Scan, Select, columns_in, conjunction, conjuncts, moved, null, put_in, width
 
 
 def standing(plan, tables, first=0):
@@ -122,4 +122,50 @@ def reference_left(plan, tables):
             if key.table == plan.right.table and all(is_full(tables[table], column) for column in key.columns):
                 if all(ties_pair(one, first, count, key) for one in conjuncts(plan.condition)):
                     return Join((plan.left, plan.right), plan.condition)
+    return None
+
+
+def asks_no_more(condition, first, second, key):
+    """Whether a conjunct says that the columns of a pair are equal, or no more than that columns of the foreign key are not NULL."""
+    match condition:
+        case Call("NOT", (Call("IS_NULL", (tested,)),)) if is_strict(tested):
+            return all(place - first in key.columns for place in columns_in(tested))
+    return ties_pair(condition, first, second, key)
+
+
+def is_parent(condition, table, first, second, key, tables):
+    """Whether all of a foreign key is tied, its columns of one kind each, and nothing else is asked for."""
+    pairs = list(zip(key.columns, key.target))
+    return (all(tied(condition, first + one, second + other) for one, other in pairs)
+            and all(asks_no_more(one, first, second, key) for one in conjuncts(condition))
+            and all(tables[table].columns[one].kind == tables[key.table].columns[other].kind for one, other in pairs))
+
+
+def is_kept_without(expression, named, count, target, first, table, key):
+    """Whether an expression names left columns alone, or those that the foreign key refers to, and is NULL, with these named, where the foreign key has NULL."""
+    places = columns_in(expression)
+    if max(places, default=-1) < count:
+        return True
+    if any(count <= place < count + target and place - count not in key.target for place in places) or not is_strict(named):
+        return False
+    return all(table.columns[one].not_null or first + one in columns_in(named) for one in key.columns)
+
+
+def parent_left(plan, tables):
+    """ParentLeft: a left join to a table by a foreign key of its left side goes, where nothing else is asked for, and nothing of the table is used but the
+    columns that the foreign key refers to."""
+    if not isinstance(plan, Project) or not isinstance(plan.inner, Left) or not isinstance(plan.inner.right, Scan):
+        return None
+    left, right, condition = plan.inner.left, plan.inner.right, plan.inner.condition
+    count, target = width([left], tables), len(tables[right.table].columns)
+    for first, table in standing(left, tables):
+        for key in tables[table].foreign_keys:
+            if key.table == right.table and is_parent(condition, table, first, count, key, tables):
+                names_of = {}
+                for one, other in zip(key.columns, key.target):
+                    names_of.setdefault(other, Column(first + one))
+                names = columns_from(0, count) + [names_of.get(column, null("string")) for column in range(target)]
+                named = [put_in(one, names) for one in plan.expressions]
+                if all(is_kept_without(one, new, count, target, first, tables[table], key) for one, new in zip(plan.expressions, named)):
+                    return Project(tuple(named), left)
     return None

@@ -5,12 +5,12 @@ changes nothing at the root. A row is kept where a condition is true, not where 
 """
 import math
 
-from reference.conditions import MAKERS, first_known, is_strict, simplify_condition, simplify_null, sure_null
+from reference.conditions import MAKERS, first_known, is_strict, known_member, simplify_condition, simplify_null, sure_null
 from reference.key_joins import parent_join, self_join
-from reference.key_lefts import reference_left, self_left, self_left_member
+from reference.key_lefts import parent_left, reference_left, self_left, self_left_member
 from reference.plan_nodes import (FALSE, TRUE, Anti, Call, Column, Distinct, Empty, Join, Left, Project, Scan, Select, Unit, UnionAll,
                                   columns_in, conjunction, conjuncts, first_changed, kinds_of, moved, null, put_in, subplans, width, with_subplans)
-from reference.term_equalities import term_equality
+from reference.term_equalities import term_comparison, term_equality
 from reference.uniqueness import is_unique
 
 # What may be known over NULL: these are no operators that are an error over something unbound.
@@ -310,10 +310,10 @@ FIRST = [select_true, false_condition, merge_selects, merge_projects, lift_proje
          simplify_condition, simplify_null, anti_nothing, anti_right]
 
 # Rules of its own, behind these, once none of them changes anything.
-OWN = [sure_null, first_known, self_left, reference_left]
+OWN = [sure_null, first_known, known_member, term_comparison, self_left, self_left_member, parent_left, reference_left]
 
 # What the program does not have yet, in the order in which it is to follow.
-LATER = [self_left_member]
+LATER = []
 
 
 # ---- the end ----

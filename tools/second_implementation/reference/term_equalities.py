@@ -1,4 +1,4 @@
-"""The rule TermEquality: an equality of two terms as equalities of columns, forms or texts (docs/DEFINITIONS.md, `verdict_of`).
+"""The rules TermEquality and TermComparison: an equality of two terms as equalities of columns, forms or texts (docs/DEFINITIONS.md, `verdict_of`).
 
 Terms are compared by the expressions that make them of the columns of tables, as a mapping's do. A verdict is the list of the
 equalities that all hold exactly where the two terms are one, or None where they never are.
@@ -185,7 +185,7 @@ def verdict(one, other, are_constants):
     return None if None in verdicts else sum(verdicts, [])
 
 
-# ---- the rule ----
+# ---- TermEquality ----
 
 
 def table_columns(plan, tables):
@@ -221,8 +221,51 @@ def decided(condition, kinds, flags):
     return None
 
 
+def below(plan, tables):
+    """The kinds of the columns over which a node's own expressions are, and which of them are columns of tables."""
+    plans = subplans(plan)
+    return sum((kinds_of(one, tables) for one in plans), ()), sum((table_columns(one, tables) for one in plans), [])
+
+
 def term_equality(plan, tables):
     """TermEquality: the first conjunct that is an equality of two such terms becomes its verdict."""
-    kinds = sum((kinds_of(one, tables) for one in subplans(plan)), ())
-    flags = sum((table_columns(one, tables) for one in subplans(plan)), [])
+    kinds, flags = below(plan, tables)
     return in_conjuncts(lambda condition: decided(condition, kinds, flags), plan)
+
+
+# ---- TermComparison ----
+
+
+def makes_no_literal(expression):
+    """Whether an expression makes an IRI or a blank node, or is one."""
+    match expression:
+        case Constant("term", value):
+            return value is not None and value.kind != "literal"
+        case Call(name, _):
+            return name in ("IRI", "BLANK")
+    return False
+
+
+def size(expression):
+    """The nodes of an expression: a SAME counts twice, and so does an And or Or of none; the texts that IRI_OF and LIT have do not."""
+    match expression:
+        case Call("IRI_OF", (_, inner)) | Call("LIT", (inner, *_)):
+            return 1 + size(inner)
+        case Call(name, arguments):
+            return (2 if name == "SAME" or not arguments else 1) + sum(map(size, arguments))
+    return 1
+
+
+def compared_by_operator(condition, kinds, flags):
+    """What SPARQL's `=` asks of two such terms of which one is no literal, as the verdict on them, where that is smaller, or None."""
+    match condition:
+        case Call("EQ", (one, other)) if makes_no_literal(one) or makes_no_literal(other):
+            found = decided(call("SAME", one, other), kinds, flags)
+            return found if found is not None and size(found) < size(condition) else None
+    return None
+
+
+def term_comparison(plan, tables):
+    """TermComparison: the first conjunct that compares two such terms, of which one is no literal, becomes its verdict, where that is smaller."""
+    kinds, flags = below(plan, tables)
+    return in_conjuncts(lambda condition: compared_by_operator(condition, kinds, flags), plan)

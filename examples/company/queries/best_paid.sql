@@ -1,0 +1,1 @@
+SELECT LIT(LEX(c2)) AS c1, LIT(LEX(c5), '^^http://www.w3.org/2001/XMLSchema#decimal') AS c2, LIT(LEX(c5), '^^http://www.w3.org/2001/XMLSchema#decimal') AS c3 FROM (SELECT * FROM (TABLE "employee") AS t WHERE NOT(IS_NULL(c5))) AS t ORDER BY c3 DESC LIMIT 2
