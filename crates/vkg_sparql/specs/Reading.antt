@@ -97,7 +97,7 @@ limit_over r = lesser (lesser (triples_over r.lexemes (query_triples r.tree)) (n
 
 -- what each token means
 abbrev pub meanings : Read → List Meaning
-meanings r = meanings_of r.environment r.named.keys r.lexemes
+meanings r = meanings_of r.environment r.named.keys (body_start r.tree) r.lexemes
 
 -- of the checks of tokens the least that fails, at its least place: 4 a prefix, 5 an IRI, 6 a blank node label, 7 a datatype outside the
 -- profile, 8 a number, 9 a limit
@@ -123,7 +123,7 @@ fault_of r = option_or (token_fault r) (part_fault r)
 
 -- the query
 abbrev pub query_of : Read → Query
-query_of r = query_value r.named.names (meanings_of r.environment r.named.keys (body_start r.tree) r.lexemes) r.tree
+query_of r = query_value r.named.names (meanings r) r.tree
 
 -- The text is one of the grammar, and this is what was read of it.
 pub record Says (text base : List ℕ) (r : Read) : Type 0 where
