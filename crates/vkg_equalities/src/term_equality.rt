@@ -94,7 +94,7 @@ fn of_node(
 /// The kinds of the columns over which the condition of a plan's first node is: the plan's own, and of an anti join those of both
 /// its sides.
 #[tactic(auto, using(vkg_rules::proofs::Seen::seen_nodes))]
-fn condition_kinds(
+pub fn condition_kinds(
     alloc: Global,
     schema: &Schema,
     plan: &Plan,
@@ -127,7 +127,11 @@ fn kinds_of_both(
 
 /// Of each of these columns whether all its cells are cells of tables' columns, or NULL.
 #[tactic(auto, using(vkg_rules::proofs::Seen::seen_nodes))]
-fn condition_columns(alloc: Global, schema: &Schema, plan: &Plan) -> Result<Items<bool>, Memory>
+pub fn condition_columns(
+    alloc: Global,
+    schema: &Schema,
+    plan: &Plan,
+) -> Result<Items<bool>, Memory>
     ensures { IfOk result (λ fs. fs ≡ columns_of_condition schema.now (plan_seen plan.now)) }
 {
     match plan {
