@@ -17,7 +17,7 @@
 
 mod answers;
 mod columns;
-mod kinds;
+pub mod kinds;
 mod left_to_join;
 mod merge_projects;
 mod merge_selects;
@@ -25,7 +25,6 @@ mod taken_apart;
 mod under_both;
 mod unknown;
 
-pub use kinds::kinds;
 pub use left_to_join::LeftToJoin;
 pub use merge_projects::MergeProjects;
 pub use merge_selects::{MergeSelects, part_behind};
