@@ -127,11 +127,7 @@ fn kinds_of_both(
 
 /// Of each of these columns whether all its cells are cells of tables' columns, or NULL.
 #[tactic(auto, using(vkg_rules::proofs::Seen::seen_nodes))]
-pub fn condition_columns(
-    alloc: Global,
-    schema: &Schema,
-    plan: &Plan,
-) -> Result<Items<bool>, Memory>
+pub fn condition_columns(alloc: Global, schema: &Schema, plan: &Plan) -> Result<Items<bool>, Memory>
     ensures { IfOk result (λ fs. fs ≡ columns_of_condition schema.now (plan_seen plan.now)) }
 {
     match plan {
