@@ -9,7 +9,7 @@ from typing import NamedTuple
 from names import NO_CHARACTER
 from reference.datatypes import BadField, lexical_form
 from reference.iris import is_absolute
-from reference.plan_nodes import (KIND_NAMES, TERM_FUNCTIONS, TEXT_FUNCTIONS, Call, Column, Constant, Distinct, Empty, Join, Left,
+from reference.plan_nodes import (KIND_NAMES, TERM_FUNCTIONS, TEXT_FUNCTIONS, Anti, Call, Column, Constant, Distinct, Empty, Join, Left,
                                   Project, Scan, Select, Unit, UnionAll)
 from reference.plans import term_of, unquoted
 from reference.rdf import term_text
@@ -188,7 +188,7 @@ class PlanReader(Cursor):
         return self.projection()
 
     def combined(self):
-        """Reads what stands behind SELECT * FROM: a source with a condition, a left join, or sources one beside the other."""
+        """Reads what stands behind SELECT * FROM: a source with a condition, a left join, an anti join, or sources one beside the other."""
         plan, kinds = self.in_brackets()
         self.expect("AS")
         if self.takes("t"):
@@ -200,6 +200,11 @@ class PlanReader(Cursor):
             right, more = self.source("t2")
             self.expect("ON")
             return Left(plan, right, self.condition(kinds + more)), kinds + more
+        if self.takes("ANTI"):
+            self.expect("JOIN")
+            right, more = self.source("t2")
+            self.expect("ON")
+            return Anti(plan, right, self.condition(kinds + more)), kinds
         members = [plan]
         while self.takes("CROSS"):
             self.expect("JOIN")

@@ -1,12 +1,12 @@
 """The text of a plan as one query of PostgreSQL: tables and columns by their names there.
 
-Selections, joins and left joins below one another become one SELECT. A plan whose values are no columns of tables stands within
+Selections, joins, left joins and anti joins below one another become one SELECT. A plan whose values are no columns of tables stands within
 another as a SELECT of its own in brackets.
 """
 from typing import NamedTuple
 
 from expression_text import MOMENTS, Value, constant, lex, quoted, value_of
-from reference.plan_nodes import Distinct, Empty, Join, Left, Project, Scan, Select, Unit, UnionAll, conjuncts, kinds_of
+from reference.plan_nodes import Anti, Distinct, Empty, Join, Left, Project, Scan, Select, Unit, UnionAll, conjuncts, kinds_of
 
 
 class Block(NamedTuple):
@@ -102,6 +102,8 @@ class QueryWriter:
                 return self.where(Block(*(sum(parts, []) for parts in zip(*blocks))), condition)
             case Left(left, right, condition):
                 return self.left(left, right, condition)
+            case Anti(left, right, condition):
+                return self.anti(left, right, condition)
         return self.nested(plan)
 
     def scan(self, table):
@@ -124,7 +126,7 @@ class QueryWriter:
         return block._replace(conditions=block.conditions + [text for text in texts if text != "TRUE"])
 
     def side(self, plan):
-        """A plan as a block with a source, which a side of a left join has to have."""
+        """A plan as a block with a source, which a side of a left join, and the right one of an anti join, has to have."""
         block = self.flat(plan)
         return block if block.sources else self.nested(plan)
 
@@ -135,3 +137,10 @@ class QueryWriter:
         on = " AND ".join(found.conditions) or "TRUE"
         source = f"({side_by_side(one.sources)}\n     LEFT JOIN {side_by_side(other.sources)}\n     ON {on})"
         return Block([source], one.conditions, found.row)
+
+    def anti(self, left, right, condition):
+        """An anti join: no right row passes its own conditions and this one."""
+        one, other = self.flat(left), self.side(right)
+        found = self.where(Block([], other.conditions, one.row + other.row), condition)
+        test = " AND ".join(found.conditions) or "TRUE"
+        return one._replace(conditions=[*one.conditions, f"NOT EXISTS (SELECT FROM {side_by_side(other.sources)}\n     WHERE {test})"])

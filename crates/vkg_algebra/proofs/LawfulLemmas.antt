@@ -1,5 +1,5 @@
 -- The algebra of a query names nothing that the query does not name.
-use Rattle.std.proofs.Common.{◌≡◌, ◌∙◌, ℕ, List, [], ◌∷◌, ◌++◌, Option, Some, None, fold, flat_map, length, ⊎_elim, subst, sym, ap, append_assoc}
+use Rattle.std.proofs.Common.{◌≡◌, ◌∙◌, ℕ, List, [], ◌∷◌, ◌++◌, Option, Some, None, fold, flat_map, length, map, ⊎_elim, subst, sym, ap, append_assoc}
 use Rattle.std.specs.List.{Contains}
 use Rattle.std.proofs.lemmas.List.Concat.{flat_map-append}
 use Rattle.std.proofs.lemmas.List.Elements.{Contains-append_left, Contains-append_right, Contains-append_cases}
@@ -7,13 +7,13 @@ use Rattle.vkg_lists.proofs.Members.{Contains-none, Contains-here, Contains-ther
 use Rattle.vkg_sparql.specs.declared.pattern.Node.{Node}
 use Rattle.vkg_sparql.specs.declared.pattern.Node.TheVariants as node
 use Rattle.vkg_sparql.specs.declared.pattern.TriplePattern.{TriplePattern}
-use Rattle.vkg_sparql.specs.Query.{Condition, And, Part, Triples, Graph, Groups, Group, End, Then, Unions, Last, Union, Query}
+use Rattle.vkg_sparql.specs.Query.{Condition, And, Part, Triples, Graph, Groups, Minus, Values, Bind, Group, End, Then, Unions, Last, Union, Query}
 use Rattle.vkg_sparql.specs.Query as query
-use Rattle.vkg_sparql.specs.Lawful.{IsLawful, IsLawfulQuery, condition_nodes, group_nodes, keys_nodes, name_node, part_nodes, pattern_nodes, patterns_nodes, query_nodes, selected_nodes, unions_nodes}
-use Rattle.vkg_algebra.specs.Algebra.{Algebra, Bgp, Join, LeftJoin}
+use Rattle.vkg_sparql.specs.Lawful.{IsLawful, IsLawfulQuery, condition_nodes, group_nodes, keys_nodes, name_node, part_nodes, pattern_nodes, patterns_nodes, query_nodes, rows_nodes, selected_nodes, unions_nodes}
+use Rattle.vkg_algebra.specs.Algebra.{Algebra, Bgp, Join, LeftJoin, Table, Extend}
 use Rattle.vkg_algebra.specs.Algebra as algebra
 use Rattle.vkg_algebra.specs.Lawful.{IsLawfulAlgebra, algebra_nodes, condition_nodes_if_any}
-use Rattle.vkg_algebra.specs.Translation.{Element, Block, Test, Optionally, Inner, algebra_of, before, condition_of, element, elements, filtered, group_algebra, grown, joined, optional, pattern_of, patterns_of, simplified, tests_of, united}
+use Rattle.vkg_algebra.specs.Translation.{Element, Block, Test, Optionally, Inner, Without, Bound, algebra_of, before, condition_of, element, elements, filtered, group_algebra, grown, joined, optional, pattern_of, patterns_of, simplified, tests_of, united}
 
 -- each node of the one list is one of the other
 pub record Within (xs ys : List Node) : Type 0 where
@@ -64,6 +64,9 @@ within_joined (LeftJoin c d f) (Bgp []) = left (algebra_nodes (LeftJoin c d f)) 
 within_joined (algebra.Union c d) (Bgp []) = left (algebra_nodes (algebra.Union c d)) []
 within_joined (algebra.Filter f c) (Bgp []) = left (algebra_nodes (algebra.Filter f c)) []
 within_joined (algebra.Graph name c) (Bgp []) = left (algebra_nodes (algebra.Graph name c)) []
+within_joined (algebra.Minus c d) (Bgp []) = left (algebra_nodes (algebra.Minus c d)) []
+within_joined (Table vs rows) (Bgp []) = left (algebra_nodes (Table vs rows)) []
+within_joined (Extend c v f) (Bgp []) = left (algebra_nodes (Extend c v f)) []
 within_joined a b = itself (algebra_nodes a ++ algebra_nodes b)
 
 within_simplified : (a : Algebra) → Within (algebra_nodes (simplified a)) (algebra_nodes a)
@@ -73,6 +76,9 @@ within_simplified (LeftJoin a b c) = beside (beside (within_simplified a) (withi
 within_simplified (algebra.Union a b) = beside (within_simplified a) (within_simplified b)
 within_simplified (algebra.Filter c a) = beside (itself (condition_nodes c)) (within_simplified a)
 within_simplified (algebra.Graph name a) = after (name_node name) (within_simplified a)
+within_simplified (algebra.Minus a b) = beside (within_simplified a) (within_simplified b)
+within_simplified (Table vs rows) = itself (algebra_nodes (Table vs rows))
+within_simplified (Extend a v c) = beside (within_simplified a) (itself (node.Variable v ∷ condition_nodes c))
 
 -- ---- a group
 
@@ -81,6 +87,8 @@ element_nodes (Block ps) = patterns_nodes ps
 element_nodes (Test c) = condition_nodes c
 element_nodes (Optionally a) = algebra_nodes a
 element_nodes (Inner a) = algebra_nodes a
+element_nodes (Without a) = algebra_nodes a
+element_nodes (Bound c v) = node.Variable v ∷ condition_nodes c
 
 abbrev elements_nodes : List Element → List Node
 elements_nodes es = flat_map element_nodes es
@@ -102,6 +110,8 @@ within_tests (Test c ∷ es) = beside (itself (condition_nodes c)) (within_tests
 within_tests (Block ps ∷ es) = then (within_tests es) (right (patterns_nodes ps) (elements_nodes es))
 within_tests (Optionally a ∷ es) = then (within_tests es) (right (algebra_nodes a) (elements_nodes es))
 within_tests (Inner a ∷ es) = then (within_tests es) (right (algebra_nodes a) (elements_nodes es))
+within_tests (Without a ∷ es) = then (within_tests es) (right (algebra_nodes a) (elements_nodes es))
+within_tests (Bound c v ∷ es) = then (within_tests es) (right (node.Variable v ∷ condition_nodes c) (elements_nodes es))
 
 within_before : (ps : List TriplePattern) (es : List Element) → Within (elements_nodes (before ps es)) (patterns_nodes ps ++ elements_nodes es)
 within_before ps [] = itself (patterns_nodes ps ++ [])
@@ -109,6 +119,8 @@ within_before ps (Block qs ∷ es) = from (ap (λ l. l ++ elements_nodes es) (fl
 within_before ps (Test c ∷ es) = itself (patterns_nodes ps ++ elements_nodes (Test c ∷ es))
 within_before ps (Optionally a ∷ es) = itself (patterns_nodes ps ++ elements_nodes (Optionally a ∷ es))
 within_before ps (Inner a ∷ es) = itself (patterns_nodes ps ++ elements_nodes (Inner a ∷ es))
+within_before ps (Without a ∷ es) = itself (patterns_nodes ps ++ elements_nodes (Without a ∷ es))
+within_before ps (Bound c v ∷ es) = itself (patterns_nodes ps ++ elements_nodes (Bound c v ∷ es))
 
 within_patterns : (es : List Element) → Within (elements_nodes (patterns_of es)) (elements_nodes es)
 within_patterns [] = nothing []
@@ -116,6 +128,8 @@ within_patterns (Test c ∷ es) = then (within_patterns es) (right (condition_no
 within_patterns (Block ps ∷ es) = then (within_before ps (patterns_of es)) (beside (itself (patterns_nodes ps)) (within_patterns es))
 within_patterns (Optionally a ∷ es) = beside (itself (algebra_nodes a)) (within_patterns es)
 within_patterns (Inner a ∷ es) = beside (itself (algebra_nodes a)) (within_patterns es)
+within_patterns (Without a ∷ es) = beside (itself (algebra_nodes a)) (within_patterns es)
+within_patterns (Bound c v ∷ es) = beside (itself (node.Variable v ∷ condition_nodes c)) (within_patterns es)
 
 within_optional : (g a : Algebra) → Within (algebra_nodes (optional g a)) (algebra_nodes g ++ algebra_nodes a)
 within_optional g (algebra.Filter f a) = both (beside (itself (algebra_nodes g)) (right (condition_nodes f) (algebra_nodes a))) (then (left (condition_nodes f) (algebra_nodes a)) (right (algebra_nodes g) (condition_nodes f ++ algebra_nodes a)))
@@ -126,6 +140,8 @@ within_grown g (Block ps) = itself (algebra_nodes g ++ patterns_nodes ps)
 within_grown g (Test c) = left (algebra_nodes g) (condition_nodes c)
 within_grown g (Optionally a) = within_optional g a
 within_grown g (Inner a) = itself (algebra_nodes g ++ algebra_nodes a)
+within_grown g (Without a) = itself (algebra_nodes g ++ algebra_nodes a)
+within_grown g (Bound c v) = itself (algebra_nodes g ++ node.Variable v ∷ condition_nodes c)
 
 within_fold : (es : List Element) (g : Algebra) → Within (algebra_nodes (fold grown g es)) (algebra_nodes g ++ elements_nodes es)
 within_fold [] g = left (algebra_nodes g) []
@@ -145,6 +161,9 @@ mutual
   within_part (query.Optional g) = then (within_group (elements g)) (within_elements g)
   within_part (Graph name g) = after (name_node name) (then (within_group (elements g)) (within_elements g))
   within_part (Groups g more) = then (within_united more (group_algebra (elements g))) (beside (then (within_group (elements g)) (within_elements g)) (itself (unions_nodes more)))
+  within_part (Minus g) = then (within_group (elements g)) (within_elements g)
+  within_part (Values vs rows) = itself (map node.Variable vs ++ rows_nodes rows)
+  within_part (Bind c v) = itself (node.Variable v ∷ condition_nodes c)
 
   within_elements : (g : Group) → Within (elements_nodes (elements g)) (group_nodes g)
   within_elements End = nothing []

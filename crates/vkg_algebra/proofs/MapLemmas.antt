@@ -1,5 +1,7 @@
 -- Solutions as maps: when two are one, joins of maps by what they bind, the left join in words.
-use Rattle.std.proofs.Common.{◌≡◌, ℕ, Bool, true, false, not, ◌&&◌, List, length, None, inl, inr, ⊎_elim, refl, sym, subst}
+use Rattle.std.proofs.Common.{◌≡◌, ◌∙◌, ℕ, zero, suc, Bool, true, false, not, ◌&&◌, ◌||◌, List, [], ◌∷◌, length, Option, Some, None, inl, inr, ⊎_elim, refl, sym, ap, subst}
+use Rattle.std.specs.Prelude.{IsSome}
+use Rattle.std.proofs.Math.Bool.{or-true}
 use Rattle.std.specs.List.{Contains, filter, flat_map, list_all}
 use Rattle.std.proofs.lemmas.Bool.{both_ways}
 use Rattle.std.proofs.lemmas.List.{ext_get_or}
@@ -12,9 +14,10 @@ use Rattle.vkg_lists.proofs.Rows.{Decides-compatible, value_at-merge}
 use Rattle.vkg_lists.proofs.Tests.{list_test, option_test}
 use Rattle.vkg_terms.proofs.SameLemmas.{terms_apart}
 use Rattle.vkg_terms.specs.Same.{term_eq}
+use Rattle.vkg_terms.specs.declared.term.Term.{Term}
 use Rattle.vkg_algebra.specs.Answer.{solution_eq}
-use Rattle.vkg_algebra.specs.Laws.{IsAlone, IsJoined, IsLeftJoin, KeepsMaps}
-use Rattle.vkg_algebra.specs.Solutions.{Solution, compatible, difference, join, lookup, merge}
+use Rattle.vkg_algebra.specs.Laws.{IsAlone, IsJoined, IsLeft, IsLeftJoin, IsMinus, KeepsMaps}
+use Rattle.vkg_algebra.specs.Solutions.{Solution, both_bound, compatible, difference, join, lookup, merge, minus, shares}
 
 -- ---- tests of terms and of solutions
 
@@ -100,3 +103,57 @@ module _ (holds : Solution → Bool) (ls rs : List Solution) where
     λ c. ⊎_elim (λ d. inl (joined_of m d)) (λ d. inr (alone_of m d)) (Contains-append_cases (filter holds (join ls rs)) (difference holds ls rs) m c),
     λ h. ⊎_elim (λ j. Contains-append_left (filter holds (join ls rs)) (difference holds ls rs) m (of_joined m j)) (λ a. Contains-append_right (filter holds (join ls rs)) (difference holds ls rs) m (of_alone m a)) h,
   )
+
+-- ---- minus
+
+bound_both : (t u : Option Term) → both_bound t u ≡ true → IsSome t × IsSome u
+bound_both None u h = absurd (cc)
+bound_both (Some t) None h = absurd (cc)
+bound_both (Some t) (Some u) h = (tt, tt)
+
+both_of_bound : (t u : Option Term) → IsSome t → IsSome u → both_bound t u ≡ true
+both_of_bound None u h k = absurd (h)
+both_of_bound (Some t) None h k = absurd (k)
+both_of_bound (Some t) (Some u) h k = refl
+
+-- a variable that is bound in both
+record IsShared (l r : Solution) : Type 0 where
+  variable : ℕ
+  first : IsSome (lookup l variable)
+  second : IsSome (lookup r variable)
+
+shared_later : (t u : Option Term) (l r : Solution) → IsShared l r → IsShared (t ∷ l) (u ∷ r)
+shared_later t u l r s = record { variable = suc s.variable; first = s.first; second = s.second }
+
+shared_of : (l r : Solution) → shares l r ≡ true → IsShared l r
+shared_of [] r h = absurd (cc)
+shared_of (t ∷ l) [] h = absurd (cc)
+shared_of (t ∷ l) (u ∷ r) h = by (both_bound t u) refl
+  where
+    by : (b : Bool) → both_bound t u ≡ b → IsShared (t ∷ l) (u ∷ r)
+    by true e = let p = bound_both t u e in record { variable = zero; first = p.0; second = p.1 }
+    by false e = shared_later t u l r (shared_of l r (sym (ap (λ b. b || shares l r) e) ∙ h))
+
+shares_of : (l r : Solution) (v : ℕ) → IsSome (lookup l v) → IsSome (lookup r v) → shares l r ≡ true
+shares_of [] r v h k = absurd (h)
+shares_of (t ∷ l) [] v h k = absurd (k)
+shares_of (t ∷ l) (u ∷ r) zero h k = ap (λ b. b || shares l r) (both_of_bound t u h k)
+shares_of (t ∷ l) (u ∷ r) (suc v) h k = ap (λ b. both_bound t u || b) (shares_of l r v h k) ∙ or-true (both_bound t u)
+
+module _ (ls rs : List Solution) where
+  left_of : (m : Solution) → Contains (minus ls rs) m → IsLeft ls rs m
+  left_of m c =
+      let kept = Contains-from_filter (λ l. list_all (λ r. not (compatible l r && shares l r)) rs) ls m c in
+      record {
+        of_first = kept.0;
+        stays = λ r d a v h k. both_ways (compatible m r && shares m r)
+            (not_true (compatible m r && shares m r) (each_of_all (λ r. not (compatible m r && shares m r)) rs kept.1 r d))
+            (and_true (compatible m r) (shares m r) ((Decides-compatible terms_apart m r).1 a) (shares_of m r v h k));
+      }
+
+  of_left : (m : Solution) → IsLeft ls rs m → Contains (minus ls rs) m
+  of_left m a = Contains-filter (λ l. list_all (λ r. not (compatible l r && shares l r)) rs) ls m a.of_first
+      (all_of_each (λ r. not (compatible m r && shares m r)) rs (λ r c. both_not (compatible m r) (shares m r) (λ e h. let s = shared_of m r h in a.stays r c ((Decides-compatible terms_apart m r).0 e) s.variable s.first s.second)))
+
+  pub is_minus : IsMinus ls rs
+  is_minus m = (left_of m, of_left m)

@@ -2,17 +2,18 @@
 use Rattle.std.specs.Prelude.{◌≡◌, true, false, List, ℕ, [], ◌∷◌, Option, Some, None, codes, refl}
 use Rattle.std.specs.Str.{chars}
 use Rattle.std.specs.Char.{encode_utf8}
+use Rattle.vkg_terms.specs.declared.term.Term.{Term}
 use Rattle.vkg_values.specs.declared.operator.Compare.TheVariants as asks
 use Rattle.vkg_sparql.specs.declared.pattern.Node.TheVariants.{Variable, Fixed}
 use Rattle.vkg_sparql.specs.declared.pattern.GraphName.TheVariants.{Each, Named}
 use Rattle.vkg_sparql.specs.declared.query.Selected.TheVariants.{All, Listed}
 use Rattle.vkg_sparql.specs.Orders.{no_slice}
-use Rattle.vkg_sparql.specs.Query.{Condition, Key, Constant, Bound, Compare, Triples, Filter, Optional, Graph, Groups, End, Last, Union, Query}
+use Rattle.vkg_sparql.specs.Query.{Condition, Key, Constant, Bound, Compare, Triples, Filter, Optional, Graph, Groups, Minus, Values, Bind, Group, End, Last, Union, Query}
 use Rattle.vkg_sparql.specs.Query as expression
 use Rattle.vkg_sparql.specs.Seen.{group_of}
 use Rattle.vkg_order.specs.Listed.{listed}
 use Rattle.vkg_order.specs.Values.{value_cmp}
-use Rattle.vkg_algebra.specs.Algebra.{Bgp, Join, LeftJoin}
+use Rattle.vkg_algebra.specs.Algebra.{Bgp, Join, LeftJoin, Table, Extend}
 use Rattle.vkg_algebra.specs.Algebra as algebra
 use Rattle.vkg_algebra.specs.Evaluation.{Dataset}
 use Rattle.vkg_algebra.specs.Translation.{algebra_of}
@@ -214,3 +215,80 @@ each_name_once = refl
 unbound_first : answer (record optional_query { keys = by_variable 2 ∷ [] }) dataset ≡ codes "?n\t?d" ∷ codes "\"Bo\"\t" ∷ ann_dept ∷ ann_dept ∷ []
 unfolding opened listed value_cmp
 unbound_first = refl
+
+-- SELECT ?n { ?e <e:emp#name> ?n MINUS { ?e <e:emp#dept> ?d } }
+abbrev dept_of : ℕ → Group
+dept_of v = group_of (Triples (pattern (Variable v) (Fixed (e (codes "emp#dept"))) (Variable 2) ∷ []) ∷ [])
+
+abbrev minus_query : ℕ → Query
+minus_query v = select (1 ∷ []) (Triples (has_name ∷ []) ∷ Minus (dept_of v) ∷ [])
+
+minus_algebra : algebra_of (minus_query 0) ≡ algebra.Minus (Bgp (has_name ∷ [])) (Bgp (pattern (Variable 0) (Fixed (e (codes "emp#dept"))) (Variable 2) ∷ []))
+minus_algebra = refl
+
+minus_answer : answer (minus_query 0) dataset ≡ codes "?n" ∷ codes "\"Bo\"" ∷ []
+unfolding opened listed
+minus_answer = refl
+
+-- with ?t for ?e in the MINUS no variable is shared
+minus_of_others : answer (minus_query 3) dataset ≡ codes "?n" ∷ codes "\"Ann\"" ∷ codes "\"Ann\"" ∷ codes "\"Bo\"" ∷ []
+unfolding opened listed
+minus_of_others = refl
+
+-- a variable that an OPTIONAL leaves unbound is not shared: SELECT ?n { ?e <e:emp#name> ?n OPTIONAL { ?e <e:emp#ref-dept> ?d } MINUS { ?d <e:dept#title> ?t } }
+minus_unbound : answer (select (1 ∷ []) (Triples (has_name ∷ []) ∷ Optional (group_of (Triples (has_dept ∷ []) ∷ [])) ∷ Minus (group_of (Triples (has_title ∷ []) ∷ [])) ∷ [])) dataset ≡ codes "?n" ∷ codes "\"Bo\"" ∷ []
+unfolding opened listed
+minus_unbound = refl
+
+-- SELECT ?n ?t { VALUES (?n ?t) { ("Bo" UNDEF) (UNDEF 1) } ?e <e:emp#name> ?n }
+abbrev values_rows : List (List (Option Term))
+values_rows = (Some (plain (codes "Bo")) ∷ None ∷ []) ∷ (None ∷ Some (int (codes "1")) ∷ []) ∷ []
+
+abbrev values_query : Query
+values_query = select (1 ∷ 3 ∷ []) (Values (1 ∷ 3 ∷ []) values_rows ∷ Triples (has_name ∷ []) ∷ [])
+
+values_algebra : algebra_of values_query ≡ Join (Table (1 ∷ 3 ∷ []) values_rows) (Bgp (has_name ∷ []))
+values_algebra = refl
+
+abbrev ann_one : List ℕ
+ann_one = codes "\"Ann\"\t\"1\"^^<http://www.w3.org/2001/XMLSchema#integer>"
+
+values_answer : answer values_query dataset ≡ codes "?n\t?t" ∷ ann_one ∷ ann_one ∷ codes "\"Bo\"\t" ∷ codes "\"Bo\"\t\"1\"^^<http://www.w3.org/2001/XMLSchema#integer>" ∷ []
+unfolding opened listed
+values_answer = refl
+
+-- SELECT * { VALUES ?e { } }: no solution; SELECT * { VALUES () { () () } }: the one without variables, twice
+no_rows : answer (record empty_query { names = codes "e" ∷ []; group = group_of (Values (0 ∷ []) [] ∷ []) }) dataset ≡ codes "?e" ∷ []
+unfolding opened listed
+no_rows = refl
+
+two_rows : answer (record empty_query { group = group_of (Values [] ([] ∷ [] ∷ []) ∷ []) }) dataset ≡ [] ∷ [] ∷ [] ∷ []
+unfolding opened listed
+two_rows = refl
+
+-- SELECT * { BIND(?z AS ?y) }: an error leaves the variable unbound, and `*` lists it
+abbrev bind_query : Query
+bind_query = record empty_query { names = codes "z" ∷ codes "y" ∷ []; group = group_of (Bind (expression.Variable 0) 1 ∷ []) }
+
+bind_algebra : algebra_of bind_query ≡ Extend (Bgp []) 1 (expression.Variable 0)
+bind_algebra = refl
+
+bind_answer : answer bind_query dataset ≡ codes "?y" ∷ [] ∷ []
+unfolding opened listed
+bind_answer = refl
+
+-- BIND in an OPTIONAL: its group is no Filter. SELECT ?n ?t { ?e <e:emp#name> ?n OPTIONAL { ?e <e:emp#ref-dept> ?d BIND(?d AS ?t) } }
+abbrev bind_in_optional : Query
+bind_in_optional = select (1 ∷ 3 ∷ []) (Triples (has_name ∷ []) ∷ Optional (group_of (Triples (has_dept ∷ []) ∷ Bind (expression.Variable 2) 3 ∷ [])) ∷ [])
+
+bind_in_optional_algebra : algebra_of bind_in_optional ≡ LeftJoin (Bgp (has_name ∷ [])) (Extend (Bgp (has_dept ∷ [])) 3 (expression.Variable 2)) None
+bind_in_optional_algebra = refl
+
+bind_in_optional_answer : answer bind_in_optional dataset ≡ codes "?n\t?t" ∷ ann_dept ∷ ann_dept ∷ codes "\"Bo\"\t" ∷ []
+unfolding opened listed
+bind_in_optional_answer = refl
+
+-- MINUS within GRAPH ?g: SELECT ?s { GRAPH ?g { ?s ?p ?o MINUS { <e:emp/7> ?p ?s } } }, where ?p is shared and ?s has another value
+minus_in_graph : answer (record graph_query { selected = Listed (1 ∷ []); group = group_of (Graph (Each 0) (group_of (Triples (pattern (Variable 1) (Variable 2) (Variable 3) ∷ []) ∷ Minus (group_of (Triples (pattern (Fixed (e (codes "emp/7"))) (Variable 2) (Variable 1) ∷ []) ∷ [])) ∷ [])) ∷ []) }) one_graph ≡ codes "?s" ∷ codes "<http://e/emp/7>" ∷ codes "<http://e/emp/9>" ∷ []
+unfolding opened listed
+minus_in_graph = refl

@@ -6,9 +6,9 @@ use Rattle.vkg_sparql.specs.Seen.{group_seen, part_seen, unions_seen}
 use Rattle.vkg_lists.proofs.Firsts.{opened}
 use Rattle.vkg_sparql.specs.declared.pattern.TriplePattern.{TriplePattern}
 use Rattle.vkg_sparql.specs.Query.{Condition, Groups, Unions, Last, Union}
-use Rattle.vkg_algebra.specs.Algebra.{Algebra, Bgp, Join, LeftJoin}
+use Rattle.vkg_algebra.specs.Algebra.{Algebra, Bgp, Join, LeftJoin, Table, Extend}
 use Rattle.vkg_algebra.specs.Algebra as algebra
-use Rattle.vkg_algebra.specs.Translation.{Element, Block, Test, Optionally, Inner, before, condition_of, element, elements, filtered, group_algebra, grown, joined, pattern_of, patterns_of, simplified, tests_of, united}
+use Rattle.vkg_algebra.specs.Translation.{Element, Block, Test, Optionally, Inner, Without, Bound, before, condition_of, element, elements, filtered, group_algebra, grown, joined, pattern_of, patterns_of, simplified, tests_of, united}
 use Rattle.vkg_algebra.specs.Simplified.{condition_in, filtered_in, grown_by, grown_simply, inner_of, united_simply}
 use Rattle.vkg_sparql.proofs.SeenForms.{seen-Groups}
 
@@ -21,6 +21,9 @@ joined-unit (LeftJoin a b c) = refl
 joined-unit (algebra.Union a b) = refl
 joined-unit (algebra.Filter c a) = refl
 joined-unit (algebra.Graph name a) = refl
+joined-unit (algebra.Minus a b) = refl
+joined-unit (Table vs rows) = refl
+joined-unit (Extend a v c) = refl
 
 -- a block without triples adds nothing
 pub fold-before-none : (g : Algebra) (es : List Element) → fold grown_simply g (before [] es) ≡ fold grown_simply g es
@@ -29,6 +32,8 @@ fold-before-none g (Block ps ∷ es) = refl
 fold-before-none g (Test c ∷ es) = ap (λ a. fold grown_simply a (Test c ∷ es)) (joined-unit g)
 fold-before-none g (Optionally a ∷ es) = ap (λ b. fold grown_simply b (Optionally a ∷ es)) (joined-unit g)
 fold-before-none g (Inner a ∷ es) = ap (λ b. fold grown_simply b (Inner a ∷ es)) (joined-unit g)
+fold-before-none g (Without a ∷ es) = ap (λ b. fold grown_simply b (Without a ∷ es)) (joined-unit g)
+fold-before-none g (Bound c v ∷ es) = ap (λ b. fold grown_simply b (Bound c v ∷ es)) (joined-unit g)
 
 -- two blocks before these elements are one
 pub before-before : (ps qs : List TriplePattern) (es : List Element) → before ps (before qs es) ≡ before (ps ++ qs) es
@@ -37,17 +42,24 @@ before-before ps qs (Block rs ∷ es) = ap (λ ts. Block ts ∷ es) (sym (append
 before-before ps qs (Test c ∷ es) = refl
 before-before ps qs (Optionally a ∷ es) = refl
 before-before ps qs (Inner a ∷ es) = refl
+before-before ps qs (Without a ∷ es) = refl
+before-before ps qs (Bound c v ∷ es) = refl
 
 simplified-grown : (g : Algebra) (e : Element) → simplified (grown g e) ≡ grown_simply (simplified g) e
 simplified-grown g (Block ps) = refl
 simplified-grown g (Test c) = refl
 simplified-grown g (Inner a) = refl
+simplified-grown g (Without a) = refl
+simplified-grown g (Bound c v) = refl
 simplified-grown g (Optionally (Bgp ps)) = refl
 simplified-grown g (Optionally (Join a b)) = refl
 simplified-grown g (Optionally (LeftJoin a b c)) = refl
 simplified-grown g (Optionally (algebra.Union a b)) = refl
 simplified-grown g (Optionally (algebra.Filter c a)) = refl
 simplified-grown g (Optionally (algebra.Graph name a)) = refl
+simplified-grown g (Optionally (algebra.Minus a b)) = refl
+simplified-grown g (Optionally (Table vs rows)) = refl
+simplified-grown g (Optionally (Extend a v c)) = refl
 
 simplified-fold : (es : List Element) (g : Algebra) → simplified (fold grown g es) ≡ fold grown_simply (simplified g) es
 simplified-fold [] g = refl
@@ -93,12 +105,17 @@ plain-grown : (g : Algebra) (e : Element) → IsPlain g → IsPlain (grown g e)
 plain-grown g (Block ps) h = record { none = refl; itself = refl }
 plain-grown g (Test c) h = h
 plain-grown g (Inner a) h = record { none = refl; itself = refl }
+plain-grown g (Without a) h = record { none = refl; itself = refl }
+plain-grown g (Bound c v) h = record { none = refl; itself = refl }
 plain-grown g (Optionally (Bgp ps)) h = record { none = refl; itself = refl }
 plain-grown g (Optionally (Join a b)) h = record { none = refl; itself = refl }
 plain-grown g (Optionally (LeftJoin a b c)) h = record { none = refl; itself = refl }
 plain-grown g (Optionally (algebra.Union a b)) h = record { none = refl; itself = refl }
 plain-grown g (Optionally (algebra.Filter c a)) h = record { none = refl; itself = refl }
 plain-grown g (Optionally (algebra.Graph name a)) h = record { none = refl; itself = refl }
+plain-grown g (Optionally (algebra.Minus a b)) h = record { none = refl; itself = refl }
+plain-grown g (Optionally (Table vs rows)) h = record { none = refl; itself = refl }
+plain-grown g (Optionally (Extend a v c)) h = record { none = refl; itself = refl }
 
 plain-fold : (es : List Element) (g : Algebra) → IsPlain g → IsPlain (fold grown g es)
 plain-fold [] g h = h

@@ -4,7 +4,7 @@ use Rattle.std.specs.List.{filter, list_any, Contains}
 use Rattle.vkg_lists.proofs.Counts.{Decides-contains_test}
 use Rattle.vkg_lists.proofs.Distinct.{Contains-distinct, Contains-from_distinct, distinct-append, distinct-distinct, distinct_push_new, distinct_push_old, list_any-distinct}
 use Rattle.vkg_lists.proofs.Tests.{nat_test}
-use Rattle.vkg_algebra.specs.Algebra.{Algebra, Bgp, Join, LeftJoin, Union, Filter, Graph}
+use Rattle.vkg_algebra.specs.Algebra.{Algebra, Bgp, Join, LeftJoin, Union, Filter, Graph, Minus, Table, Extend}
 use Rattle.vkg_algebra.specs.Visible.{AddsEach, appearing, each_once, name_variables, visible}
 
 -- each of two lists may be taken with each number once
@@ -12,6 +12,12 @@ pub each_once-append : (xs ys : List ℕ) → each_once (each_once xs ++ each_on
 each_once-append xs ys =
     distinct-append nat_test (each_once xs) (each_once ys)
     ∙ (λ i. distinct-distinct nat_eq xs i ++ filter (λ y. not (list_any-distinct nat_test xs y i)) (distinct-distinct nat_eq ys i))
+    ∙ sym (distinct-append nat_test xs ys)
+
+each_once-append_left : (xs ys : List ℕ) → each_once (each_once xs ++ ys) ≡ each_once (xs ++ ys)
+each_once-append_left xs ys =
+    distinct-append nat_test (each_once xs) ys
+    ∙ (λ i. distinct-distinct nat_eq xs i ++ filter (λ y. not (list_any-distinct nat_test xs y i)) (each_once ys))
     ∙ sym (distinct-append nat_test xs ys)
 
 each_once-append_right : (xs ys : List ℕ) → each_once (xs ++ each_once ys) ≡ each_once (xs ++ ys)
@@ -27,6 +33,9 @@ each_once_appearing (Join a b) = sym (each_once-append (appearing a) (appearing 
 each_once_appearing (LeftJoin a b c) = sym (each_once-append (appearing a) (appearing b)) ∙ (λ i. each_once (each_once_appearing a i ++ each_once_appearing b i))
 each_once_appearing (Union a b) = sym (each_once-append (appearing a) (appearing b)) ∙ (λ i. each_once (each_once_appearing a i ++ each_once_appearing b i))
 each_once_appearing (Filter c a) = each_once_appearing a
+each_once_appearing (Minus a b) = each_once_appearing a
+each_once_appearing (Table vs rows) = refl
+each_once_appearing (Extend a v c) = sym (each_once-append_left (appearing a) (v ∷ [])) ∙ (λ i. each_once (each_once_appearing a i ++ v ∷ []))
 each_once_appearing (Graph name a) = sym (each_once-append_right (name_variables name) (appearing a)) ∙ (λ i. each_once (name_variables name ++ each_once_appearing a i))
 
 -- a list of visible variables names each once

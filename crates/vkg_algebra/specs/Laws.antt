@@ -12,7 +12,7 @@ use Rattle.vkg_sparql.specs.declared.pattern.TriplePattern.{TriplePattern}
 use Rattle.vkg_algebra.specs.Answer.{solution_eq}
 use Rattle.vkg_algebra.specs.Evaluation.{Dataset, graph_of}
 use Rattle.vkg_algebra.specs.Patterns.{instances}
-use Rattle.vkg_algebra.specs.Solutions.{Solution, compatible, left_join, lookup, merge}
+use Rattle.vkg_algebra.specs.Solutions.{Solution, compatible, left_join, lookup, merge, minus}
 
 -- SPARQL 1.1, 18.3: every variable that is bound in both is bound to one term
 abbrev pub AreCompatible : Solution → Solution → Type 0
@@ -41,6 +41,18 @@ pub record IsAlone (holds : Solution → Bool) (ls rs : List Solution) (m : Solu
 -- SPARQL 1.1, 18.5, LeftJoin
 abbrev pub IsLeftJoin : (Solution → Bool) → List Solution → List Solution → Type 0
 IsLeftJoin holds ls rs = (m : Solution) → Contains (left_join holds ls rs) m ↔ (IsJoined holds ls rs m ⊎ IsAlone holds ls rs m)
+
+-- SPARQL 1.1, 18.3: the two have no variable in common
+abbrev pub AreDisjoint : Solution → Solution → Type 0
+AreDisjoint l r = (v : ℕ) → IsSome (lookup l v) → IsSome (lookup r v) → ⊥
+
+-- SPARQL 1.1, 18.5, Minus(Ω1, Ω2): of the first, and with each of the second it is incompatible or has no variable in common
+pub record IsLeft (ls rs : List Solution) (m : Solution) : Type 0 where
+  pub of_first : Contains ls m
+  pub stays : (r : Solution) → Contains rs r → AreCompatible m r → AreDisjoint m r
+
+abbrev pub IsMinus : List Solution → List Solution → Type 0
+IsMinus ls rs = (m : Solution) → Contains (minus ls rs) m ↔ IsLeft ls rs m
 
 -- SPARQL 1.1, 18.5, card[Ω](μ): how often a map is there
 abbrev pub card : List Solution → Solution → ℕ

@@ -3,9 +3,9 @@
 use Rattle.std.specs.Prelude.{List, [], fold, Option, Some, None}
 use Rattle.vkg_sparql.specs.declared.pattern.TriplePattern.{TriplePattern}
 use Rattle.vkg_sparql.specs.Query.{Condition, Unions, Last, Union}
-use Rattle.vkg_algebra.specs.Algebra.{Algebra, Bgp, LeftJoin}
+use Rattle.vkg_algebra.specs.Algebra.{Algebra, Bgp, LeftJoin, Minus, Extend}
 use Rattle.vkg_algebra.specs.Algebra as algebra
-use Rattle.vkg_algebra.specs.Translation.{Element, Block, Test, Optionally, Inner, before, elements, group_algebra, joined, patterns_of, simplified}
+use Rattle.vkg_algebra.specs.Translation.{Element, Block, Test, Optionally, Inner, Without, Bound, before, elements, group_algebra, joined, patterns_of, simplified}
 
 -- a Filter's condition, and what it filters; all else has no condition
 abbrev pub condition_in : Algebra → Option Condition
@@ -21,6 +21,8 @@ abbrev pub grown_simply : Algebra → Element → Algebra
 grown_simply g (Block ps) = joined g (Bgp ps)
 grown_simply g (Optionally a) = LeftJoin g (simplified (filtered_in a)) (condition_in a)
 grown_simply g (Inner a) = joined g (simplified a)
+grown_simply g (Without a) = Minus g (simplified a)
+grown_simply g (Bound c v) = Extend g v c
 grown_simply g (Test c) = g
 
 -- what a simplified group becomes with a block of triples and then these elements

@@ -1,8 +1,8 @@
 -- The algebra of a query (SPARQL 1.1, 18.2.2).
-use Rattle.std.specs.Prelude.{List, [], ◌∷◌, ◌++◌, fold, Option, Some, None}
+use Rattle.std.specs.Prelude.{ℕ, List, [], ◌∷◌, ◌++◌, fold, Option, Some, None}
 use Rattle.vkg_sparql.specs.declared.pattern.TriplePattern.{TriplePattern}
-use Rattle.vkg_sparql.specs.Query.{Condition, And, Part, Triples, Filter, Optional, Graph, Groups, Group, End, Then, Unions, Last, Union, Query}
-use Rattle.vkg_algebra.specs.Algebra.{Algebra, Bgp, Join, LeftJoin}
+use Rattle.vkg_sparql.specs.Query.{Condition, And, Part, Triples, Filter, Optional, Graph, Groups, Minus, Values, Bind, Group, End, Then, Unions, Last, Union, Query}
+use Rattle.vkg_algebra.specs.Algebra.{Algebra, Bgp, Join, LeftJoin, Table, Extend}
 use Rattle.vkg_algebra.specs.Algebra as algebra
 
 -- an element of a group, with the groups inside it translated
@@ -11,6 +11,8 @@ pub data Element : Type 0 where
   Test : (c : Condition) → Element
   Optionally : (a : Algebra) → Element
   Inner : (a : Algebra) → Element
+  Without : (a : Algebra) → Element
+  Bound : (c : Condition) (v : ℕ) → Element
 
 -- SPARQL 1.1, 18.2.2.2, collect filter elements
 abbrev pub tests_of : List Element → List Condition
@@ -40,6 +42,8 @@ abbrev pub grown : Algebra → Element → Algebra
 grown g (Block ps) = Join g (Bgp ps)
 grown g (Optionally a) = optional g a
 grown g (Inner a) = Join g a
+grown g (Without a) = algebra.Minus g a
+grown g (Bound c v) = Extend g v c
 grown g (Test c) = g
 
 -- the conditions, in order, as one by `&&`
@@ -67,6 +71,9 @@ abbrev mutual
   element (Optional g) = Optionally (group_algebra (elements g))
   element (Graph name g) = Inner (algebra.Graph name (group_algebra (elements g)))
   element (Groups g more) = Inner (united (group_algebra (elements g)) more)
+  element (Minus g) = Without (group_algebra (elements g))
+  element (Values vs rows) = Inner (Table vs rows)
+  element (Bind c v) = Bound c v
 
   pub elements : Group → List Element
   elements End = []
@@ -89,6 +96,9 @@ simplified (LeftJoin a b c) = LeftJoin (simplified a) (simplified b) c
 simplified (algebra.Union a b) = algebra.Union (simplified a) (simplified b)
 simplified (algebra.Filter c a) = algebra.Filter c (simplified a)
 simplified (algebra.Graph name a) = algebra.Graph name (simplified a)
+simplified (algebra.Minus a b) = algebra.Minus (simplified a) (simplified b)
+simplified (Table vs rows) = Table vs rows
+simplified (Extend a v c) = Extend (simplified a) v c
 
 abbrev pub algebra_of : Query → Algebra
 algebra_of query = simplified (group_algebra (elements query.group))

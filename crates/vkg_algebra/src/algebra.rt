@@ -1,5 +1,6 @@
 use vkg_base::{Box, Items};
 use vkg_sparql::{Condition, GraphName, TriplePattern};
+use vkg_terms::Term;
 
 /// A variable, by its number in the query: its name stands at that place of the query's names.
 pub type Var = usize;
@@ -16,4 +17,9 @@ pub enum Algebra {
     Filter(Box<Condition>, Box<Algebra>),
     /// GRAPH with a variable or an IRI.
     Graph(GraphName, Box<Algebra>),
+    Minus(Box<Algebra>, Box<Algebra>),
+    /// Variables, and rows of values for them (10.2): the solutions of VALUES.
+    Table(Items<Var>, Items<Items<Option<Term>>>),
+    /// A variable gets the value of an expression.
+    Extend(Box<Algebra>, Var, Box<Condition>),
 }

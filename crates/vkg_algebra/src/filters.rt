@@ -34,6 +34,9 @@ fn push_condition(alloc: Global, found: &mut Items<Condition>, part: &Part) -> R
         Part::Optional(_) => Ok(()),
         Part::Graph(_, _) => Ok(()),
         Part::Groups(_, _) => Ok(()),
+        Part::Minus(_) => Ok(()),
+        Part::Values(_, _) => Ok(()),
+        Part::Bind(_, _) => Ok(()),
     }
 }
 

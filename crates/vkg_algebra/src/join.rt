@@ -1,10 +1,11 @@
 // Algebras over simplified ones (SPARQL 1.1, 18.2.2.8).
 ghost use Rattle.std.specs.Prelude.{◌≡◌, ◌↔◌, [], IfOk, IsTrue};
-ghost use Rattle.vkg_algebra.specs.Algebra.{Bgp, LeftJoin, Union};
+ghost use Rattle.vkg_sparql.specs.Seen.{condition_seen};
+ghost use Rattle.vkg_algebra.specs.Algebra.{Bgp, Extend, LeftJoin, Minus, Union};
 ghost use Rattle.vkg_algebra.specs.Seen.{algebra_seen, condition_seen_if_any};
 ghost use Rattle.vkg_algebra.specs.Translation.{filtered as filtered_by, joined as joined_of};
 
-use crate::algebra::Algebra;
+use crate::algebra::{Algebra, Var};
 use std::alloc::Global;
 use vkg_base::{Box, Items, Memory};
 use vkg_sparql::{Condition, TriplePattern};
@@ -58,6 +59,26 @@ pub(crate) fn left_joined(
     ensures { IfOk result (λ r. algebra_seen r ≡ LeftJoin (algebra_seen a) (algebra_seen b) (condition_seen_if_any condition)) }
 {
     Box::new(alloc, Algebra::LeftJoin(a, b, condition))
+}
+
+/// The first without what the second takes away.
+pub(crate) fn minus(alloc: Global, a: Box<Algebra>, b: Box<Algebra>) -> Result<Box<Algebra>, Memory>
+    ensures { IfOk result (λ r. algebra_seen r ≡ Minus (algebra_seen a) (algebra_seen b)) }
+{
+    Box::new(alloc, Algebra::Minus(a, b))
+}
+
+/// A variable has the value of an expression.
+pub(crate) fn extended(
+    alloc: Global,
+    a: Box<Algebra>,
+    variable: Var,
+    condition: &Condition,
+) -> Result<Box<Algebra>, Memory>
+    ensures { IfOk result (λ r. algebra_seen r ≡ Extend (algebra_seen a) variable (condition_seen condition.now)) }
+{
+    let condition = Box::new(alloc, condition.copy(alloc)?)?;
+    Box::new(alloc, Algebra::Extend(a, variable, condition))
 }
 
 /// The union of two.

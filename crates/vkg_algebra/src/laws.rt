@@ -4,7 +4,7 @@ ghost use Rattle.vkg_terms.specs.declared.term.Term.{Term};
 ghost use Rattle.vkg_sparql.specs.declared.pattern.TriplePattern.{TriplePattern};
 ghost use Rattle.vkg_algebra.specs.Answer.{solution_line};
 ghost use Rattle.vkg_algebra.specs.Evaluation.{Dataset};
-ghost use Rattle.vkg_algebra.specs.Laws.{AreBelow, BindsWritable, HasCardinality, HasInstances, IsLeftJoin, KeepsMaps};
+ghost use Rattle.vkg_algebra.specs.Laws.{AreBelow, BindsWritable, HasCardinality, HasInstances, IsLeftJoin, IsMinus, KeepsMaps};
 ghost use Rattle.vkg_algebra.specs.Solutions.{Solution};
 
 /// Compatible solution mappings and their merge (SPARQL 1.1, 18.3).
@@ -16,6 +16,11 @@ pub fn maps()
 pub fn left_joins()
     ensures members { (holds : Solution → Bool) (ls rs : List Solution) → IsLeftJoin holds ls rs }
     ensures bag { (holds : Solution → Bool) (ls rs : List Solution) (m : Solution) → HasCardinality holds ls rs m }
+{}
+
+/// The members of a Minus (SPARQL 1.1, 18.5).
+pub fn minuses()
+    ensures { (ls rs : List Solution) → IsMinus ls rs }
 {}
 
 /// The solutions of a basic graph pattern before its labels are dropped (SPARQL 1.1, 18.3.1): every map under which each

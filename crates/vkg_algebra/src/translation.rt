@@ -10,10 +10,10 @@ ghost use Rattle.vkg_algebra.specs.Translation.{Element, Optionally, algebra_of,
 
 use crate::algebra::Algebra;
 use crate::filters::filter_of;
-use crate::join::{filtered, joined, joined_block, left_joined, united};
+use crate::join::{extended, filtered, joined, joined_block, left_joined, minus, united};
 use std::alloc::Global;
 use vkg_base::{Box, Items, Memory};
-use vkg_sparql::{Part, Query, TriplePattern, copy_patterns};
+use vkg_sparql::{Part, Query, TriplePattern, copy_patterns, copy_rows};
 
 /// The algebra of a query. That of a lawful query is lawful.
 pub fn translate(alloc: Global, query: &Query) -> Result<Algebra, Memory>
@@ -85,6 +85,20 @@ fn grow(alloc: Global, part: &Part, growing: Growing) -> Result<Growing, Memory>
             let inner = inner(alloc, part)?;
             Ok(ended(alloc, joined(alloc, grown, inner)?))
         }
+        Part::Values(_, _) => {
+            let grown = joined_block(alloc, grown, block)?;
+            let inner = inner(alloc, part)?;
+            Ok(ended(alloc, joined(alloc, grown, inner)?))
+        }
+        Part::Minus(parts) => {
+            let grown = joined_block(alloc, grown, block)?;
+            let without = translated(alloc, parts.as_slice())?;
+            Ok(ended(alloc, minus(alloc, grown, without)?))
+        }
+        Part::Bind(condition, variable) => {
+            let grown = joined_block(alloc, grown, block)?;
+            Ok(ended(alloc, extended(alloc, grown, *variable, condition)?))
+        }
     }
 }
 
@@ -108,7 +122,7 @@ fn optional(alloc: Global, parts: &[Part], grown: Box<Algebra>) -> Result<Box<Al
     left_joined(alloc, grown, pattern, condition)
 }
 
-/// The algebra of a GRAPH, or of a nested group and of those that UNION joins to it; of other parts Z.
+/// The algebra of a GRAPH, of a nested group and of those that UNION joins to it, or of VALUES; of other parts Z.
 #[cycle(translate)]
 #[tactic(auto, using(crate::proofs::Translations::simplified_united))]
 fn inner(alloc: Global, part: &Part) -> Result<Box<Algebra>, Memory>
@@ -127,9 +141,16 @@ fn inner(alloc: Global, part: &Part) -> Result<Box<Algebra>, Memory>
             }
             Ok(whole)
         }
+        Part::Values(variables, rows) => {
+            let variables = Items::from_slice(alloc, variables.as_slice())?;
+            let rows = copy_rows(alloc, rows.as_slice())?;
+            Box::new(alloc, Algebra::Table(variables, rows))
+        }
         Part::Triples(_) => unit(alloc),
         Part::Filter(_) => unit(alloc),
         Part::Optional(_) => unit(alloc),
+        Part::Minus(_) => unit(alloc),
+        Part::Bind(_, _) => unit(alloc),
     }
 }
 

@@ -53,6 +53,12 @@ fn add_all(found: &mut Items<Var>, algebra: &Algebra) -> Result<(), Memory>
             add_name(found, name)?;
             add_all(found, a)
         }
+        Algebra::Minus(a, _) => add_all(found, a),
+        Algebra::Table(variables, _) => add_variables(found, variables.as_slice()),
+        Algebra::Extend(a, variable, _) => {
+            add_all(found, a)?;
+            add(found, *variable)
+        }
     }
 }
 
@@ -61,6 +67,15 @@ fn add_patterns(found: &mut Items<Var>, patterns: &[TriplePattern]) -> Result<()
 {
     for pattern in patterns {
         add_pattern(found, pattern)?;
+    }
+    Ok(())
+}
+
+fn add_variables(found: &mut Items<Var>, variables: &[Var]) -> Result<(), Memory>
+    ensures { OnOk result (AddsEach variables.now found.old found.new) }
+{
+    for variable in variables {
+        add(found, *variable)?;
     }
     Ok(())
 }

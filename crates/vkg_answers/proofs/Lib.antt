@@ -1,6 +1,7 @@
 pub mod Agreement
 pub mod Columns
 pub mod Entries
+pub mod Extends
 pub mod GraphExists
 pub mod GraphNames
 pub mod GraphVariable
@@ -10,6 +11,7 @@ pub mod Lawful
 pub mod Links
 pub mod MemberRows
 pub mod Members
+pub mod Minuses
 pub mod Modes
 pub mod Once
 pub mod OneSide
@@ -20,6 +22,7 @@ pub mod Sources
 pub mod Splits
 pub mod Start
 pub mod Steps
+pub mod Tables
 pub mod Theorem
 pub mod TriplePatterns
 pub mod Values

@@ -97,7 +97,7 @@ module _ (d : Dataset) (vs ws : List ℕ) (cs : List Expr) where
     hidden_joined row = cell_at-after (merged Each vs ws) (each_once (vs ++ ws)) (Col (length vs)) (l ++ row) ∙ cell_at-left l row (length vs) (omega (arith, p.size)) ∙ p.graph.2
 
     module _ (q : IsRowOf d Each ws r) where
-      both_graphs : holds (Same (Col (length vs)) (Col (columns_in Each vs + length ws))) (l ++ r) ≡ term_eq p.graph.0 q.graph.0
+      pub both_graphs : holds (Same (Col (length vs)) (Col (columns_in Each vs + length ws))) (l ++ r) ≡ term_eq p.graph.0 q.graph.0
       both_graphs = same_graphs (Col (length vs)) (Col (columns_in Each vs + length ws)) (l ++ r) p.graph.0 q.graph.0
           (cell_at-left l r (length vs) (omega (arith, p.size)) ∙ p.graph.2)
           (cell_at-right l r (columns_in Each vs + length ws) (length ws) (ap (λ k. k + length ws) (sym p.size)) ∙ q.graph.2)

@@ -51,6 +51,25 @@ module _ (P Q : Row → Type 0) (kl kr pass h : Row → Bool) where
         of true = refl
         of false = refl
 
+    -- the rows without one that passes
+    pub alone_split : (ls rs : List Row) → Every P ls → Every Q rs → filter kl (filter (is_alone h rs) ls) ≡ filter (is_alone pass (filter kr rs)) (filter kl ls)
+    alone_split [] rs p q = refl
+    alone_split (l ∷ ls) rs p q = of (alone_split ls rs p.1 q) (kl l) refl (is_alone h rs l) refl
+      where
+        none : Row → Bool
+        none l = is_alone h rs l
+
+        none_there : Row → Bool
+        none_there l = is_alone pass (filter kr rs) l
+
+        of : filter kl (filter none ls) ≡ filter none_there (filter kl ls) →
+            (a : Bool) → kl l ≡ a → (x : Bool) → none l ≡ x →
+            filter kl (if x then l ∷ filter none ls else filter none ls) ≡ filter none_there (if a then l ∷ filter kl ls else filter kl ls)
+        of rest true e true f = Prim.rw (e, sym (none_near l rs p.0 q e) ∙ f, rest) refl
+        of rest true e false f = Prim.rw (sym (none_near l rs p.0 q e) ∙ f) rest
+        of rest false e true f = Prim.rw e rest
+        of rest false e false f = rest
+
     module _ (kp : Row → Bool) (m : ℕ) (kept : (l : Row) → P l → kp (l ++ replicate m cell.Null) ≡ kl l) where
       pub lonely_split : (ls rs : List Row) → Every P ls → Every Q rs →
           filter kp (map (λ l. l ++ replicate m cell.Null) (filter (is_alone h rs) ls))

@@ -50,7 +50,7 @@ pub record Stands (n : ℕ) (d : Dataset) (mode : Mode) (vs : List ℕ) (rows : 
 
 -- ---- bags of joins
 
-list_all-permutation : {A : Type 0} (p : A → Bool) {xs ys : List A} → IsPermutation xs ys → list_all p xs ≡ list_all p ys
+pub list_all-permutation : {A : Type 0} (p : A → Bool) {xs ys : List A} → IsPermutation xs ys → list_all p xs ≡ list_all p ys
 list_all-permutation {A} p = IsPermutation-induction (λ xs ys. list_all p xs ≡ list_all p ys) refl (λ x xs ys h. ap (λ b. p x && b) h) (λ x y xs. turned (p x) (p y) (list_all p xs)) (λ xs ys zs h k. h ∙ k)
   where
     turned : (a b c : Bool) → (a && (b && c)) ≡ (b && (a && c))

@@ -4,10 +4,11 @@ use Rattle.std.proofs.Math.Bool.{or-true}
 use Rattle.std.specs.Prelude.{Option, Some, None, ◌||◌, filter, flat_map, filter_map, Contains, if◌then◌else◌}
 use Rattle.std.specs.List.{list_any, cons_option}
 use Rattle.std.specs.List.Sorted.{IsPermutation}
+use Rattle.std.proofs.lemmas.List.Elements.{Contains-append_left, Contains-append_right}
 use Rattle.std.proofs.lemmas.Map.Made.{is_member-Decides}
 use Rattle.vkg_lists.proofs.Tests.{nat_test}
 use Rattle.vkg_lists.proofs.Counts.{eq_comm}
-use Rattle.vkg_lists.proofs.Members.{Contains-here, Contains-only, filter_keeps}
+use Rattle.vkg_lists.proofs.Members.{Contains-flat_map, Contains-here, Contains-map, Contains-only, filter_keeps}
 use Rattle.vkg_lists.proofs.Distinct.{any_of-distinct}
 use Rattle.vkg_terms.specs.declared.term.Term.{Term}
 use Rattle.vkg_terms.specs.declared.term.Term.TheVariants.{Iri}
@@ -16,14 +17,14 @@ use Rattle.vkg_terms.specs.Same.{term_eq}
 use Rattle.vkg_terms.proofs.SameLemmas.{terms_apart}
 use Rattle.vkg_schema.specs.Rows.{Database, Row}
 use Rattle.vkg_maps.specs.Dataset.{graph_eq}
-use Rattle.vkg_sparql.specs.Lawful.{IsLawful, condition_nodes, name_node}
+use Rattle.vkg_sparql.specs.Lawful.{IsLawful, condition_nodes, name_node, rows_nodes, value_nodes}
 use Rattle.vkg_sparql.specs.Query.{Condition}
-use Rattle.vkg_sparql.specs.declared.pattern.Node.TheVariants.{Variable}
+use Rattle.vkg_sparql.specs.declared.pattern.Node.TheVariants.{Fixed, Variable}
 use Rattle.vkg_sparql.specs.declared.pattern.TriplePattern.{TriplePattern}
 use Rattle.vkg_sparql.specs.declared.pattern.GraphName.TheVariants as name
-use Rattle.vkg_algebra.specs.Algebra.{Algebra, Bgp, Join, LeftJoin, Union, Filter, Graph}
+use Rattle.vkg_algebra.specs.Algebra.{Algebra, Bgp, Join, LeftJoin, Union, Filter, Graph, Minus, Table, Extend}
 use Rattle.vkg_algebra.specs.Lawful.{IsLawfulAlgebra, algebra_nodes, condition_nodes_if_any}
-use Rattle.vkg_algebra.specs.Solutions.{Solution}
+use Rattle.vkg_algebra.specs.Solutions.{Solution, row_solution}
 use Rattle.vkg_algebra.specs.Evaluation.{Dataset, evaluate, graph_names}
 use Rattle.vkg_algebra.specs.Patterns.{bgp_solutions}
 use Rattle.vkg_algebra.specs.Visible.{each_once, has, pattern_variables, visible}
@@ -32,13 +33,13 @@ use Rattle.vkg_expr.specs.Expr.{Expr, Col}
 use Rattle.vkg_expr.specs.Logic.{and_of, truth_const}
 use Rattle.vkg_expr.specs.Value.{holds, value_of}
 use Rattle.vkg_plan.specs.Kinds.{Tables, width}
-use Rattle.vkg_plan.specs.Plan.{Plan, Select, Project, Left, plans}
+use Rattle.vkg_plan.specs.Plan.{Plan, Select, Project, Left, AntiJoin, plans}
 use Rattle.vkg_plan.specs.Plan as plan
-use Rattle.vkg_plan.specs.Rows.{rows_of}
+use Rattle.vkg_plan.specs.Rows.{alone_rows, rows_of}
 use Rattle.vkg_row_rules.specs.declared.row_rule.RowRule.{RowRule}
 use Rattle.vkg_unfolded.specs.declared.mode.Mode.{Mode}
 use Rattle.vkg_unfolded.specs.declared.mode.Mode.TheVariants.{Default, InGraph, Each}
-use Rattle.vkg_unfolded.specs.Unfolded.{column, graph_column, in_its_graph, visible_column, merged, merged_columns, agreement, if_each, unfolded, bgp_plan, names_plan, exists_plan, in_mode, named_graph, each_graph, after, is_pattern}
+use Rattle.vkg_unfolded.specs.Unfolded.{column, graph_column, in_its_graph, visible_column, merged, merged_columns, agreement, overlap, extend_column, table_plan, if_each, unfolded, bgp_plan, names_plan, exists_plan, in_mode, named_graph, each_graph, after, is_pattern}
 use Rattle.vkg_unfolded.specs.Conditions.{condition_of}
 use Rattle.vkg_unfolded.specs.FineRows.{IsNarrow}
 use Rattle.vkg_answers.proofs.Lawful.{lawful_left, lawful_right, lawful_tail, narrow_if_any, variables_below}
@@ -47,12 +48,18 @@ use Rattle.vkg_answers.proofs.Steps.{Stands, join_stands, left_stands, below_uni
 use Rattle.vkg_answers.proofs.OneSide.{filter_stands, widened_stands, append_stands}
 use Rattle.vkg_answers.proofs.Graphs.{Plain, plain_named, stands_default, stands_named, after_exists, after_names, name_row}
 use Rattle.vkg_answers.proofs.GraphVariable.{variable_stands}
+use Rattle.vkg_answers.proofs.Minuses.{minus_stands}
+use Rattle.vkg_answers.proofs.Tables.{table_plain}
+use Rattle.vkg_answers.proofs.Extends.{extend_stands}
 
 of_both : (n : ℕ) (a b : Algebra) (c : Option Condition) → IsLawfulAlgebra n (LeftJoin a b c) → IsLawful n (algebra_nodes a ++ algebra_nodes b)
 of_both n a b c h = lawful_left n (algebra_nodes a ++ algebra_nodes b) (condition_nodes_if_any c) h
 
 named_below : (n w : ℕ) (a : Algebra) → IsLawfulAlgebra n (Graph (name.Each w) a) → w < n
 named_below n w a h = h.within (Variable w) (Contains-here (Variable w) (algebra_nodes a))
+
+bound_below : (n : ℕ) (a : Algebra) (w : ℕ) (c : Condition) → IsLawfulAlgebra n (Extend a w c) → w < n
+bound_below n a w c h = h.within (Variable w) (Contains-append_right (algebra_nodes a) (Variable w ∷ condition_nodes c) (Variable w) (Contains-here (Variable w) (condition_nodes c)))
 
 one_below : (n w : ℕ) → w < n → AreBelow n (w ∷ [])
 one_below n w l v e = subst (λ u. u < n) (Contains-only w v ((is_member-Decides nat_test.decides (w ∷ []) v).0 e)) l
@@ -65,6 +72,10 @@ visible_below n (Union a b) h = below_union n (visible a) (visible b) (visible_b
 visible_below n (Filter c a) h = visible_below n a (lawful_right n (condition_nodes c) (algebra_nodes a) h)
 visible_below n (Graph (name.Named i) a) h = λ v e. visible_below n a (lawful_tail n (name_node (name.Named i)) (algebra_nodes a) h) v (sym (has-each_once (visible a) v) ∙ e)
 visible_below n (Graph (name.Each w) a) h = below_union n (w ∷ []) (visible a) (one_below n w (named_below n w a h)) (visible_below n a (lawful_tail n (name_node (name.Each w)) (algebra_nodes a) h))
+visible_below n (Minus a b) h = visible_below n a (lawful_left n (algebra_nodes a) (algebra_nodes b) h)
+visible_below n (Table vs rows) h = λ v e. h.within (Variable v)
+    (Contains-append_left (map Variable vs) (rows_nodes rows) (Variable v) (Contains-map Variable vs v ((is_member-Decides nat_test.decides vs v).0 (sym (has-each_once vs v) ∙ e))))
+visible_below n (Extend a w c) h = below_union n (visible a) (w ∷ []) (visible_below n a (lawful_left n (algebra_nodes a) (Variable w ∷ condition_nodes c) h)) (one_below n w (bound_below n a w c h))
 
 -- ---- a pattern has no solutions in a graph without a name
 
@@ -90,6 +101,9 @@ pattern_absent n d i (LeftJoin a b c) h k = absurd (true≢false (sym h))
 pattern_absent n d i (Union a b) h k = absurd (true≢false (sym h))
 pattern_absent n d i (Filter c a) h k = absurd (true≢false (sym h))
 pattern_absent n d i (Graph g a) h k = absurd (true≢false (sym h))
+pattern_absent n d i (Minus a b) h k = absurd (true≢false (sym h))
+pattern_absent n d i (Table vs rows) h k = absurd (true≢false (sym h))
+pattern_absent n d i (Extend a v c) h k = absurd (true≢false (sym h))
 
 module _ (schema : Tables) (rules : List RowRule) (n : ℕ) (d : Dataset) (db : Database)
     (bgp_stands : (mode : Mode) (ps : List TriplePattern) → IsLawfulAlgebra n (Bgp ps) → Stands n d mode (visible (Bgp ps)) (rows_of schema (bgp_plan schema rules mode ps) db) (evaluate n d (Bgp ps)))
@@ -126,6 +140,10 @@ module _ (schema : Tables) (rules : List RowRule) (n : ℕ) (d : Dataset) (db : 
   selected true c p = refl
   selected false c p = sym (filter_keeps (λ row. true) (rows_of schema p db) (λ x c. refl))
 
+  without : (b : Bool) (p q : Plan) (c : Expr) → rows_of schema (if b then AntiJoin p q c else p) db ≡ (if b then alone_rows (holds c) (rows_of schema p db) (rows_of schema q db) else rows_of schema p db)
+  without true p q c = refl
+  without false p q c = refl
+
   abbrev rows_in : Algebra → Mode → List Row
   rows_in a mode = rows_of schema (unfolded schema rules a mode) db
 
@@ -155,6 +173,19 @@ module _ (schema : Tables) (rules : List RowRule) (n : ℕ) (d : Dataset) (db : 
   stands (Filter c a) mode h =
       let k = lawful_right n (condition_nodes c) (algebra_nodes a) h in
       filter_stands n d mode (visible a) (visible_below n a k) (rows_in a mode) (evaluate n d a) (stands a mode k) c (narrow_if_any n (Some c) (lawful_left n (condition_nodes c) (algebra_nodes a) h))
+  stands (Minus a b) mode h =
+      subst (λ rows. Stands n d mode (visible a) rows (evaluate n d (Minus a b)))
+      (sym (without (list_any (has (visible b)) (visible a)) (unfolded schema rules a mode) (unfolded schema rules b mode) (and_of (overlap mode (visible a) (visible b)))))
+      (minus_stands n d mode (visible a) (visible b) (visible_below n a (lawful_left n (algebra_nodes a) (algebra_nodes b) h)) (rows_in a mode) (rows_in b mode) (evaluate n d a) (evaluate n d b)
+      (stands a mode (lawful_left n (algebra_nodes a) (algebra_nodes b) h)) (stands b mode (lawful_right n (algebra_nodes a) (algebra_nodes b) h)))
+  stands (Table vs rows) mode h =
+      in_any_mode mode (each_once vs) (table_plan vs rows) (map (row_solution n vs) rows)
+      (table_plain schema db n d vs rows (λ row c t k. (lawful_right n (map Variable vs) (rows_nodes rows) h).within (Fixed t) (Contains-flat_map (flat_map value_nodes) rows row (Fixed t) c k)))
+  stands (Extend a v c) mode h =
+      let k = lawful_left n (algebra_nodes a) (Variable v ∷ condition_nodes c) h in
+      over mode (each_once (visible a ++ v ∷ [])) (map (extend_column (visible a) v c) (each_once (visible a ++ v ∷ [])) ++ if_each mode (Col (length (visible a)))) (unfolded schema rules a mode) (evaluate n d (Extend a v c))
+      (extend_stands n d mode (visible a) (visible_below n a k) v c (narrow_if_any n (Some c) (lawful_tail n (Variable v) (condition_nodes c) (lawful_right n (algebra_nodes a) (Variable v ∷ condition_nodes c) h)))
+      (rows_in a mode) (evaluate n d a) (stands a mode k))
   stands (Graph (name.Named i) a) mode h =
       subst (λ vs. Stands n d mode vs (rows_in (Graph (name.Named i) a) mode) (evaluate n d (Graph (name.Named i) a))) (sym (visible_once a))
       (in_any_mode mode (visible a) (named_graph schema rules a i (unfolded schema rules a (InGraph i))) (evaluate n d (Graph (name.Named i) a) None)

@@ -5,7 +5,7 @@ use Rattle.std.specs.Option.{option_or}
 use Rattle.vkg_lists.proofs.Onto.{map_lacking}
 use Rattle.vkg_schema.specs.Meets.{IsWellFormed}
 use Rattle.vkg_plan.specs.Kinds.{Tables}
-use Rattle.vkg_plan.specs.Plan.{Plan, Plans, Unit, Empty, Scan, Select, Project, Join, Left, UnionAll, Distinct, Nil, More}
+use Rattle.vkg_plan.specs.Plan.{Plan, Plans, Unit, Empty, Scan, Select, Project, Join, Left, AntiJoin, UnionAll, Distinct, Nil, More}
 use Rattle.vkg_rules.specs.Everywhere.{among, anywhere, around, everywhere, first_of_list, in_members, later_in_list}
 use Rattle.vkg_rules.specs.EverywhereLaw.{anywhere-falls, anywhere-keeps}
 use Rattle.vkg_rules.specs.Steps.{FallsAll, IsTyped, Keeps, KeepsAll, Rule, Step}
@@ -30,6 +30,10 @@ mutual
       let n = neither (r (Left p q c)) _ e in
       let m = neither (option_map (around (λ x. Left x q c)) (everywhere r p)) _ n.1 in
       (n.0, everywhere-settled r p (map_lacking (around (λ x. Left x q c)) _ m.0), everywhere-settled r q (map_lacking (around (λ x. Left p x c)) _ m.1))
+  everywhere-settled r (AntiJoin p q c) e =
+      let n = neither (r (AntiJoin p q c)) _ e in
+      let m = neither (option_map (around (λ x. AntiJoin x q c)) (everywhere r p)) _ n.1 in
+      (n.0, everywhere-settled r p (map_lacking (around (λ x. AntiJoin x q c)) _ m.0), everywhere-settled r q (map_lacking (around (λ x. AntiJoin p x c)) _ m.1))
   everywhere-settled r (UnionAll ps) e = let n = neither (r (UnionAll ps)) _ e in (n.0, members-settled r ps (map_lacking (among UnionAll) _ n.1))
   everywhere-settled r (Distinct p) e = let n = neither (r (Distinct p)) _ e in (n.0, everywhere-settled r p (map_lacking (around Distinct) _ n.1))
 

@@ -1,7 +1,7 @@
 -- The end of a rule that is taken again and again, each time at the first subplan in preorder that it changes.
 use Rattle.std.specs.Prelude.{◌≡◌, ℕ, zero, suc, Option, Some, None, option_map, option_and_then}
 use Rattle.vkg_plan.specs.Kinds.{Tables}
-use Rattle.vkg_plan.specs.Plan.{Plan, Plans, Unit as UnitPlan, Empty, Scan, Select, Project, Join, Left, UnionAll, Distinct, Nil, More}
+use Rattle.vkg_plan.specs.Plan.{Plan, Plans, Unit as UnitPlan, Empty, Scan, Select, Project, Join, Left, AntiJoin, UnionAll, Distinct, Nil, More}
 use Rattle.vkg_rules.specs.Everywhere.{anywhere}
 use Rattle.vkg_rules.specs.Steps.{Rule, Step}
 use Rattle.vkg_chains.specs.Fix.{run}
@@ -34,6 +34,7 @@ abbrev mutual
   Settled r (Project es p) = (r (Project es p) ≡ None) × Settled r p
   Settled r (Join ps c) = (r (Join ps c) ≡ None) × SettledEach r ps
   Settled r (Left p q c) = (r (Left p q c) ≡ None) × Settled r p × Settled r q
+  Settled r (AntiJoin p q c) = (r (AntiJoin p q c) ≡ None) × Settled r p × Settled r q
   Settled r (UnionAll ps) = (r (UnionAll ps) ≡ None) × SettledEach r ps
   Settled r (Distinct p) = (r (Distinct p) ≡ None) × Settled r p
 

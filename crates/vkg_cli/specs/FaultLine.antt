@@ -36,12 +36,12 @@ abbrev pub data_checks : List (List ℕ)
 data_checks =
     [] ∷ codes "X01 not an IRI" ∷ codes "X02 ill-typed" ∷ codes "X03 number too wide" ∷ []
 
--- of a query; no check is 10 or 11
+-- of a query
 abbrev pub query_checks : List (List ℕ)
 query_checks =
     [] ∷ codes "Q01 lexical" ∷ codes "Q02 grammar" ∷ codes "Q03 too deep" ∷ codes "Q04 prefix unknown" ∷ codes "Q05 bad IRI" ∷
-    codes "Q06 blank label in two patterns" ∷ codes "Q07 outside the profile" ∷ codes "Q08 number too wide" ∷ codes "Q09 limit" ∷ [] ∷ [] ∷
-    codes "Q12 slice number" ∷ []
+    codes "Q06 blank label in two patterns" ∷ codes "Q07 outside the profile" ∷ codes "Q08 number too wide" ∷ codes "Q09 limit" ∷
+    codes "Q10 values width" ∷ codes "Q11 variable in use" ∷ codes "Q12 slice number" ∷ []
 
 -- the code and the words of a check, by its number
 abbrev pub words_at : List (List ℕ) → ℕ → List ℕ

@@ -71,7 +71,7 @@ pub const MAPPING_CHECKS: [&str; 23] = [
 /// The checks of the terms that a mapping makes of rows, by their number.
 pub const DATA_CHECKS: [&str; 4] = ["", "X01 not an IRI", "X02 ill-typed", "X03 number too wide"];
 
-/// The checks of a query, by their number. No check is 10 or 11.
+/// The checks of a query, by their number.
 pub const QUERY_CHECKS: [&str; 13] = [
     "",
     "Q01 lexical",
@@ -83,8 +83,8 @@ pub const QUERY_CHECKS: [&str; 13] = [
     "Q07 outside the profile",
     "Q08 number too wide",
     "Q09 limit",
-    "",
-    "",
+    "Q10 values width",
+    "Q11 variable in use",
     "Q12 slice number",
 ];
 

@@ -5,7 +5,7 @@ use Rattle.std.specs.Option.{option_or}
 use Rattle.vkg_expr.specs.Expr.{Expr}
 use Rattle.vkg_expr.specs.Places.{first_place}
 use Rattle.vkg_plan.specs.Kinds.{Tables}
-use Rattle.vkg_plan.specs.Plan.{Plan, Unit as UnitPlan, Empty, Scan, Select, Project, Join, Left, UnionAll, Distinct}
+use Rattle.vkg_plan.specs.Plan.{Plan, Unit as UnitPlan, Empty, Scan, Select, Project, Join, Left, AntiJoin, UnionAll, Distinct}
 use Rattle.vkg_rules.specs.declared.rewrite.Fell.TheVariants as fell
 use Rattle.vkg_conditions.specs.Cases.{simplified_in, smaller}
 use Rattle.vkg_conditions.specs.Conditions.{deciding, flat, negated, neutral, repeated, twice_negated}
@@ -43,5 +43,6 @@ simplified_is s (Select c p) h = ap (option_map smaller) (all-cases (λ d. Selec
 simplified_is s (Project es p) h = cc
 simplified_is s (Join ps c) h = ap (option_map smaller) (all-cases (Join ps) c) ∙ twice smaller (Join ps) (simplified_in c)
 simplified_is s (Left p q c) h = ap (option_map smaller) (all-cases (Left p q) c) ∙ twice smaller (Left p q) (simplified_in c)
+simplified_is s (AntiJoin p q c) h = ap (option_map smaller) (all-cases (AntiJoin p q) c) ∙ twice smaller (AntiJoin p q) (simplified_in c)
 simplified_is s (UnionAll ps) h = cc
 simplified_is s (Distinct p) h = cc

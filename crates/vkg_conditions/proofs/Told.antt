@@ -6,7 +6,7 @@ use Rattle.vkg_lists.proofs.Onto.{map_lacking}
 use Rattle.vkg_expr.specs.Expr.{Expr}
 use Rattle.vkg_expr.specs.Places.{first_place}
 use Rattle.vkg_plan.specs.Kinds.{Tables}
-use Rattle.vkg_plan.specs.Plan.{Plan, Unit as UnitPlan, Empty, Scan, Select, Project, Join, Left, UnionAll, Distinct}
+use Rattle.vkg_plan.specs.Plan.{Plan, Unit as UnitPlan, Empty, Scan, Select, Project, Join, Left, AntiJoin, UnionAll, Distinct}
 use Rattle.vkg_rules.proofs.Outcomes.{neither}
 use Rattle.vkg_rules.specs.declared.rewrite.Fell.TheVariants as fell
 use Rattle.vkg_rules.specs.Places.{DidNotApply, Others, with_at, with_member}
@@ -30,6 +30,10 @@ own-same f zero [] y (Left p q c) e = still (Left y.0 q) (Left p q) (first_place
 own-same f zero (n ∷ path) y (Left p q c) e = still (Left (with_at (n ∷ path) y p) q) (Left p q) (first_place f c) e
 own-same f (suc at) [] y (Left p q c) e = still (Left p y.0) (Left p q) (first_place f c) e
 own-same f (suc at) (n ∷ path) y (Left p q c) e = still (Left p (with_at (n ∷ path) y q)) (Left p q) (first_place f c) e
+own-same f zero [] y (AntiJoin p q c) e = still (AntiJoin y.0 q) (AntiJoin p q) (first_place f c) e
+own-same f zero (n ∷ path) y (AntiJoin p q c) e = still (AntiJoin (with_at (n ∷ path) y p) q) (AntiJoin p q) (first_place f c) e
+own-same f (suc at) [] y (AntiJoin p q c) e = still (AntiJoin p y.0) (AntiJoin p q) (first_place f c) e
+own-same f (suc at) (n ∷ path) y (AntiJoin p q c) e = still (AntiJoin p (with_at (n ∷ path) y q)) (AntiJoin p q) (first_place f c) e
 own-same f at path y (UnionAll ps) e = refl
 own-same f at path y (Distinct p) e = refl
 
@@ -44,6 +48,10 @@ condition-same f zero [] y (Left p q c) e = still (Left y.0 q) (Left p q) (in_co
 condition-same f zero (n ∷ path) y (Left p q c) e = still (Left (with_at (n ∷ path) y p) q) (Left p q) (in_conjuncts f c) e
 condition-same f (suc at) [] y (Left p q c) e = still (Left p y.0) (Left p q) (in_conjuncts f c) e
 condition-same f (suc at) (n ∷ path) y (Left p q c) e = still (Left p (with_at (n ∷ path) y q)) (Left p q) (in_conjuncts f c) e
+condition-same f zero [] y (AntiJoin p q c) e = still (AntiJoin y.0 q) (AntiJoin p q) (in_conjuncts f c) e
+condition-same f zero (n ∷ path) y (AntiJoin p q c) e = still (AntiJoin (with_at (n ∷ path) y p) q) (AntiJoin p q) (in_conjuncts f c) e
+condition-same f (suc at) [] y (AntiJoin p q c) e = still (AntiJoin p y.0) (AntiJoin p q) (in_conjuncts f c) e
+condition-same f (suc at) (n ∷ path) y (AntiJoin p q c) e = still (AntiJoin p (with_at (n ∷ path) y q)) (AntiJoin p q) (in_conjuncts f c) e
 condition-same f at path y (UnionAll ps) e = refl
 condition-same f at path y (Distinct p) e = refl
 

@@ -1,6 +1,6 @@
 -- A plan with another condition, or other expressions, in the place of its own.
 use Rattle.std.proofs.Common.{◌≡◌, ◌∙◌, ℕ, ◌<◌, ◌≤◌, Bool, cond, not, List, [], ◌∷◌, ◌++◌, map, refl, sym, ap, subst, arith}
-use Rattle.std.specs.Prelude.{Option, Some, None, replicate, ◌&&◌, if◌then◌else◌, option_and_then}
+use Rattle.std.specs.Prelude.{Option, Some, None, replicate, ◌&&◌, if◌then◌else◌, is_some, option_and_then}
 use Rattle.std.specs.List.{AllByRecursion, filter}
 use Rattle.vkg_lists.proofs.Bags.{bag_same}
 use Rattle.vkg_lists.proofs.Each.{recursion_weaken}
@@ -20,7 +20,7 @@ use Rattle.vkg_expr.specs.Typing.{is_one, kinds_of}
 use Rattle.vkg_expr.specs.Value.{holds, values_of}
 use Rattle.vkg_expr.proofs.TypedParts.{fits_row}
 use Rattle.vkg_plan.specs.Kinds.{Kinds, Tables, beside_all, checked, kinds_of_each, plan_kinds, width}
-use Rattle.vkg_plan.specs.Plan.{Plan, Plans, Select, Project, Join, Left}
+use Rattle.vkg_plan.specs.Plan.{Plan, Plans, Select, Project, Join, Left, AntiJoin}
 use Rattle.vkg_plan.specs.Rows.{is_alone, left_pairs, pairs, product, rows_of, rows_of_each}
 use Rattle.vkg_plan.specs.Laws.{HaveKinds}
 use Rattle.vkg_plan.proofs.Pairs.{pairs-unit}
@@ -51,6 +51,7 @@ own_kinds s (Select c p) = plan_kinds s p
 own_kinds s (Project es p) = plan_kinds s p
 own_kinds s (Join ps c) = beside_all (kinds_of_each s ps)
 own_kinds s (Left p q c) = joined (plan_kinds s p) (plan_kinds s q)
+own_kinds s (AntiJoin p q c) = joined (plan_kinds s p) (plan_kinds s q)
 own_kinds s p = None
 
 abbrev pub own_rows : Tables → Plan → Database → List Row
@@ -58,6 +59,7 @@ own_rows s (Select c p) db = rows_of s p db
 own_rows s (Project es p) db = rows_of s p db
 own_rows s (Join ps c) db = product (rows_of_each s ps db)
 own_rows s (Left p q c) db = pairs (rows_of s p db) (rows_of s q db)
+own_rows s (AntiJoin p q c) db = pairs (rows_of s p db) (rows_of s q db)
 own_rows s p db = []
 
 -- over each database that meets the schema they are such rows
@@ -77,6 +79,11 @@ module _ (s : Tables) where
       let k = beside_is (kinds_of_each s ps) ks e in
       subst (λ ls. HaveKinds ls (product (rows_of_each s ps db))) k.2 (product-fit k.0 (rows_of_each s ps db) (each-fit s db (tables_fit s db m) ps k.0 k.1))
   own-kinds (Left p q c) ks e db m =
+      let k = both_given (plan_kinds s p) (plan_kinds s q) ks e in
+      let ts = tables_fit s db m in
+      subst (λ ls. HaveKinds ls (pairs (rows_of s p db) (rows_of s q db))) k.2.2
+      (pairs-kinds k.0 k.2.0 (rows_of s p db) (rows_of s q db) (rows-fit s db ts p k.0 k.1) (rows-fit s db ts q k.2.0 k.2.1))
+  own-kinds (AntiJoin p q c) ks e db m =
       let k = both_given (plan_kinds s p) (plan_kinds s q) ks e in
       let ts = tables_fit s db m in
       subst (λ ls. HaveKinds ls (pairs (rows_of s p db) (rows_of s q db))) k.2.2
@@ -157,6 +164,23 @@ module _ (On : Kinds → Row → Type 0) (s : Tables) where
       record {
         kinds = checked-same o a.0 c d a.1 a.2 b.truth;
         rows = λ db m. bag_same (left-on (On a.0) (holds c) (holds d) (λ row h. sym (b.same row h)) (width s q) (rows_of s p db) (rows_of s q db) (own a.0 a.1 db m));
+        falls = (omega arith, omega (arith, e), omega (arith, z));
+      }
+
+  pub anti-better : (c d : Expr) (p q : Plan) → IsTyped s (AntiJoin p q c) → AreOwn On s (AntiJoin p q c) → ((ks : Kinds) → IsTruth ks c → BetterOn (On ks) ks c d) → IsLawful s (AntiJoin p q c) (AntiJoin p q d, fell.Size)
+  anti-better c d p q t own better =
+      let o = joined (plan_kinds s p) (plan_kinds s q) in
+      let first = some_then (λ (ks : Kinds). plan_kinds s p) (checked c o) t in
+      let a = checked_parts c o (ap is_some first.1) in
+      let b = better a.0 a.2 in
+      let k = both_given (plan_kinds s p) (plan_kinds s q) a.0 a.1 in
+      let both : or_no_kinds (plan_kinds s p) ++ or_no_kinds (plan_kinds s q) ≡ a.0 = (λ i. or_no_kinds (k.1 i) ++ or_no_kinds (k.2.1 i)) ∙ k.2.2 in
+      let e : equalities (or_no_kinds (plan_kinds s p) ++ or_no_kinds (plan_kinds s q)) d ≤ equalities (or_no_kinds (plan_kinds s p) ++ or_no_kinds (plan_kinds s q)) c =
+      subst (λ ks. equalities ks d ≤ equalities ks c) (sym both) b.fewer in
+      let z = b.less in
+      record {
+        kinds = ap (option_and_then (λ (ks : Kinds). plan_kinds s p)) (checked-same o a.0 c d a.1 a.2 b.truth);
+        rows = λ db m. bag_same (all_alone-on (On a.0) (holds c) (holds d) (λ row h. sym (b.same row h)) (rows_of s p db) (rows_of s q db) (own a.0 a.1 db m));
         falls = (omega arith, omega (arith, e), omega (arith, z));
       }
 

@@ -5,7 +5,7 @@ use Rattle.vkg_expr.specs.Expr.{Expr, Same, IsNull, Not}
 use Rattle.vkg_expr.specs.Logic.{and_of, conjuncts}
 use Rattle.vkg_expr.specs.Places.{first_place}
 use Rattle.vkg_expr.specs.Strict.{is_strict}
-use Rattle.vkg_plan.specs.Plan.{Plan, Select, Project, Join, Left}
+use Rattle.vkg_plan.specs.Plan.{Plan, Select, Project, Join, Left, AntiJoin}
 use Rattle.vkg_rules.specs.declared.rewrite.Fell.TheVariants as fell
 use Rattle.vkg_rules.specs.Steps.{Rule}
 use Rattle.vkg_conditions.specs.Conditions.{deciding, flat, if_so, negated, neutral, repeated, twice_negated}
@@ -22,6 +22,7 @@ in_own f (Select c p) = option_map (λ d. Select d p) (first_place f c)
 in_own f (Project es p) = option_map (λ ds. Project ds p) (first_of f es)
 in_own f (Join ps c) = option_map (Join ps) (first_place f c)
 in_own f (Left p q c) = option_map (Left p q) (first_place f c)
+in_own f (AntiJoin p q c) = option_map (AntiJoin p q) (first_place f c)
 in_own f p = None
 
 -- a change of the first conjunct of a condition that has one
@@ -36,6 +37,7 @@ abbrev pub in_condition : (Expr → Option Expr) → Plan → Option Plan
 in_condition f (Select c p) = option_map (λ d. Select d p) (in_conjuncts f c)
 in_condition f (Join ps c) = option_map (Join ps) (in_conjuncts f c)
 in_condition f (Left p q c) = option_map (Left p q) (in_conjuncts f c)
+in_condition f (AntiJoin p q c) = option_map (AntiJoin p q) (in_conjuncts f c)
 in_condition f p = None
 
 -- SQL-92, 8.2: what is strict is equal to itself where it is known. Where it is NULL the equality is unknown and the other test

@@ -13,7 +13,7 @@ use Rattle.vkg_expr.specs.Places.{first_place, first_of_each}
 use Rattle.vkg_expr.specs.Typing.{are_all, is_one, kind_of, kinds_of, no_column}
 use Rattle.vkg_expr.specs.Value.{truth_of, value_of, values_of}
 use Rattle.vkg_plan.specs.Kinds.{Kinds, Tables}
-use Rattle.vkg_plan.specs.Plan.{Plan, Select, Project, Join, Left}
+use Rattle.vkg_plan.specs.Plan.{Plan, Select, Project, Join, Left, AntiJoin}
 use Rattle.vkg_rules.specs.declared.rewrite.Fell.TheVariants as fell
 use Rattle.vkg_rules.specs.InNodes.{IsLawful}
 use Rattle.vkg_rules.specs.Measure.{equalities_each, sizes}
@@ -24,7 +24,7 @@ use Rattle.vkg_conditions.specs.ConjunctsLaw.{conjuncts-better}
 use Rattle.vkg_conditions.specs.FirstPlace.{bare-of_each, first_place-same, or_cases}
 use Rattle.vkg_conditions.specs.FirstPlaceLess.{place-less}
 use Rattle.vkg_conditions.specs.Junctions.{IsTruth, SimplerOn}
-use Rattle.vkg_conditions.specs.NodesLaw.{AreOwn, BetterOn, join-better, left-better, own-fit, project-better, select-better}
+use Rattle.vkg_conditions.specs.NodesLaw.{AreOwn, BetterOn, anti-better, join-better, left-better, own-fit, project-better, select-better}
 use Rattle.vkg_conditions.specs.SameAs.{SameEachOn, SameOn}
 use Rattle.vkg_conditions.specs.SimplifyCondition.{first_of, in_condition, in_conjuncts, in_own, same_itself, simplified, simplify_condition}
 
@@ -98,6 +98,9 @@ own-lawful On f good s (Join ps c) q own t h =
 own-lawful On f good s (Left p r c) q own t h =
     let m = map_given (Left p r) (first_place f c) q h in
     subst (λ z. IsLawful s (Left p r c) (z, fell.Size)) m.2 (left-better On s c m.0 p r t own (λ ks k. place-better On f good ks c m.0 m.1 k))
+own-lawful On f good s (AntiJoin p r c) q own t h =
+    let m = map_given (AntiJoin p r) (first_place f c) q h in
+    subst (λ z. IsLawful s (AntiJoin p r c) (z, fell.Size)) m.2 (anti-better On s c m.0 p r t own (λ ks k. place-better On f good ks c m.0 m.1 k))
 own-lawful On f good s _ q own t h = cc
 
 -- on rows of their columns' kinds
@@ -117,6 +120,9 @@ condition-lawful s (Join ps c) q t h =
 condition-lawful s (Left p r c) q t h =
     let m = map_given (Left p r) (in_conjuncts same_itself c) q h in
     subst (λ z. IsLawful s (Left p r c) (z, fell.Size)) m.2 (left-better FitsRow s c m.0 p r t (own-fit s (Left p r c)) (λ ks k. conjuncts-better ks c m.0 m.1 k))
+condition-lawful s (AntiJoin p r c) q t h =
+    let m = map_given (AntiJoin p r) (in_conjuncts same_itself c) q h in
+    subst (λ z. IsLawful s (AntiJoin p r c) (z, fell.Size)) m.2 (anti-better FitsRow s c m.0 p r t (own-fit s (AntiJoin p r c)) (λ ks k. conjuncts-better ks c m.0 m.1 k))
 condition-lawful s _ q t h = cc
 
 -- ---- the steps are good

@@ -13,14 +13,14 @@ use vkg_expr::Expr;
 use vkg_plan::Plan;
 use vkg_rules::{Answer, Fell, unchanged};
 
-/// Whether it is a selection, a join or a left join.
+/// Whether it is a selection, a join, a left join or an anti join.
 #[tactic(auto, using(vkg_rules::proofs::Seen::seen_nodes))]
 pub fn has_condition(plan: &Plan) -> bool
     ensures { result ≡ a_condition (plan_seen plan.now) }
 {
     matches!(
         plan,
-        Plan::Select(_, _) | Plan::Join(_, _) | Plan::Left(_, _, _)
+        Plan::Select(_, _) | Plan::Join(_, _) | Plan::Left(_, _, _) | Plan::AntiJoin(_, _, _)
     )
 }
 
@@ -33,6 +33,7 @@ pub fn condition(plan: &Plan) -> Option<&Expr>
         Plan::Select(c, _) => Some(c),
         Plan::Join(_, c) => Some(c),
         Plan::Left(_, _, c) => Some(c),
+        Plan::AntiJoin(_, _, c) => Some(c),
         _ => None,
     }
 }
@@ -89,6 +90,10 @@ fn under(plan: Plan, c: Box<Expr>) -> Plan
         Plan::Left(p, q, b) => {
             mem::drop(b);
             Plan::Left(p, q, c.into_inner())
+        }
+        Plan::AntiJoin(p, q, b) => {
+            mem::drop(b);
+            Plan::AntiJoin(p, q, c.into_inner())
         }
         _ => {
             mem::drop(c);

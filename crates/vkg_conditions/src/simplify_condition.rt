@@ -4,7 +4,7 @@ ghost use Rattle.vkg_conditions.specs.NodeCondition.{condition_of};
 ghost use Rattle.vkg_conditions.specs.SimplifyCondition.{in_condition as in_conjuncts_of, in_own as in_own_exprs, same_itself, simplify_condition};
 ghost use Rattle.vkg_conditions.specs.SimplifyConditionLaw.{simplify_condition-keeps, simplify_condition-falls};
 ghost use Rattle.vkg_expr.specs.Seen.{expr_seen};
-ghost use Rattle.vkg_plan.specs.Plan.{Join, Left, Project, Select};
+ghost use Rattle.vkg_plan.specs.Plan.{AntiJoin, Join, Left, Project, Select};
 ghost use Rattle.vkg_plan.specs.Seen.{plan_seen};
 ghost use Rattle.vkg_rules.specs.Places.{outcome};
 ghost use Rattle.vkg_rules.specs.Steps.{IsTyped};
@@ -142,6 +142,7 @@ pub fn in_own<C: Change>(
         Plan::Project(es, p) => projected(alloc, in_list(alloc, change, es.as_slice())?, p),
         Plan::Join(ps, c) => joined(alloc, ps.as_slice(), first_place(alloc, change, c)?),
         Plan::Left(p, q, c) => left_joined(alloc, p, q, first_place(alloc, change, c)?),
+        Plan::AntiJoin(p, q, c) => anti_joined(alloc, p, q, first_place(alloc, change, c)?),
         _ => Ok(None),
     }
 }
@@ -154,6 +155,7 @@ fn in_condition(alloc: Global, plan: &Plan) -> Result<Option<(Plan, Fell)>, Memo
         Plan::Select(c, p) => selected(alloc, in_conjuncts(alloc, c)?, p),
         Plan::Join(ps, c) => joined(alloc, ps.as_slice(), in_conjuncts(alloc, c)?),
         Plan::Left(p, q, c) => left_joined(alloc, p, q, in_conjuncts(alloc, c)?),
+        Plan::AntiJoin(p, q, c) => anti_joined(alloc, p, q, in_conjuncts(alloc, c)?),
         _ => Ok(None),
     }
 }
@@ -216,6 +218,25 @@ fn left_joined(
             let p = copy_plan_box(alloc, p)?;
             let q = copy_plan_box(alloc, q)?;
             Ok(Some((Plan::Left(p, q, c.into_inner()), Fell::Size)))
+        }
+    }
+}
+
+#[tactic(auto, using(vkg_rules::proofs::Seen::seen_nodes))]
+fn anti_joined(
+    alloc: Global,
+    p: &Plan,
+    q: &Plan,
+    c: Option<Box<Expr>>,
+) -> Result<Option<(Plan, Fell)>, Memory>
+    ensures { IfOk result (λ o. option_map step_seen o ≡ option_map smaller (option_map (AntiJoin (plan_seen p.now) (plan_seen q.now)) (option_map expr_seen c))) }
+{
+    match c {
+        None => Ok(None),
+        Some(c) => {
+            let p = copy_plan_box(alloc, p)?;
+            let q = copy_plan_box(alloc, q)?;
+            Ok(Some((Plan::AntiJoin(p, q, c.into_inner()), Fell::Size)))
         }
     }
 }

@@ -17,7 +17,7 @@ use Rattle.vkg_plan.specs.Plan.{Plan}
 use Rattle.vkg_equalities.specs.Decided.{asks_terms, both_compared, compared, decided, if_fine, makes_term}
 use Rattle.vkg_equalities.specs.Recognised.{recognised}
 use Rattle.vkg_equalities.specs.TableColumns.{flag_at, table_columns}
-use Rattle.vkg_equalities.specs.TermEquality.{decided_in, first_changed, node_decided}
+use Rattle.vkg_equalities.specs.TermEquality.{condition_columns, condition_kinds, decided_in, first_changed, node_decided}
 
 -- ---- by its place
 
@@ -79,4 +79,4 @@ over_kinds flags c None h = refl
 over_kinds flags c (Some ks) h = ap (option_map and_of) (none_of (flag_at flags) ks (conjuncts c) h)
 
 pub none_asked : (s : Tables) (p : Plan) (c : Expr) → list_any asks_terms (conjuncts c) ≡ false → node_decided s p c ≡ None
-none_asked s p c h = over_kinds (table_columns s p) c (plan_kinds s p) h
+none_asked s p c h = over_kinds (condition_columns s p) c (condition_kinds s p) h

@@ -2,7 +2,7 @@
 use Rattle.std.proofs.Common.{◌≡◌, refl}
 use Rattle.std.specs.Prelude.{option_and_then}
 use Rattle.vkg_plan.specs.Kinds.{Tables}
-use Rattle.vkg_plan.specs.Plan.{Plan, Unit as UnitPlan, Empty, Scan, Select, Project, Join, Left, UnionAll, Distinct}
+use Rattle.vkg_plan.specs.Plan.{Plan, Unit as UnitPlan, Empty, Scan, Select, Project, Join, Left, AntiJoin, UnionAll, Distinct}
 use Rattle.vkg_rules.specs.declared.rewrite.Fell.TheVariants as fell
 use Rattle.vkg_conditions.specs.NodeCondition.{condition_of, conditioned}
 use Rattle.vkg_equalities.specs.TermEquality.{node_decided, term_equality}
@@ -15,5 +15,6 @@ equality_is s (Select c p) = refl
 equality_is s (Project es p) = refl
 equality_is s (Join ps c) = refl
 equality_is s (Left p q c) = refl
+equality_is s (AntiJoin p q c) = refl
 equality_is s (UnionAll ps) = refl
 equality_is s (Distinct p) = refl

@@ -5,7 +5,7 @@ use Rattle.vkg_cells.specs.declared.cell.Cell.TheVariants as cell
 use Rattle.vkg_schema.specs.Kinds.{columns_of}
 use Rattle.vkg_expr.specs.Expr.{Expr, Col, Const}
 use Rattle.vkg_plan.specs.Kinds.{Tables}
-use Rattle.vkg_plan.specs.Plan.{Plan, Plans, Unit, Empty, Scan, Select, Project, Join, Left, UnionAll, Distinct, Nil, More}
+use Rattle.vkg_plan.specs.Plan.{Plan, Plans, Unit, Empty, Scan, Select, Project, Join, Left, AntiJoin, UnionAll, Distinct, Nil, More}
 
 -- the flag of a column, and false past the last one
 abbrev pub flag_at : List Bool → ℕ → Bool
@@ -40,6 +40,7 @@ abbrev mutual
   table_columns schema (Project es p) = map (carries (table_columns schema p)) es
   table_columns schema (Join ps c) = flags_beside (columns_of_each schema ps)
   table_columns schema (Left p q c) = table_columns schema p ++ table_columns schema q
+  table_columns schema (AntiJoin p q c) = table_columns schema p
   table_columns schema (UnionAll ps) = common_flags (columns_of_each schema ps)
   table_columns schema (Distinct p) = table_columns schema p
 

@@ -28,9 +28,9 @@ use Rattle.vkg_match.specs.Laws.{FitsHole}
 use Rattle.vkg_match.proofs.Fits.{fits_column}
 use Rattle.vkg_plan.specs.Kinds.{Kinds, Tables, beside_all, checked, side_by_side, kinds_of_each, plan_kinds, width}
 use Rattle.vkg_plan.specs.Laws.{HaveKinds}
-use Rattle.vkg_plan.specs.Plan.{Plan, Plans, Unit as UnitPlan, Empty, Scan, Select, Project, Join, Left, UnionAll, Distinct, Nil, More}
+use Rattle.vkg_plan.specs.Plan.{Plan, Plans, Unit as UnitPlan, Empty, Scan, Select, Project, Join, Left, AntiJoin, UnionAll, Distinct, Nil, More}
 use Rattle.vkg_plan.specs.Rows.{is_alone, left_pairs, one_row, pairs, product, rows_of, rows_of_each}
-use Rattle.vkg_plan.proofs.RowsFit.{beside_is, rows-fit}
+use Rattle.vkg_plan.proofs.RowsFit.{beside_is, first_checked-parts, rows-fit}
 use Rattle.vkg_rules.specs.Parts.{checked-is}
 use Rattle.vkg_shapes.specs.TableRows.{tables_fit}
 use Rattle.vkg_shapes.specs.UnionKinds.{AllKinds, given-union}
@@ -184,6 +184,7 @@ module _ (s : Tables) where
     long (Left p q c) ks e =
         let a = both_given (plan_kinds s p) (plan_kinds s q) ks (kinds-below c (joined (plan_kinds s p) (plan_kinds s q)) ks e) in
         length-append (table_columns s p) (table_columns s q) ∙ (λ i. long p a.0 a.1 i + long q a.2.0 a.2.1 i) ∙ sym (length-append a.0 a.2.0) ∙ ap length a.2.2
+    long (AntiJoin p q c) ks e = long p ks (first_checked-parts c (plan_kinds s p) (plan_kinds s q) ks e).first
     long (UnionAll ps) ks e = long-union ps ks e (given-union s ks ps e)
     long (Distinct p) ks e = long p ks e
 
@@ -254,6 +255,7 @@ module _ (s : Tables) (db : Database) (form : IsWellFormed s) (m : MeetsSchema s
         (side (table_columns s p) (table_columns s q) a.0 (a.0 ++ a.2.0) (rows_of s (Left p q c) db) (long s p a.0 a.1)
         (left-fits (holds c) (flag_at (table_columns s p)) (flag_at (table_columns s q)) a.0 a.2.0 (width s q) (rows_of s p db) (rows_of s q db)
         (rows-fit s db (tables_fit s db m) p a.0 a.1) (cells p a.0 a.1) (cells q a.2.0 a.2.1)))
+    cells (AntiJoin p q c) ks e = recursion_filter (FitsColumns (flag_at (table_columns s p)) ks) (is_alone (holds c) (rows_of s q db)) (rows_of s p db) (cells p ks (first_checked-parts c (plan_kinds s p) (plan_kinds s q) ks e).first)
     cells (UnionAll ps) ks e = union-cells (flag_at (common_flags (columns_of_each s ps))) ks ps (given-union s ks ps e) (λ at h. common-at (columns_of_each s ps) at h)
     cells (Distinct p) ks e = recursion_distinct (FitsColumns (flag_at (table_columns s p)) ks) one_row (rows_of s p db) (cells p ks e)
 

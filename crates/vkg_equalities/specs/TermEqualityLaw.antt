@@ -1,10 +1,11 @@
 -- Its laws: in columns of tables stand cells that verdicts are exact of, and a verdict asks no two terms to be the same.
 use Rattle.std.proofs.Common.{◌≡◌, ◌∙◌, ◌+◌, ◌<◌, ◌≤◌, inl, inr, ℕ, Bool, cond, not, List, [], ◌∷◌, ◌++◌, map, refl, sym, ap, subst, arith}
-use Rattle.std.specs.Prelude.{Option, Some, None, option_and_then, option_map, replicate, ◌&&◌, if◌then◌else◌}
+use Rattle.std.specs.Prelude.{Option, Some, None, is_some, option_and_then, option_map, replicate, ◌&&◌, if◌then◌else◌}
 use Rattle.std.specs.List.{AllByRecursion, filter, list_all}
 use Rattle.vkg_lists.proofs.Bags.{bag_same}
 use Rattle.vkg_lists.proofs.Members.{each_from_recursion, filter_agree_on, recursion_left, recursion_right}
 use Rattle.vkg_lists.proofs.Onto.{both_given, map_given}
+use Rattle.vkg_lists.proofs.Results.{some_then}
 use Rattle.vkg_lists.specs.Options.{joined}
 use Rattle.vkg_cells.specs.declared.cell.Cell.TheVariants as cell
 use Rattle.vkg_cells.specs.declared.cell.SqlType.TheVariants as kind
@@ -17,7 +18,7 @@ use Rattle.vkg_expr.specs.Typing.{is_one}
 use Rattle.vkg_expr.specs.Value.{holds}
 use Rattle.vkg_columns.proofs.Conjuncts.{AreTruths, IsTruth, and_of-kind, conjuncts-kind, holds-and_of, holds-conjuncts}
 use Rattle.vkg_plan.specs.Kinds.{Kinds, Tables, beside_all, checked, kinds_of_each, plan_kinds, width}
-use Rattle.vkg_plan.specs.Plan.{Plan, Plans, Select, Join, Left}
+use Rattle.vkg_plan.specs.Plan.{Plan, Plans, Select, Join, Left, AntiJoin}
 use Rattle.vkg_plan.specs.Rows.{is_alone, left_pairs, pairs, product, rows_of, rows_of_each}
 use Rattle.vkg_plan.proofs.RowsFit.{beside_is, checked_parts}
 use Rattle.vkg_rules.specs.declared.rewrite.Fell.TheVariants as fell
@@ -30,7 +31,7 @@ use Rattle.vkg_equalities.specs.Decided.{decided}
 use Rattle.vkg_equalities.specs.DecidedLaw.{IsRight, alone, count-and_of, decided-right}
 use Rattle.vkg_equalities.specs.TableColumns.{columns_of_each, flag_at, flags_beside, table_columns}
 use Rattle.vkg_equalities.specs.TableColumnsLaw.{CellsFit, FitsColumns, cells, pair-cells, product-cells}
-use Rattle.vkg_equalities.specs.TermEquality.{decided_in, first_changed, node_decided, term_equality}
+use Rattle.vkg_equalities.specs.TermEquality.{condition_columns, condition_kinds, decided_in, first_changed, node_decided, term_equality}
 
 left-less : (a b n : ℕ) → a < b → a + n < b + n
 left-less a b n h = omega (arith, h)
@@ -97,8 +98,8 @@ in-right flags ks c d typed h =
     })
 
 -- over the kinds that the plan has
-node-right : (s : Tables) (p : Plan) (ks : Kinds) (c d : Expr) → plan_kinds s p ≡ Some ks → IsTruth ks c → node_decided s p c ≡ Some d → IsRight (flag_at (table_columns s p)) ks c d
-node-right s p ks c d is typed h = in-right (table_columns s p) ks c d typed (ap (option_and_then (λ l. decided_in (table_columns s p) l c)) (sym is) ∙ h)
+node-right : (s : Tables) (p : Plan) (ks : Kinds) (c d : Expr) → condition_kinds s p ≡ Some ks → IsTruth ks c → node_decided s p c ≡ Some d → IsRight (flag_at (condition_columns s p)) ks c d
+node-right s p ks c d is typed h = in-right (condition_columns s p) ks c d typed (ap (option_and_then (λ l. decided_in (condition_columns s p) l c)) (sym is) ∙ h)
 
 checked-same : (c d : Expr) (o : Option Kinds) (ks : Kinds) → o ≡ Some ks → IsTruth ks c → IsTruth ks d → checked d o ≡ checked c o
 checked-same c d o ks is h g = to d g ∙ sym (to c h)
@@ -176,10 +177,29 @@ module _ (s : Tables) (form : IsWellFormed s) where
         falls = (no_more (weight (Left p q c)), left-less _ _ (plan_equalities s q) (left-less _ _ (plan_equalities s p) (fewer-over a.0 (kinds_or_none s p ++ kinds_or_none s q) c m.0 k r.fewer)));
       })
 
+  anti-lawful : (p q : Plan) (c : Expr) (x : Step) → IsTyped s (AntiJoin p q c) → term_equality s (AntiJoin p q c) ≡ Some x → IsLawful s (AntiJoin p q c) x
+  anti-lawful p q c x typed e =
+      let t : ℕ → Bool = flag_at (table_columns s p ++ table_columns s q) in
+      let o : Option Kinds = joined (plan_kinds s p) (plan_kinds s q) in
+      let first = some_then (λ (ks : Kinds). plan_kinds s p) (checked c o) typed in
+      let a = checked_parts c o (ap is_some first.1) in
+      let b = both_given (plan_kinds s p) (plan_kinds s q) a.0 a.1 in
+      let m = map_given (λ (d : Expr). (AntiJoin p q d, fell.Equalities)) (node_decided s (AntiJoin p q c) c) x e in
+      let r = node-right s (AntiJoin p q c) a.0 c m.0 a.1 a.2 m.1 in
+      let k : kinds_or_none s p ++ kinds_or_none s q ≡ a.0 = (λ i. or_no_kinds (b.1 i) ++ or_no_kinds (b.2.1 i)) ∙ b.2.2 in
+      subst (IsLawful s (AntiJoin p q c)) m.2 (record {
+        kinds = ap (option_and_then (λ (ks : Kinds). plan_kinds s p)) (checked-same c m.0 o a.0 a.1 a.2 r.truth);
+        rows = λ db meets. bag_same (all_alone-on (FitsColumns t a.0) (holds c) (holds m.0) (λ row f. sym (r.same row f)) (rows_of s p db) (rows_of s q db)
+            (subst (λ z. CellsFit t z (pairs (rows_of s p db) (rows_of s q db))) b.2.2
+            (pair-cells s db form meets p (table_columns s q) b.0 b.2.0 (rows_of s q db) b.1 (cells s db form meets p b.0 b.1) (cells s db form meets q b.2.0 b.2.1))));
+        falls = (no_more (weight (AntiJoin p q c)), left-less _ _ (plan_equalities s q) (left-less _ _ (plan_equalities s p) (fewer-over a.0 (kinds_or_none s p ++ kinds_or_none s q) c m.0 k r.fewer)));
+      })
+
   lawful : (p : Plan) (x : Step) → IsTyped s p → term_equality s p ≡ Some x → IsLawful s p x
   lawful (Select c p) x typed e = select-lawful c p x typed e
   lawful (Join ps c) x typed e = join-lawful ps c x typed e
   lawful (Left p q c) x typed e = left-lawful p q c x typed e
+  lawful (AntiJoin p q c) x typed e = anti-lawful p q c x typed e
   lawful _ x typed e = cc
 
 pub term_equality-keeps : KeepsAll term_equality

@@ -8,6 +8,7 @@
 //! - `recognised`: the term that an expression makes, if it has one of the forms that are compared.
 //! - `are_table_columns`: of each column of a plan whether it is a column of a table.
 //! - `decided`: an equality of two such terms over such columns, as its verdict.
+//! - `condition_kinds`, `condition_columns`: the columns over which the condition of a plan's first node is, and which of them are such.
 //! - `TermEquality`: the first conjunct of a condition that is decided, in its place.
 //!
 //! Stands on vkg_match for verdicts, on vkg_rules for rules and their laws, on vkg_columns for conditions, and on vkg_conditions for
@@ -24,4 +25,4 @@ pub use conditions::may_decide;
 pub use deciding::decided;
 pub use recognition::recognised;
 pub use table_columns::{are_table_columns, flag_at};
-pub use term_equality::TermEquality;
+pub use term_equality::{TermEquality, condition_columns, condition_kinds};

@@ -30,6 +30,7 @@ pub fn are_table_columns(alloc: Global, schema: &Schema, plan: &Plan) -> Result<
             flags.append(are_table_columns(alloc, schema, q)?)?;
             Ok(flags)
         }
+        Plan::AntiJoin(p, _, _) => are_table_columns(alloc, schema, p),
         Plan::UnionAll(ps) => in_common(alloc, columns_of_each(alloc, schema, ps.as_slice())?),
         Plan::Distinct(p) => are_table_columns(alloc, schema, p),
     }

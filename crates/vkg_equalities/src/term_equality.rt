@@ -1,15 +1,18 @@
 ghost use Rattle.std.specs.Prelude.{◌≡◌, IfOk, option_and_then, option_map};
+ghost use Rattle.vkg_lists.specs.Options.{joined};
 ghost use Rattle.vkg_expr.specs.Seen.{expr_seen};
+ghost use Rattle.vkg_plan.specs.Kinds.{plan_kinds as kinds_of_plan};
 ghost use Rattle.vkg_plan.specs.Seen.{plan_seen};
 ghost use Rattle.vkg_conditions.specs.NodeCondition.{condition_of};
-ghost use Rattle.vkg_equalities.specs.TermEquality.{node_decided, term_equality};
+ghost use Rattle.vkg_equalities.specs.TermEquality.{condition_columns as columns_of_condition, condition_kinds as kinds_of_condition, node_decided, term_equality};
 ghost use Rattle.vkg_equalities.specs.TermEqualityLaw.{term_equality-keeps, term_equality-falls};
 
 use crate::conditions::may_decide;
 use crate::deciding::decided_in;
 use crate::table_columns::are_table_columns;
 use std::alloc::Global;
-use vkg_base::{Box, Memory};
+use vkg_base::{Box, Items, Memory};
+use vkg_cells::SqlType;
 use vkg_conditions::node_condition::{condition, conditioned, with_condition};
 use vkg_expr::Expr;
 use vkg_plan::{Plan, copy_plan_box, plan_kinds};
@@ -81,9 +84,58 @@ fn of_node(
     if !may_decide(c) {
         return Ok(None);
     }
-    let Some(kinds) = plan_kinds(alloc, plan, schema)? else {
+    let Some(kinds) = condition_kinds(alloc, schema, plan)? else {
         return Ok(None);
     };
-    let flags = are_table_columns(alloc, schema, plan)?;
+    let flags = condition_columns(alloc, schema, plan)?;
     decided_in(alloc, flags.as_slice(), kinds.as_slice(), c)
+}
+
+/// The kinds of the columns over which the condition of a plan's first node is: the plan's own, and of an anti join those of both
+/// its sides.
+#[tactic(auto, using(vkg_rules::proofs::Seen::seen_nodes))]
+pub fn condition_kinds(
+    alloc: Global,
+    schema: &Schema,
+    plan: &Plan,
+) -> Result<Option<Items<SqlType>>, Memory>
+    ensures { IfOk result (λ o. o ≡ kinds_of_condition schema.now (plan_seen plan.now)) }
+{
+    match plan {
+        Plan::AntiJoin(p, q, _) => kinds_of_both(alloc, schema, p, q),
+        _ => plan_kinds(alloc, plan, schema),
+    }
+}
+
+fn kinds_of_both(
+    alloc: Global,
+    schema: &Schema,
+    p: &Plan,
+    q: &Plan,
+) -> Result<Option<Items<SqlType>>, Memory>
+    ensures { IfOk result (λ o. o ≡ joined (kinds_of_plan schema.now (plan_seen p.now)) (kinds_of_plan schema.now (plan_seen q.now))) }
+{
+    let Some(mut kinds) = plan_kinds(alloc, p, schema)? else {
+        return Ok(None);
+    };
+    let Some(more) = plan_kinds(alloc, q, schema)? else {
+        return Ok(None);
+    };
+    kinds.append(more)?;
+    Ok(Some(kinds))
+}
+
+/// Of each of these columns whether all its cells are cells of tables' columns, or NULL.
+#[tactic(auto, using(vkg_rules::proofs::Seen::seen_nodes))]
+pub fn condition_columns(alloc: Global, schema: &Schema, plan: &Plan) -> Result<Items<bool>, Memory>
+    ensures { IfOk result (λ fs. fs ≡ columns_of_condition schema.now (plan_seen plan.now)) }
+{
+    match plan {
+        Plan::AntiJoin(p, q, _) => {
+            let mut flags = are_table_columns(alloc, schema, p)?;
+            flags.append(are_table_columns(alloc, schema, q)?)?;
+            Ok(flags)
+        }
+        _ => are_table_columns(alloc, schema, plan),
+    }
 }

@@ -17,6 +17,7 @@ mod distinct;
 mod feeding;
 mod index;
 mod kept;
+mod meeting;
 mod numbers;
 mod partners;
 mod side;

@@ -9,7 +9,7 @@ use Rattle.vkg_expr.specs.declared.expr.Expr.{Expr as ExprValue}
 use Rattle.vkg_expr.specs.Seen.{expr_seen}
 use Rattle.vkg_plan.specs.declared.plan.Plan.{Plan as PlanValue}
 use Rattle.vkg_plan.specs.Kinds.{Tables, width}
-use Rattle.vkg_plan.specs.Plan.{Plan, Plans, Unit as UnitPlan, Empty, Scan, Select, Project, Join, Left, UnionAll, Distinct, More, Nil, each, plans}
+use Rattle.vkg_plan.specs.Plan.{Plan, Plans, Unit as UnitPlan, Empty, Scan, Select, Project, Join, Left, AntiJoin, UnionAll, Distinct, More, Nil, each, plans}
 use Rattle.vkg_plan.specs.Seen.{plan_seen}
 use Rattle.vkg_rules.specs.declared.rewrite.Fell.TheVariants as fell
 use Rattle.vkg_rules.specs.StepSeen.{plans_seen}
@@ -77,6 +77,7 @@ no-parts (Select c p) n e = refl
 no-parts (Project es p) n e = refl
 no-parts (Join ps c) n e = cc
 no-parts (Left p q c) n e = refl
+no-parts (AntiJoin p q c) n e = refl
 no-parts (UnionAll ps) n e = refl
 no-parts (Distinct p) n e = refl
 

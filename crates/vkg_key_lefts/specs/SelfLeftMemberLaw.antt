@@ -42,7 +42,7 @@ use Rattle.vkg_columns.proofs.PutIn.{put-holds, put-kind, put-value, put_each-ex
 use Rattle.vkg_columns.specs.Columns.{Gives, KeepsKind, at_place, columns_from}
 use Rattle.vkg_plan.proofs.RowsFit.{rows-fit}
 use Rattle.vkg_plan.specs.Kinds.{Kinds, Tables, beside_all, checked, kinds_of_each, plan_kinds, width}
-use Rattle.vkg_plan.specs.Plan.{Plan, Unit as UnitPlan, Empty, Scan, Select, Project, Join, Left, UnionAll, Distinct, each, plans}
+use Rattle.vkg_plan.specs.Plan.{Plan, Unit as UnitPlan, Empty, Scan, Select, Project, Join, Left, AntiJoin, UnionAll, Distinct, each, plans}
 use Rattle.vkg_plan.specs.Rows.{is_alone, pairs, rows_of}
 use Rattle.vkg_rules.specs.declared.rewrite.Fell.TheVariants as fell
 use Rattle.vkg_rules.specs.Measure.{weight, weights_product}
@@ -523,6 +523,7 @@ between-place before (Select c q) ps y i = absurd (Contains-none y i)
 between-place before (Project es q) ps y i = absurd (Contains-none y i)
 between-place before (Join qs c) ps y i = absurd (Contains-none y i)
 between-place before (Left q r c) ps y i = absurd (Contains-none y i)
+between-place before (AntiJoin q r c) ps y i = absurd (Contains-none y i)
 between-place before (UnionAll qs) ps y i = absurd (Contains-none y i)
 between-place before (Distinct q) ps y i = absurd (Contains-none y i)
 

@@ -14,7 +14,7 @@ use Rattle.vkg_expr.specs.Expr.{Expr}
 use Rattle.vkg_expr.specs.Value.{holds}
 use Rattle.vkg_columns.proofs.Conjuncts.{IsTruth}
 use Rattle.vkg_plan.specs.Kinds.{Kinds, Tables, beside_all, checked, kinds_of_each, plan_kinds, side_by_side, width}
-use Rattle.vkg_plan.specs.Plan.{Plan, Plans, Unit as UnitPlan, Empty, Scan, Select, Project, Join, Left, UnionAll, Distinct, Nil, More}
+use Rattle.vkg_plan.specs.Plan.{Plan, Plans, Unit as UnitPlan, Empty, Scan, Select, Project, Join, Left, AntiJoin, UnionAll, Distinct, Nil, More}
 use Rattle.vkg_plan.specs.Rows.{is_alone, left_pairs, pairs, product, rows_of, rows_of_each}
 use Rattle.vkg_plan.proofs.RowsFit.{beside_is, checked_parts, rows-fit}
 use Rattle.vkg_rules.specs.Measure.{kinds_or_none, or_no_kinds}
@@ -113,6 +113,7 @@ module _ (s : Tables) (db : Database) (m : MeetsSchema s db) where
         let l = left-row (holds c) (width s q) (rows_of s p db) (rows_of s q db) row d in
         subst (λ r. HasRow db x (front ++ r)) l.together (more db x front l.left l.rest (has p a.0 a.1 l.left l.member before front w x i))
     has UnitPlan ks e row d before front w x i = absurd (Contains-none x i)
+    has (AntiJoin p q c) ks e row d before front w x i = absurd (Contains-none x i)
     has (Empty ls) ks e row d before front w x i = absurd (Contains-none x i)
     has (Project es p) ks e row d before front w x i = absurd (Contains-none x i)
     has (UnionAll ps) ks e row d before front w x i = absurd (Contains-none x i)
@@ -173,6 +174,7 @@ module _ (s : Tables) where
         let a = both_given (plan_kinds s p) (plan_kinds s q) ks (checked-given c (joined (plan_kinds s p) (plan_kinds s q)) ks e).0 in
         subst (λ z. HasTable s x (before ++ z)) a.2.2 (kinds-more s x before a.0 a.2.0 (among p a.0 a.1 before x i))
     among UnitPlan ks e before x i = absurd (Contains-none x i)
+    among (AntiJoin p q c) ks e before x i = absurd (Contains-none x i)
     among (Empty ls) ks e before x i = absurd (Contains-none x i)
     among (Project es p) ks e before x i = absurd (Contains-none x i)
     among (UnionAll ps) ks e before x i = absurd (Contains-none x i)

@@ -17,7 +17,7 @@ use Rattle.vkg_plan.proofs.Pairs.{pairs-assoc, unit-pairs}
 use Rattle.vkg_plan.proofs.RowsFit.{beside_is, each-fit, product-fit}
 use Rattle.vkg_plan.specs.Kinds.{Kinds, Tables, beside_all, kinds_of_each, plan_kinds, side_by_side, width}
 use Rattle.vkg_plan.specs.Laws.{HaveKinds, TablesFit}
-use Rattle.vkg_plan.specs.Plan.{Plan, Unit as UnitPlan, Empty, Scan, Select, Project, Join, Left, UnionAll, Distinct, plans}
+use Rattle.vkg_plan.specs.Plan.{Plan, Unit as UnitPlan, Empty, Scan, Select, Project, Join, Left, AntiJoin, UnionAll, Distinct, plans}
 use Rattle.vkg_plan.specs.Rows.{pairs, product, rows_of, rows_of_each}
 use Rattle.vkg_keys.specs.Keys.{AreWide}
 use Rattle.vkg_keys.specs.Members.{Place, first_made, first_two, scan_between, scans, widths}
@@ -50,6 +50,7 @@ between-place before (Select e p) ps x c = absurd (Contains-none x c)
 between-place before (Project es p) ps x c = absurd (Contains-none x c)
 between-place before (Join qs e) ps x c = absurd (Contains-none x c)
 between-place before (Left p q e) ps x c = absurd (Contains-none x c)
+between-place before (AntiJoin p q e) ps x c = absurd (Contains-none x c)
 between-place before (UnionAll qs) ps x c = absurd (Contains-none x c)
 between-place before (Distinct p) ps x c = absurd (Contains-none x c)
 

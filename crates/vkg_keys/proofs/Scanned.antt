@@ -2,7 +2,7 @@
 use Rattle.std.proofs.Common.{◌≡◌, ◌∙◌, ℕ, ◌+◌, ◌<◌, ◌≤◌, List, [], ◌∷◌, ◌++◌, append-nil, append_assoc, drop, get_or, length, map, take, refl, sym, ap, add-one, drop-cons}
 use Rattle.std.proofs.lemmas.List.{drop_all, map-append, take_more}
 use Rattle.vkg_plan.specs.declared.plan.Plan.{Plan as PlanValue}
-use Rattle.vkg_plan.specs.Plan.{Plan, Unit as UnitPlan, Empty, Scan, Select, Project, Join, Left, UnionAll, Distinct}
+use Rattle.vkg_plan.specs.Plan.{Plan, Unit as UnitPlan, Empty, Scan, Select, Project, Join, Left, AntiJoin, UnionAll, Distinct}
 use Rattle.vkg_plan.specs.Seen.{plan_seen}
 use Rattle.vkg_keys.specs.declared.scanning.ScanAt.{ScanAt}
 use Rattle.vkg_keys.specs.Members.{scan_between, scans}
@@ -16,6 +16,7 @@ at-place ps i (Select c p) = refl
 at-place ps i (Project es p) = refl
 at-place ps i (Join qs c) = refl
 at-place ps i (Left p q c) = refl
+at-place ps i (AntiJoin p q c) = refl
 at-place ps i (UnionAll qs) = refl
 at-place ps i (Distinct p) = refl
 

@@ -8,10 +8,10 @@ use Rattle.vkg_lists.proofs.Onto.{both_given, first_given}
 use Rattle.vkg_lists.proofs.Results.{some_of}
 use Rattle.vkg_lists.specs.Options.{joined}
 use Rattle.vkg_schema.specs.declared.table.Table.{Table}
-use Rattle.vkg_plan.proofs.RowsFit.{beside_is, checked_is}
+use Rattle.vkg_plan.proofs.RowsFit.{beside_is, checked_is, first_checked-parts}
 use Rattle.vkg_plan.specs.declared.plan.Plan.{Plan as PlanValue}
 use Rattle.vkg_plan.specs.Kinds.{Kinds, Tables, beside_all, kinds_of_each, plan_kinds, side_by_side, width}
-use Rattle.vkg_plan.specs.Plan.{Plan, Plans, Unit as UnitPlan, Empty, Scan, Select, Project, Join, Left, UnionAll, Distinct, Nil, More}
+use Rattle.vkg_plan.specs.Plan.{Plan, Plans, Unit as UnitPlan, Empty, Scan, Select, Project, Join, Left, AntiJoin, UnionAll, Distinct, Nil, More}
 use Rattle.vkg_plan.specs.Seen.{plan_seen}
 use Rattle.vkg_rules.specs.Parts.{AreTyped, typed_more}
 use Rattle.vkg_rules.specs.Steps.{IsTyped}
@@ -40,6 +40,7 @@ module _ (s : Tables) where
     of-kinds (Left p q c) ks e =
         let b = both_given (plan_kinds s p) (plan_kinds s q) ks (checked_is c (joined (plan_kinds s p) (plan_kinds s q)) ks e) in
         (λ i. of-kinds p b.0 b.1 i + of-kinds q b.2.0 b.2.1 i) ∙ sym (length-append b.0 b.2.0) ∙ ap length b.2.2
+    of-kinds (AntiJoin p q c) ks e = of-kinds p ks (first_checked-parts c (plan_kinds s p) (plan_kinds s q) ks e).first
     of-kinds (UnionAll Nil) ks e = cc
     of-kinds (UnionAll (More p ps)) ks e = of-kinds p ks (given-union s ks (More p ps) e).0
     of-kinds (Distinct p) ks e = of-kinds p ks e

@@ -8,7 +8,7 @@ use Rattle.vkg_lists.proofs.Onto.{map_lacking}
 use Rattle.vkg_expr.specs.Expr.{Expr}
 use Rattle.vkg_plan.specs.declared.plan.Plan.{Plan as PlanValue}
 use Rattle.vkg_plan.specs.Kinds.{Tables, width}
-use Rattle.vkg_plan.specs.Plan.{Plan, Plans, Unit as UnitPlan, Empty, Scan, Select, Project, Join, Left, UnionAll, Distinct, More, Nil}
+use Rattle.vkg_plan.specs.Plan.{Plan, Plans, Unit as UnitPlan, Empty, Scan, Select, Project, Join, Left, AntiJoin, UnionAll, Distinct, More, Nil}
 use Rattle.vkg_plan.specs.Seen.{plan_seen}
 use Rattle.vkg_rules.specs.declared.rewrite.Fell.TheVariants as fell
 use Rattle.vkg_rules.specs.StepSeen.{plans_seen}
@@ -75,6 +75,7 @@ no_parts s n k (Select c p) e = refl
 no_parts s n k (Project es p) e = cc
 no_parts s n k (Join ps c) e = refl
 no_parts s n k (Left p q c) e = refl
+no_parts s n k (AntiJoin p q c) e = refl
 no_parts s n k (UnionAll ps) e = refl
 no_parts s n k (Distinct p) e = refl
 

@@ -6,7 +6,7 @@ use Rattle.vkg_columns.specs.Columns.{at_place}
 use Rattle.vkg_expr.specs.Expr.{Expr}
 use Rattle.vkg_expr.specs.Strict.{put}
 use Rattle.vkg_plan.specs.Kinds.{Tables, width}
-use Rattle.vkg_plan.specs.Plan.{Plan, Plans, Unit as UnitPlan, Empty, Scan, Select, Project, Join, Left, UnionAll, Distinct, More, Nil}
+use Rattle.vkg_plan.specs.Plan.{Plan, Plans, Unit as UnitPlan, Empty, Scan, Select, Project, Join, Left, AntiJoin, UnionAll, Distinct, More, Nil}
 use Rattle.vkg_rules.specs.declared.rewrite.Fell.TheVariants as fell
 use Rattle.vkg_rules.specs.Steps.{Step}
 use Rattle.vkg_lifts.specs.BelowProjects.{below, exprs_above, exprs_of_left, exprs_of_right, first_below, opened}
@@ -45,6 +45,7 @@ module _ (s : Tables) where
   first-below n (More (Select c p) ps) = later (Select c p) (first_below ps) (lifted s (n + width s (Select c p)) ps) (first-below (n + width s (Select c p)) ps)
   first-below n (More (Join qs c) ps) = later (Join qs c) (first_below ps) (lifted s (n + width s (Join qs c)) ps) (first-below (n + width s (Join qs c)) ps)
   first-below n (More (Left p q c) ps) = later (Left p q c) (first_below ps) (lifted s (n + width s (Left p q c)) ps) (first-below (n + width s (Left p q c)) ps)
+  first-below n (More (AntiJoin p q c) ps) = later (AntiJoin p q c) (first_below ps) (lifted s (n + width s (AntiJoin p q c)) ps) (first-below (n + width s (AntiJoin p q c)) ps)
   first-below n (More (UnionAll qs) ps) = later (UnionAll qs) (first_below ps) (lifted s (n + width s (UnionAll qs)) ps) (first-below (n + width s (UnionAll qs)) ps)
   first-below n (More (Distinct p) ps) = later (Distinct p) (first_below ps) (lifted s (n + width s (Distinct p)) ps) (first-below (n + width s (Distinct p)) ps)
 
@@ -64,6 +65,7 @@ module _ (s : Tables) where
   either-side (Select d p) q c = right-side (Select d p) q c
   either-side (Join ps d) q c = right-side (Join ps d) q c
   either-side (Left p r d) q c = right-side (Left p r d) q c
+  either-side (AntiJoin p r d) q c = right-side (AntiJoin p r d) q c
   either-side (UnionAll ps) q c = right-side (UnionAll ps) q c
   either-side (Distinct p) q c = right-side (Distinct p) q c
 

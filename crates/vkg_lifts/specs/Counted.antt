@@ -2,7 +2,7 @@
 use Rattle.std.specs.Prelude.{ℕ, ◌+◌, length}
 use Rattle.vkg_schema.specs.Kinds.{columns_of}
 use Rattle.vkg_plan.specs.Kinds.{Tables}
-use Rattle.vkg_plan.specs.Plan.{Plan, Plans, Unit, Empty, Scan, Select, Project, Join, Left, UnionAll, Distinct, Nil, More}
+use Rattle.vkg_plan.specs.Plan.{Plan, Plans, Unit, Empty, Scan, Select, Project, Join, Left, AntiJoin, UnionAll, Distinct, Nil, More}
 
 abbrev mutual
   pub counted : Tables → Plan → ℕ
@@ -13,6 +13,7 @@ abbrev mutual
   counted schema (Project es p) = length es
   counted schema (Join ps c) = counted_beside schema ps
   counted schema (Left p q c) = counted schema p + counted schema q
+  counted schema (AntiJoin p q c) = counted schema p
   counted schema (UnionAll Nil) = 0
   counted schema (UnionAll (More p ps)) = counted schema p
   counted schema (Distinct p) = counted schema p

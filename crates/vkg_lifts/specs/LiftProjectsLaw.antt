@@ -46,7 +46,7 @@ left-rows w k es c ls rs within ll lr =
     k k (λ l e. left-both w k es within l (replicate k cell.Null) e (length-replicate k cell.Null)) ls rs ll lr
 
 -- the expressions with a row before them
-right-both : (n w : ℕ) (es : List Expr) → AreWithin w es → (l r : Row) → length l ≡ n → length r ≡ w → l ++ values_of (exprs es) r ≡ values_of (exprs (in_between n w 0 es)) (l ++ r)
+pub right-both : (n w : ℕ) (es : List Expr) → AreWithin w es → (l r : Row) → length l ≡ n → length r ≡ w → l ++ values_of (exprs es) r ≡ values_of (exprs (in_between n w 0 es)) (l ++ r)
 right-both n w es within l r ll lr =
     ap (λ z. l ++ z) (sym (append-nil (values_of (exprs es) r)))
     ∙ sym (between-values l r [] n w 0 es ll lr refl within)

@@ -17,3 +17,5 @@ mod taken_out;
 mod widths;
 
 pub use lift_projects::LiftProjects;
+pub use parts::exprs_between;
+pub use widths::width;

@@ -43,6 +43,7 @@ fn count(schema: &Schema, p: &Plan) -> Result<usize, Memory>
         Plan::Project(es, _) => Ok(es.len()),
         Plan::Join(ps, _) => count_beside(schema, ps.as_slice()),
         Plan::Left(p, q, _) => sum(count(schema, p)?, count(schema, q)?),
+        Plan::AntiJoin(p, _, _) => count(schema, p),
         Plan::UnionAll(ps) => count_first(schema, ps.as_slice()),
         Plan::Distinct(p) => count(schema, p),
     }

@@ -10,7 +10,7 @@ use Rattle.vkg_expr.specs.Expr.{Expr}
 use Rattle.vkg_expr.specs.Seen.{expr_seen}
 use Rattle.vkg_plan.specs.declared.plan.Plan.{Plan as PlanValue}
 use Rattle.vkg_plan.specs.Kinds.{Kinds, Tables, plan_kinds, width}
-use Rattle.vkg_plan.specs.Plan.{Plan, Plans, Unit as UnitPlan, Empty, Scan, Select, Project, Join, Left, UnionAll, Distinct, More, Nil}
+use Rattle.vkg_plan.specs.Plan.{Plan, Plans, Unit as UnitPlan, Empty, Scan, Select, Project, Join, Left, AntiJoin, UnionAll, Distinct, More, Nil}
 use Rattle.vkg_plan.specs.Seen.{plan_seen}
 use Rattle.vkg_rules.specs.declared.rewrite.Fell.TheVariants as fell
 use Rattle.vkg_rules.specs.Measure.{kinds_or_none, or_no_kinds}
@@ -77,6 +77,7 @@ no_part (Select c p) n e = cc
 no_part (Project es p) n e = refl
 no_part (Join ps c) n e = refl
 no_part (Left p q c) n e = refl
+no_part (AntiJoin p q c) n e = refl
 no_part (UnionAll ps) n e = refl
 no_part (Distinct p) n e = refl
 

@@ -4,7 +4,7 @@ use Rattle.std.specs.Prelude.{option_map}
 use Rattle.vkg_expr.specs.Expr.{Expr}
 use Rattle.vkg_expr.specs.Logic.{and_then}
 use Rattle.vkg_plan.specs.Kinds.{Tables, width}
-use Rattle.vkg_plan.specs.Plan.{Plan, Plans, Unit as UnitPlan, Empty, Scan, Select, Project, Join, Left, UnionAll, Distinct, More, Nil}
+use Rattle.vkg_plan.specs.Plan.{Plan, Plans, Unit as UnitPlan, Empty, Scan, Select, Project, Join, Left, AntiJoin, UnionAll, Distinct, More, Nil}
 use Rattle.vkg_rules.specs.declared.rewrite.Fell.TheVariants as fell
 use Rattle.vkg_rules.specs.Steps.{Step}
 use Rattle.vkg_joins.specs.JoinInJoin.{Members, behind}
@@ -39,6 +39,7 @@ module _ (s : Tables) where
   first-below n (More (Project es p) ps) = later (Project es p) (first_below ps) (unselected s (n + width s (Project es p)) ps) (first-below (n + width s (Project es p)) ps)
   first-below n (More (Join qs c) ps) = later (Join qs c) (first_below ps) (unselected s (n + width s (Join qs c)) ps) (first-below (n + width s (Join qs c)) ps)
   first-below n (More (Left p q c) ps) = later (Left p q c) (first_below ps) (unselected s (n + width s (Left p q c)) ps) (first-below (n + width s (Left p q c)) ps)
+  first-below n (More (AntiJoin p q c) ps) = later (AntiJoin p q c) (first_below ps) (unselected s (n + width s (AntiJoin p q c)) ps) (first-below (n + width s (AntiJoin p q c)) ps)
   first-below n (More (UnionAll qs) ps) = later (UnionAll qs) (first_below ps) (unselected s (n + width s (UnionAll qs)) ps) (first-below (n + width s (UnionAll qs)) ps)
   first-below n (More (Distinct p) ps) = later (Distinct p) (first_below ps) (unselected s (n + width s (Distinct p)) ps) (first-below (n + width s (Distinct p)) ps)
 

@@ -169,7 +169,7 @@ joined-falls s ps c x e =
 -- ---- the right side of a left join
 
 module _ (s : Tables) where
-  right-kinds : (p q : Plan) (c d : Expr) → IsTyped s (Left p (Select d q) c) → plan_kinds s (Left p q (and_then (moved (width s p) d) c)) ≡ plan_kinds s (Left p (Select d q) c)
+  pub right-kinds : (p q : Plan) (c d : Expr) → IsTyped s (Left p (Select d q) c) → plan_kinds s (Left p q (and_then (moved (width s p) d) c)) ≡ plan_kinds s (Left p (Select d q) c)
   right-kinds p q c d t =
       let a = checked_parts c (joined (plan_kinds s p) (plan_kinds s (Select d q))) t in
       let b = both_given (plan_kinds s p) (plan_kinds s (Select d q)) a.0 a.1 in

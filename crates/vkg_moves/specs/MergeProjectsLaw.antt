@@ -14,7 +14,7 @@ use Rattle.vkg_expr.specs.Value.{values_of}
 use Rattle.vkg_columns.specs.Columns.{at_place, columns_from}
 use Rattle.vkg_plan.proofs.RowsFit.{rows-fit}
 use Rattle.vkg_plan.specs.Kinds.{Tables, plan_kinds, width}
-use Rattle.vkg_plan.specs.Plan.{Plan, Unit as UnitPlan, Empty, Scan, Select, Project, Join, Left, UnionAll, Distinct}
+use Rattle.vkg_plan.specs.Plan.{Plan, Unit as UnitPlan, Empty, Scan, Select, Project, Join, Left, AntiJoin, UnionAll, Distinct}
 use Rattle.vkg_plan.specs.Rows.{rows_of}
 use Rattle.vkg_rules.specs.declared.rewrite.Fell.TheVariants as fell
 use Rattle.vkg_rules.specs.Steps.{Falls, FallsAll, IsTyped, Keeps, KeepsAll, Step}
@@ -81,6 +81,7 @@ module _ (s : Tables) where
   projected-keeps es (Select c p) x t e = in_place-keeps es (Select c p) x t e
   projected-keeps es (Join ps c) x t e = in_place-keeps es (Join ps c) x t e
   projected-keeps es (Left p q c) x t e = in_place-keeps es (Left p q c) x t e
+  projected-keeps es (AntiJoin p q c) x t e = in_place-keeps es (AntiJoin p q c) x t e
   projected-keeps es (UnionAll ps) x t e = in_place-keeps es (UnionAll ps) x t e
   projected-keeps es (Distinct p) x t e = in_place-keeps es (Distinct p) x t e
 
@@ -97,6 +98,7 @@ module _ (s : Tables) where
   projected-falls es (Select c p) x e = in_place-falls es (Select c p) x e
   projected-falls es (Join ps c) x e = in_place-falls es (Join ps c) x e
   projected-falls es (Left p q c) x e = in_place-falls es (Left p q c) x e
+  projected-falls es (AntiJoin p q c) x e = in_place-falls es (AntiJoin p q c) x e
   projected-falls es (UnionAll ps) x e = in_place-falls es (UnionAll ps) x e
   projected-falls es (Distinct p) x e = in_place-falls es (Distinct p) x e
 

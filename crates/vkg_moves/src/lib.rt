@@ -17,7 +17,7 @@
 
 mod answers;
 mod columns;
-mod kinds;
+pub mod kinds;
 mod left_to_join;
 mod merge_projects;
 mod merge_selects;
@@ -27,4 +27,4 @@ mod unknown;
 
 pub use left_to_join::LeftToJoin;
 pub use merge_projects::MergeProjects;
-pub use merge_selects::MergeSelects;
+pub use merge_selects::{MergeSelects, part_behind};

@@ -218,7 +218,7 @@ fn has_select(ps: &[Plan]) -> bool
 
 /// What a selection selects from, and its condition, whose columns are moved behind those before it.
 #[tactic(auto, using(vkg_rules::proofs::Seen::seen_nodes))]
-fn part_behind(
+pub fn part_behind(
     alloc: Global,
     schema: &Schema,
     p: &Plan,

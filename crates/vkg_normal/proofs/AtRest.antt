@@ -38,7 +38,7 @@ use Rattle.vkg_shapes.specs.SelectTrue.{select_true}
 use Rattle.vkg_spreads.specs.DistributeUnion.{distribute_union}
 use Rattle.vkg_unions.specs.EqualMembers.{equal_members}
 use Rattle.vkg_unique.specs.UnusedLeft.{is_over_first, keys_of, ties_key, unused_left, without_right}
-use Rattle.vkg_normal.specs.NormalForm.{conditions, distincts, first_rules, flatten, key_joins, left_joins, moves, removals}
+use Rattle.vkg_normal.specs.NormalForm.{anti_joins, conditions, distincts, first_rules, flatten, key_joins, left_joins, moves, removals}
 use Rattle.vkg_normal.specs.Resting.{may_rest}
 use Rattle.vkg_normal.proofs.Flags.{left-flags}
 
@@ -55,7 +55,7 @@ pub record NoneOf (s : Tables) (p : Plan) : Type 0 where
   pub null : simplify_null s p ≡ None
 
 none_of : (s : Tables) (p : Plan) → first_rules s p ≡ None → NoneOf s p
-unfolding first_rules moves removals left_joins conditions
+unfolding first_rules moves removals left_joins conditions anti_joins
 none_of s p e =
     let a = neither (select_true s p) _ e in
     let b = neither (false_condition s p) _ a.1 in
@@ -65,12 +65,13 @@ none_of s p e =
     let h = neither (propagate_empty s p) _ m.1 in
     let f = neither (flatten s p) _ h.1 in
     let u = neither (distribute_union s p) _ f.1 in
-    let v = neither (removals s p) (conditions s p) u.1 in
+    let v = neither (removals s p) _ u.1 in
+    let z = neither (conditions s p) (anti_joins s p) v.1 in
     let d = neither (distincts s p) _ v.0 in
     let j = neither (key_joins s p) (left_joins s p) d.1 in
     let w = neither (left_to_join s p) _ j.1 in
     let x = neither (equal_members s p) (unused_left s p) w.1 in
-    let t = neither (term_equality s p) _ v.1 in
+    let t = neither (term_equality s p) _ z.0 in
     let y = neither (simplify_condition s p) (simplify_null s p) t.1 in
     record {
       never = b.0;
@@ -86,14 +87,14 @@ none_of s p e =
 -- ---- of a left join
 
 left-none : (s : Tables) (p q : Plan) (c : Expr) → NoneOf s (Left p q c) → term_equality s (Left p q c) ≡ None → distribute_union s (Left p q c) ≡ None → first_rules s (Left p q c) ≡ None
-unfolding first_rules moves flatten removals distincts key_joins left_joins conditions
+unfolding first_rules moves flatten removals distincts key_joins left_joins conditions anti_joins
 left-none s p q c n t u =
-    λ i. option_or (n.never i) (option_or (option_or (n.selects i) (n.lifts i)) (option_or (n.empty i) (option_or (u i) (option_or (t i) (option_or (n.condition i) (n.null i))))))
+    λ i. option_or (n.never i) (option_or (option_or (n.selects i) (n.lifts i)) (option_or (n.empty i) (option_or (u i) (option_or (option_or (t i) (option_or (n.condition i) (n.null i))) None))))
 
 project-none : (s : Tables) (es : List Expr) (p : Plan) → NoneOf s (Project es p) → parent_join s (Project es p) ≡ None → distribute_union s (Project es p) ≡ None → first_rules s (Project es p) ≡ None
-unfolding first_rules moves flatten removals distincts key_joins left_joins conditions
+unfolding first_rules moves flatten removals distincts key_joins left_joins conditions anti_joins
 project-none s es p n j u =
-    λ i. option_or (option_or (n.projects i) (n.lifts i)) (option_or (n.empty i) (option_or (u i) (option_or (option_or (j i) (n.unused i)) (option_or (n.condition i) (n.null i)))))
+    λ i. option_or (option_or (n.projects i) (n.lifts i)) (option_or (n.empty i) (option_or (u i) (option_or (option_or (j i) (n.unused i)) (option_or (option_or (n.condition i) (n.null i)) None))))
 
 -- ---- what depends on the number of columns alone, and on the rest of the node
 

@@ -7,9 +7,9 @@ use Rattle.std.proofs.lemmas.Option.{same_Some}
 use Rattle.vkg_lists.proofs.Onto.{both_given, first_given}
 use Rattle.vkg_lists.specs.Options.{joined}
 use Rattle.vkg_schema.specs.declared.table.Table.{Table}
-use Rattle.vkg_plan.proofs.RowsFit.{beside_is, checked_is}
+use Rattle.vkg_plan.proofs.RowsFit.{beside_is, checked_is, first_checked-parts}
 use Rattle.vkg_plan.specs.Kinds.{Kinds, Tables, beside_all, kinds_of_each, plan_kinds, side_by_side}
-use Rattle.vkg_plan.specs.Plan.{Plan, Plans, Unit as UnitPlan, Empty, Scan, Select, Project, Join, Left, UnionAll, Distinct, Nil, More}
+use Rattle.vkg_plan.specs.Plan.{Plan, Plans, Unit as UnitPlan, Empty, Scan, Select, Project, Join, Left, AntiJoin, UnionAll, Distinct, Nil, More}
 use Rattle.vkg_shapes.specs.UnionKinds.{given-union}
 use Rattle.vkg_lifts.specs.InBetween.{kinds-long}
 use Rattle.vkg_lifts.specs.LiftedKinds.{project-kinds}
@@ -38,6 +38,7 @@ module _ (s : Tables) where
         let b = both_given (plan_kinds s p) (plan_kinds s q) ks (checked_is c (joined (plan_kinds s p) (plan_kinds s q)) ks e) in
         length-map (known_columns s p ++ known_columns s q) (λ x. false)
         ∙ both-long (known_columns s p) (known_columns s q) b.0 b.2.0 (flags-long p b.0 b.1) (flags-long q b.2.0 b.2.1) ∙ ap length b.2.2
+    flags-long (AntiJoin p q c) ks e = length-map (known_columns s p) (λ x. false) ∙ flags-long p ks (first_checked-parts c (plan_kinds s p) (plan_kinds s q) ks e).first
     flags-long (UnionAll Nil) ks e = cc
     flags-long (UnionAll (More p ps)) ks e = length-map (known_columns s p) (λ x. false) ∙ flags-long p ks (given-union s ks (More p ps) e).0
     flags-long (Distinct p) ks e = length-map (known_columns s p) (λ x. false) ∙ flags-long p ks e

@@ -4,6 +4,10 @@ use Rattle.vkg_plan.specs.Plan.{Plan}
 use Rattle.vkg_rules.specs.Either.{either, either-falls, either-keeps}
 use Rattle.vkg_rules.specs.Steps.{FallsAll, KeepsAll, Rule}
 use Rattle.vkg_chains.specs.Ends.{IsEndOf, Settled, end_of}
+use Rattle.vkg_antis.specs.AntiNothing.{anti_nothing}
+use Rattle.vkg_antis.specs.AntiNothingLaw.{anti_nothing-falls, anti_nothing-keeps}
+use Rattle.vkg_antis.specs.AntiRight.{anti_right}
+use Rattle.vkg_antis.specs.AntiRightLaw.{anti_right-falls, anti_right-keeps}
 use Rattle.vkg_conditions.specs.SimplifyCondition.{simplify_condition}
 use Rattle.vkg_conditions.specs.SimplifyConditionLaw.{simplify_condition-falls, simplify_condition-keeps}
 use Rattle.vkg_equalities.specs.TermEquality.{term_equality}
@@ -89,6 +93,10 @@ removals = either distincts (either key_joins left_joins)
 unfoldable pub conditions : Rule
 conditions = either term_equality (either simplify_condition simplify_null)
 
+-- an anti join goes that takes nothing away, and what stands on the right of one is said by its condition
+unfoldable pub anti_joins : Rule
+anti_joins = either anti_nothing anti_right
+
 -- the rules that are taken to their end first, in the order in which they are asked: the first that applies to a plan is taken
 unfoldable pub first_rules : Rule
 first_rules =
@@ -99,7 +107,8 @@ first_rules =
     (either flatten
     (either distribute_union
     (either removals
-    conditions))))))
+    (either conditions
+    anti_joins)))))))
 
 -- rules of our own: on what is sure of an expression, and on left joins over keys
 unfoldable pub own_rules : Rule
@@ -198,6 +207,14 @@ conditions-fall =
     either-falls term_equality _ term_equality-falls
     (either-falls simplify_condition simplify_null simplify_condition-falls simplify_null-falls)
 
+anti_joins-keep : KeepsAll anti_joins
+unfolding anti_joins
+anti_joins-keep = either-keeps anti_nothing anti_right anti_nothing-keeps anti_right-keeps
+
+anti_joins-fall : FallsAll anti_joins
+unfolding anti_joins
+anti_joins-fall = either-falls anti_nothing anti_right anti_nothing-falls anti_right-falls
+
 pub first_rules-keep : KeepsAll first_rules
 unfolding first_rules
 first_rules-keep =
@@ -207,7 +224,8 @@ first_rules-keep =
     (either-keeps propagate_empty _ propagate_empty-keeps
     (either-keeps flatten _ flatten-keeps
     (either-keeps distribute_union _ distribute_union-keeps
-    (either-keeps removals conditions removals-keep conditions-keep))))))
+    (either-keeps removals _ removals-keep
+    (either-keeps conditions anti_joins conditions-keep anti_joins-keep)))))))
 
 pub first_rules-fall : FallsAll first_rules
 unfolding first_rules
@@ -218,7 +236,8 @@ first_rules-fall =
     (either-falls propagate_empty _ propagate_empty-falls
     (either-falls flatten _ flatten-falls
     (either-falls distribute_union _ distribute_union-falls
-    (either-falls removals conditions removals-fall conditions-fall))))))
+    (either-falls removals _ removals-fall
+    (either-falls conditions anti_joins conditions-fall anti_joins-fall)))))))
 
 own_rules-keep : KeepsAll own_rules
 unfolding own_rules

@@ -1,7 +1,8 @@
 // The rules, in the order in which they are asked.
 ghost use Rattle.std.specs.Prelude.{◌≡◌};
-ghost use Rattle.vkg_normal.specs.NormalForm.{all_rules, conditions as all_conditions, distincts as all_distincts, first_rules as all_first_rules, flatten as all_flattening, key_joins as all_key_joins, left_joins as all_left_joins, moves as all_moves, own_rules as all_own_rules, removals as all_removals};
+ghost use Rattle.vkg_normal.specs.NormalForm.{all_rules, anti_joins as all_anti_joins, conditions as all_conditions, distincts as all_distincts, first_rules as all_first_rules, flatten as all_flattening, key_joins as all_key_joins, left_joins as all_left_joins, moves as all_moves, own_rules as all_own_rules, removals as all_removals};
 
+use vkg_antis::{AntiNothing, AntiRight};
 use vkg_conditions::SimplifyCondition;
 use vkg_equalities::TermEquality;
 use vkg_joins::JoinInJoin;
@@ -33,7 +34,7 @@ pub type AfterMoves = Either<PropagateEmpty, Either<Flatten, AfterFlatten>>;
 pub type Flatten = Either<JoinInJoin, Either<FewMembers, FlatUnion>>;
 
 /// The rules that are asked behind those.
-pub type AfterFlatten = Either<DistributeUnion, Either<Removals, Conditions>>;
+pub type AfterFlatten = Either<DistributeUnion, Either<Removals, Either<Conditions, AntiJoins>>>;
 
 /// The rules by which a distinct, a table in a join, or a left join goes.
 pub type Removals = Either<Distincts, Either<KeyJoins, LeftJoins>>;
@@ -49,6 +50,9 @@ pub type LeftJoins = Either<LeftToJoin, Either<EqualMembers, UnusedLeft>>;
 
 /// The rules on conditions: equalities of terms, what is decided, and tests for NULL.
 pub type Conditions = Either<TermEquality, Either<SimplifyCondition, SimplifyNull>>;
+
+/// The rules on anti joins.
+pub type AntiJoins = Either<AntiNothing, AntiRight>;
 
 /// Rules of our own: on what is sure of an expression, and on left joins over keys.
 pub type OwnRules = Either<
@@ -78,7 +82,9 @@ pub fn first_rules() -> First
     let flatten = flatten();
     let removals = removals();
     let conditions = conditions();
-    let fewer = or_else(removals, conditions);
+    let anti_joins = anti_joins();
+    let last = or_else(conditions, anti_joins);
+    let fewer = or_else(removals, last);
     let unions = or_else(DistributeUnion, fewer);
     let flat = or_else(flatten, unions);
     let empty = or_else(PropagateEmpty, flat);
@@ -142,6 +148,13 @@ fn conditions() -> Conditions
 {
     let simpler = or_else(SimplifyCondition, SimplifyNull);
     or_else(TermEquality, simpler)
+}
+
+#[tactic(auto, unfolding(crate::specs::NormalForm::anti_joins))]
+fn anti_joins() -> AntiJoins
+    ensures { ⟦<AntiJoins as Rewrite>⟧.becomes result ≡ all_anti_joins }
+{
+    or_else(AntiNothing, AntiRight)
 }
 
 #[tactic(auto, unfolding(crate::specs::NormalForm::own_rules))]

@@ -5,7 +5,7 @@ use Rattle.std.specs.Option.{option_or}
 use Rattle.vkg_expr.specs.Expr.{Expr}
 use Rattle.vkg_expr.specs.Places.{first_place}
 use Rattle.vkg_plan.specs.Kinds.{Tables}
-use Rattle.vkg_plan.specs.Plan.{Plan, Unit as UnitPlan, Empty, Scan, Select, Project, Join, Left, UnionAll, Distinct}
+use Rattle.vkg_plan.specs.Plan.{Plan, Unit as UnitPlan, Empty, Scan, Select, Project, Join, Left, AntiJoin, UnionAll, Distinct}
 use Rattle.vkg_rules.specs.declared.rewrite.Fell.TheVariants as fell
 use Rattle.vkg_rules.specs.Steps.{Step}
 use Rattle.vkg_conditions.specs.Cases.{smaller}
@@ -37,5 +37,6 @@ null_is s (Select c p) h = all-cases (λ d. Select d p) c (own_known s (Select c
 null_is s (Project es p) h = cc
 null_is s (Join ps c) h = all-cases (Join ps) c (own_known s (Join ps c))
 null_is s (Left p q c) h = all-cases (Left p q) c (own_known s (Left p q c))
+null_is s (AntiJoin p q c) h = all-cases (AntiJoin p q) c (own_known s (AntiJoin p q c))
 null_is s (UnionAll ps) h = cc
 null_is s (Distinct p) h = cc

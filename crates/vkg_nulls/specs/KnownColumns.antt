@@ -2,7 +2,7 @@
 use Rattle.std.specs.Prelude.{Bool, false, List, [], ◌++◌, map}
 use Rattle.vkg_schema.specs.Kinds.{columns_of}
 use Rattle.vkg_plan.specs.Kinds.{Tables}
-use Rattle.vkg_plan.specs.Plan.{Plan, Plans, Unit, Empty, Scan, Select, Project, Join, Left, UnionAll, Distinct, Nil, More}
+use Rattle.vkg_plan.specs.Plan.{Plan, Plans, Unit, Empty, Scan, Select, Project, Join, Left, AntiJoin, UnionAll, Distinct, Nil, More}
 
 -- as many columns of which it is not said
 abbrev pub unsaid : {A : Type 0} → List A → List Bool
@@ -19,6 +19,7 @@ abbrev mutual
   known_columns schema (Project es p) = unsaid es
   known_columns schema (Join ps c) = known_beside schema ps
   known_columns schema (Left p q c) = unsaid (known_columns schema p ++ known_columns schema q)
+  known_columns schema (AntiJoin p q c) = unsaid (known_columns schema p)
   known_columns schema (UnionAll Nil) = []
   known_columns schema (UnionAll (More p ps)) = unsaid (known_columns schema p)
   known_columns schema (Distinct p) = unsaid (known_columns schema p)
@@ -34,4 +35,5 @@ own_known schema (Select c p) = known_columns schema p
 own_known schema (Project es p) = known_columns schema p
 own_known schema (Join ps c) = known_beside schema ps
 own_known schema (Left p q c) = known_columns schema p ++ known_columns schema q
+own_known schema (AntiJoin p q c) = known_columns schema p ++ known_columns schema q
 own_known schema p = []

@@ -23,9 +23,9 @@ use Rattle.vkg_expr.specs.Typing.{kind_of, kinds_of, same_kind}
 use Rattle.vkg_expr.specs.Value.{holds}
 use Rattle.vkg_plan.specs.Kinds.{Kinds, Tables, alike, beside_all, checked, side_by_side, kinds_of_each, plan_kinds}
 use Rattle.vkg_plan.specs.Laws.{HaveKinds}
-use Rattle.vkg_plan.specs.Plan.{Plan, Plans, Unit as UnitPlan, Empty, Scan, Select, Project, Join, Left, UnionAll, Distinct, Nil, More}
+use Rattle.vkg_plan.specs.Plan.{Plan, Plans, Unit as UnitPlan, Empty, Scan, Select, Project, Join, Left, AntiJoin, UnionAll, Distinct, Nil, More}
 use Rattle.vkg_plan.specs.Rows.{pairs, product, rows_of, rows_of_each}
-use Rattle.vkg_plan.proofs.RowsFit.{beside_is, rows-fit}
+use Rattle.vkg_plan.proofs.RowsFit.{beside_is, first_checked-parts, rows-fit}
 use Rattle.vkg_rules.specs.Parts.{checked-is}
 use Rattle.vkg_shapes.specs.TableRows.{tables_fit}
 use Rattle.vkg_conditions.specs.NodesLaw.{own_kinds, own_rows}
@@ -124,6 +124,7 @@ module _ (s : Tables) where
         let a = both_given (plan_kinds s p) (plan_kinds s q) ks (kinds-below c (joined (plan_kinds s p) (plan_kinds s q)) ks e) in
         length-map (known_columns s p ++ known_columns s q) (λ x. false)
         ∙ both-long (known_columns s p) (known_columns s q) a.0 a.2.0 (long p a.0 a.1) (long q a.2.0 a.2.1) ∙ ap length a.2.2
+    long (AntiJoin p q c) ks e = length-map (known_columns s p) (λ x. false) ∙ long p ks (first_checked-parts c (plan_kinds s p) (plan_kinds s q) ks e).first
     long (UnionAll Nil) ks e = cc
     long (UnionAll (More p ps)) ks e = length-map (known_columns s p) (λ x. false) ∙ long p ks (first-alike (plan_kinds s p) (kinds_of_each s ps) ks e)
     long (Distinct p) ks e = length-map (known_columns s p) (λ x. false) ∙ long p ks e
@@ -152,6 +153,7 @@ module _ (s : Tables) (db : Database) (m : MeetsSchema s db) where
         let a = beside_is (kinds_of_each s ps) ks (kinds-below c (beside_all (kinds_of_each s ps)) ks e) in
         recursion_filter (HasKnown (known_beside s ps)) (holds c) (product (rows_of_each s ps db)) (product-known ps a.0 a.1)
     known (Left p q c) ks e = open-rows (Left p q c) (known_columns s p ++ known_columns s q) ks (long s (Left p q c) ks e) e
+    known (AntiJoin p q c) ks e = open-rows (AntiJoin p q c) (known_columns s p) ks (long s (AntiJoin p q c) ks e) e
     known (UnionAll Nil) ks e = cc
     known (UnionAll (More p ps)) ks e = open-rows (UnionAll (More p ps)) (known_columns s p) ks (long s (UnionAll (More p ps)) ks e) e
     known (Distinct p) ks e = open-rows (Distinct p) (known_columns s p) ks (long s (Distinct p) ks e) e
@@ -168,6 +170,9 @@ module _ (s : Tables) (db : Database) (m : MeetsSchema s db) where
   own-known (Project es p) ks e = known p ks e
   own-known (Join ps c) ks e = let a = beside_is (kinds_of_each s ps) ks e in product-known ps a.0 a.1
   own-known (Left p q c) ks e =
+      let a = both_given (plan_kinds s p) (plan_kinds s q) ks e in
+      pairs-known (known_columns s p) (known_columns s q) (rows_of s p db) (rows_of s q db) (known p a.0 a.1) (known q a.2.0 a.2.1)
+  own-known (AntiJoin p q c) ks e =
       let a = both_given (plan_kinds s p) (plan_kinds s q) ks e in
       pairs-known (known_columns s p) (known_columns s q) (rows_of s p db) (rows_of s q db) (known p a.0 a.1) (known q a.2.0 a.2.1)
   own-known _ ks e = cc

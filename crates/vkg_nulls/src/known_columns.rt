@@ -25,6 +25,11 @@ pub fn own_known(alloc: Global, schema: &Schema, plan: &Plan) -> Result<Items<bo
             flags.append(known_columns(alloc, schema, q)?)?;
             Ok(flags)
         }
+        Plan::AntiJoin(p, q, _) => {
+            let mut flags = known_columns(alloc, schema, p)?;
+            flags.append(known_columns(alloc, schema, q)?)?;
+            Ok(flags)
+        }
         _ => Ok(Items::new(alloc)),
     }
 }
@@ -46,6 +51,7 @@ fn known_columns(alloc: Global, schema: &Schema, plan: &Plan) -> Result<Items<bo
             flags.append(known_columns(alloc, schema, q)?)?;
             none_known(alloc, flags)
         }
+        Plan::AntiJoin(p, _, _) => none_known(alloc, known_columns(alloc, schema, p)?),
         Plan::UnionAll(ps) => unsaid_of_first(alloc, schema, ps.as_slice()),
         Plan::Distinct(p) => none_known(alloc, known_columns(alloc, schema, p)?),
     }

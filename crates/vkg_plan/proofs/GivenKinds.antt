@@ -12,9 +12,9 @@ use Rattle.vkg_expr.specs.Typing.{kinds_of, same_kind}
 use Rattle.vkg_plan.specs.declared.plan.Plan.{Plan as PlanValue}
 use Rattle.vkg_plan.specs.GivenKinds.{given_beside, given_kinds, or_no_kinds}
 use Rattle.vkg_plan.specs.Kinds.{Kinds, Tables, alike, beside_all, kinds_of_each, plan_kinds, side_by_side}
-use Rattle.vkg_plan.specs.Plan.{Plan, Plans, Unit as UnitPlan, Empty, Scan, Select, Project, Join, Left, UnionAll, Distinct, Nil, More, plans}
+use Rattle.vkg_plan.specs.Plan.{Plan, Plans, Unit as UnitPlan, Empty, Scan, Select, Project, Join, Left, AntiJoin, UnionAll, Distinct, Nil, More, plans}
 use Rattle.vkg_plan.specs.Seen.{plan_seen}
-use Rattle.vkg_plan.proofs.RowsFit.{beside_is, checked_is}
+use Rattle.vkg_plan.proofs.RowsFit.{beside_is, checked_is, first_checked-parts}
 
 first_alike : (a : Option Kinds) (o : Option (List Kinds)) (ks : Kinds) → alike (with_first a o) ≡ Some ks → a ≡ Some ks
 first_alike None o ks e = cc
@@ -35,6 +35,7 @@ module _ (s : Tables) where
     given-is (Left p q c) ks e =
         let a = both_given (plan_kinds s p) (plan_kinds s q) ks (checked_is c (joined (plan_kinds s p) (plan_kinds s q)) ks e) in
         (λ i. given-is p a.0 a.1 i ++ given-is q a.2.0 a.2.1 i) ∙ a.2.2
+    given-is (AntiJoin p q c) ks e = given-is p ks (first_checked-parts c (plan_kinds s p) (plan_kinds s q) ks e).first
     given-is (UnionAll Nil) ks e = cc
     given-is (UnionAll (More p ps)) ks e = given-is p ks (first_alike (plan_kinds s p) (kinds_of_each s ps) ks e)
     given-is (Distinct p) ks e = given-is p ks e

@@ -1,5 +1,5 @@
 -- The rows of a well-typed plan have a cell for each of its columns, NULL or of that column's kind.
-use Rattle.std.proofs.Common.{◌≡◌, Bool, true, false, List, [], ◌∷◌, ◌++◌, map, length, refl, sym, ap, subst}
+use Rattle.std.proofs.Common.{◌≡◌, ◌∙◌, Bool, true, false, List, [], ◌∷◌, ◌++◌, map, length, refl, sym, ap, subst}
 use Rattle.std.specs.Prelude.{IfSome, Option, Some, None, replicate, if◌then◌else◌, is_some}
 use Rattle.std.specs.List.{filter, flat_map, list_all, AllZip}
 use Rattle.std.specs.Option.{option_map_or}
@@ -20,9 +20,9 @@ use Rattle.vkg_expr.specs.Expr.{Expr, exprs}
 use Rattle.vkg_expr.specs.Laws.{HasKinds}
 use Rattle.vkg_expr.specs.Typing.{is_one, kind_of, kinds_of, same_kind}
 use Rattle.vkg_expr.specs.Value.{holds, values_of}
-use Rattle.vkg_plan.specs.Kinds.{Kinds, Tables, alike, beside_all, checked, side_by_side, kinds_of_each, plan_kinds, width}
+use Rattle.vkg_plan.specs.Kinds.{Kinds, Tables, alike, beside_all, checked, first_checked, side_by_side, kinds_of_each, plan_kinds, width}
 use Rattle.vkg_plan.specs.Laws.{HasRowsOf, HaveKinds, TablesFit}
-use Rattle.vkg_plan.specs.Plan.{Plan, Plans, Unit as UnitPlan, Empty, Scan, Select, Project, Join, Left, UnionAll, Distinct, Nil, More}
+use Rattle.vkg_plan.specs.Plan.{Plan, Plans, Unit as UnitPlan, Empty, Scan, Select, Project, Join, Left, AntiJoin, UnionAll, Distinct, Nil, More}
 use Rattle.vkg_plan.proofs.KindLists.{themselves}
 use Rattle.vkg_plan.specs.Rows.{is_alone, left_pairs, one_row, pairs, product, rows_of, rows_of_each}
 use Rattle.vkg_lists.proofs.Bools.{and_parts}
@@ -68,6 +68,21 @@ pub checked_is : (c : Expr) (o : Option Kinds) (ks : Kinds) → checked c o ≡ 
 checked_is c None ks e = cc
 checked_is c (Some ls) ks e = ap Some (cond_some (is_one kind.Bool (kind_of c ls)) ls ks e).1
 
+-- the kinds of both parts of an anti join
+pub record FirstChecked (c : Expr) (a b : Option Kinds) (ks : Kinds) : Type 0 where
+  pub first : a ≡ Some ks
+  pub kinds : Kinds
+  pub second : b ≡ Some kinds
+  pub both : checked c (joined a b) ≡ Some (ks ++ kinds)
+
+pub first_checked-parts : (c : Expr) (a b : Option Kinds) (ks : Kinds) → first_checked c a b ≡ Some ks → FirstChecked c a b ks
+first_checked-parts c a b ks e = option_and_then_some (λ (ms : Kinds). a) (checked c (joined a b)) ks e (λ ms i j. parts ms i j (both_given a b ms (checked_is c (joined a b) ms i)))
+  where
+    parts : (ms : Kinds) → checked c (joined a b) ≡ Some ms → a ≡ Some ks → ((k : Kinds) × (a ≡ Some k) × ((l : Kinds) × (b ≡ Some l) × (k ++ l ≡ ms))) → FirstChecked c a b ks
+    parts ms i j g =
+        let same : g.0 ≡ ks = same_Some g.0 ks (sym g.1 ∙ j) in
+        record { first = j; kinds = g.2.0; second = g.2.1; both = i ∙ ap Some (sym g.2.2 ∙ ap (λ k. k ++ g.2.0) same) }
+
 pub checked_parts : (c : Expr) (o : Option Kinds) → is_some (checked c o) ≡ true → (ks : Kinds) × (o ≡ Some ks) × (kind_of c ks ≡ Some kind.Bool)
 checked_parts c None e = cc
 checked_parts c (Some ks) e = (ks, refl, one_is kind.Bool (kind_of c ks) (some_if (is_one kind.Bool (kind_of c ks)) (Some ks) e).0)
@@ -108,6 +123,9 @@ module _ (s : Tables) (db : Database) (t : TablesFit s db) where
         subst (λ m. HaveKinds m (rows_of s (Left p q c) db)) a.2.2
         (subst (λ n. HaveKinds (a.0 ++ a.2.0) (left_pairs (holds c) n (rows_of s p db) (rows_of s q db))) wide
         (left-fit (holds c) a.0 a.2.0 (rows_of s p db) (rows_of s q db) (rows-fit p a.0 a.1) (rows-fit q a.2.0 a.2.1)))
+    rows-fit (AntiJoin p q c) ks e =
+        let a = first_checked-parts c (plan_kinds s p) (plan_kinds s q) ks e in
+        recursion_filter (HasKinds ks) (is_alone (holds c) (rows_of s q db)) (rows_of s p db) (rows-fit p ks a.first)
     rows-fit (UnionAll ps) ks e =
         let a = alike_is (kinds_of_each s ps) ks e in
         union-fit ks a.0 (rows_of_each s ps db) (each-fit ps a.0 a.1) a.2

@@ -4,7 +4,7 @@ use Rattle.vkg_expr.specs.Expr.{exprs}
 use Rattle.vkg_expr.specs.Typing.{kinds_of}
 use Rattle.vkg_schema.specs.Kinds.{table_kinds}
 use Rattle.vkg_plan.specs.Kinds.{Kinds, Tables}
-use Rattle.vkg_plan.specs.Plan.{Plan, Plans, Unit, Empty, Scan, Select, Project, Join, Left, UnionAll, Distinct, Nil, More}
+use Rattle.vkg_plan.specs.Plan.{Plan, Plans, Unit, Empty, Scan, Select, Project, Join, Left, AntiJoin, UnionAll, Distinct, Nil, More}
 
 abbrev pub or_no_kinds : Option Kinds → Kinds
 or_no_kinds o = unwrap_or o []
@@ -18,6 +18,7 @@ abbrev mutual
   given_kinds schema (Project es p) = or_no_kinds (kinds_of (exprs es) (given_kinds schema p))
   given_kinds schema (Join ps c) = given_beside schema ps
   given_kinds schema (Left p q c) = given_kinds schema p ++ given_kinds schema q
+  given_kinds schema (AntiJoin p q c) = given_kinds schema p
   given_kinds schema (UnionAll Nil) = []
   given_kinds schema (UnionAll (More p ps)) = given_kinds schema p
   given_kinds schema (Distinct p) = given_kinds schema p

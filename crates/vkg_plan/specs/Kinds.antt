@@ -10,7 +10,7 @@ use Rattle.vkg_schema.specs.Kinds.{table_kinds}
 use Rattle.vkg_schema.specs.declared.table.Table.{Table}
 use Rattle.vkg_expr.specs.Expr.{Expr, exprs}
 use Rattle.vkg_expr.specs.Typing.{is_one, kind_of, kinds_of, same_kind}
-use Rattle.vkg_plan.specs.Plan.{Plan, Plans, Unit, Empty, Scan, Select, Project, Join, Left, UnionAll, Distinct, Nil, More}
+use Rattle.vkg_plan.specs.Plan.{Plan, Plans, Unit, Empty, Scan, Select, Project, Join, Left, AntiJoin, UnionAll, Distinct, Nil, More}
 
 -- the tables of a schema
 abbrev pub Tables : Type 0
@@ -46,6 +46,10 @@ abbrev pub alike : Option (List Kinds) → Option Kinds
 alike (Some (ks ∷ kss)) = if list_all (pointwise same_kind ks) kss then Some ks else None
 alike kss = None
 
+-- the first kinds, where the condition over both is a truth
+abbrev pub first_checked : Expr → Option Kinds → Option Kinds → Option Kinds
+first_checked c a b = option_and_then (λ ks. a) (checked c (joined a b))
+
 abbrev mutual
   pub plan_kinds : Tables → Plan → Option Kinds
   plan_kinds schema Unit = Some []
@@ -55,6 +59,7 @@ abbrev mutual
   plan_kinds schema (Project es p) = option_and_then (kinds_of (exprs es)) (plan_kinds schema p)
   plan_kinds schema (Join ps c) = checked c (beside_all (kinds_of_each schema ps))
   plan_kinds schema (Left p q c) = checked c (joined (plan_kinds schema p) (plan_kinds schema q))
+  plan_kinds schema (AntiJoin p q c) = first_checked c (plan_kinds schema p) (plan_kinds schema q)
   plan_kinds schema (UnionAll ps) = alike (kinds_of_each schema ps)
   plan_kinds schema (Distinct p) = plan_kinds schema p
 

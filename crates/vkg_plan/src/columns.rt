@@ -6,7 +6,7 @@ ghost use Rattle.vkg_expr.specs.Expr.{exprs};
 ghost use Rattle.vkg_expr.specs.Seen.{expr_seen};
 ghost use Rattle.vkg_expr.specs.Typing.{kinds_of, same_kind as one_kind};
 ghost use Rattle.vkg_schema.specs.Kinds.{table_kinds as kinds_of_table};
-ghost use Rattle.vkg_plan.specs.Kinds.{checked as checked_kinds, is_alike as alike};
+ghost use Rattle.vkg_plan.specs.Kinds.{checked as checked_kinds, first_checked as first_kinds, is_alike as alike};
 
 use std::alloc::Global;
 use vkg_base::{Items, Memory, at};
@@ -77,6 +77,33 @@ pub fn left_checked(
     let first = first?;
     let second = second?;
     Ok(checked(c, beside(first, second)?))
+}
+
+/// The kinds of the one, where the condition over both is a truth.
+pub fn first_checked(
+    alloc: Global,
+    c: &Expr,
+    first: Result<Option<Items<SqlType>>, Memory>,
+    second: Result<Option<Items<SqlType>>, Memory>,
+) -> Result<Option<Items<SqlType>>, Memory>
+    ensures { IfOk result (λ o. IsOkAnd first (λ a. IsOkAnd second (λ b. o ≡ first_kinds (expr_seen c.now) a b))) }
+{
+    let first = first?;
+    let second = second?;
+    let kinds = copied(alloc, &first)?;
+    match checked(c, beside(first, second)?) {
+        Some(_) => Ok(kinds),
+        None => Ok(None),
+    }
+}
+
+fn copied(alloc: Global, kinds: &Option<Items<SqlType>>) -> Result<Option<Items<SqlType>>, Memory>
+    ensures { IfOk result (λ o. o ≡ kinds.now) }
+{
+    match kinds {
+        Some(kinds) => Ok(Some(Items::from_slice(alloc, kinds.as_slice())?)),
+        None => Ok(None),
+    }
 }
 
 /// The kinds of the one and then of the other.

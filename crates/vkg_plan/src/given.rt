@@ -32,6 +32,7 @@ pub fn given_kinds(alloc: Global, plan: &Plan, schema: &Schema) -> Result<Items<
             kinds.append(given_kinds(alloc, q, schema)?)?;
             Ok(kinds)
         }
+        Plan::AntiJoin(p, _, _) => given_kinds(alloc, p, schema),
         Plan::UnionAll(ps) => given_by_first(alloc, ps.as_slice(), schema),
         Plan::Distinct(p) => given_kinds(alloc, p, schema),
     }

@@ -6,7 +6,9 @@ ghost use Rattle.vkg_plan.specs.Laws.{HasRowsOf};
 ghost use Rattle.vkg_plan.specs.Plan.{plans};
 ghost use Rattle.vkg_plan.specs.Seen.{plan_seen};
 
-use crate::columns::{checked, is_alike, kept, left_checked, projected, table_kinds};
+use crate::columns::{
+    checked, first_checked, is_alike, kept, left_checked, projected, table_kinds,
+};
 use crate::plan::Plan;
 use std::alloc::Global;
 use vkg_base::{Items, Memory};
@@ -46,6 +48,12 @@ fn kinds_of(alloc: Global, plan: &Plan, schema: &Schema) -> Result<Option<Items<
         Plan::Project(es, p) => projected(alloc, es.as_slice(), kinds_of(alloc, p, schema)?),
         Plan::Join(ps, c) => Ok(checked(c, join_kinds(alloc, ps.as_slice(), schema)?)),
         Plan::Left(p, q, c) => left_checked(
+            c,
+            kinds_of(alloc, p, schema),
+            kinds_of(alloc, q, schema),
+        ),
+        Plan::AntiJoin(p, q, c) => first_checked(
+            alloc,
             c,
             kinds_of(alloc, p, schema),
             kinds_of(alloc, q, schema),

@@ -22,6 +22,8 @@ pub enum Plan {
     Join(Items<Plan>, Expr),
     /// The pairs for which the condition is true, and each row of the first without such a pair, with NULLs.
     Left(Box<Plan>, Box<Plan>, Expr),
+    /// Each row of the first without a pair for which the condition is true.
+    AntiJoin(Box<Plan>, Box<Plan>, Expr),
     /// The rows of all, with their repeats.
     UnionAll(Items<Plan>),
     /// Each row once; NULL is equal to NULL here.
@@ -51,6 +53,11 @@ impl Plan {
                 let p = copy_plan_box(alloc, p)?;
                 let q = copy_plan_box(alloc, q)?;
                 Ok(Plan::Left(p, q, c.copy(alloc)?))
+            }
+            Plan::AntiJoin(p, q, c) => {
+                let p = copy_plan_box(alloc, p)?;
+                let q = copy_plan_box(alloc, q)?;
+                Ok(Plan::AntiJoin(p, q, c.copy(alloc)?))
             }
             Plan::UnionAll(ps) => Ok(Plan::UnionAll(copy_plans(alloc, ps.as_slice())?)),
             Plan::Distinct(p) => Ok(Plan::Distinct(copy_plan_box(alloc, p)?)),

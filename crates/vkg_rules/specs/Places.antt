@@ -1,6 +1,6 @@
 -- Places in a plan, plans that differ at a place alone, and what a rule made of a plan before it was changed at a place.
 use Rattle.std.specs.Prelude.{◌≡◌, ℕ, zero, suc, List, [], ◌∷◌, Option, Some, None}
-use Rattle.vkg_plan.specs.Plan.{Plan, Plans, Unit as UnitPlan, Empty, Scan, Select, Project, Join, Left, UnionAll, Distinct, Nil, More}
+use Rattle.vkg_plan.specs.Plan.{Plan, Plans, Unit as UnitPlan, Empty, Scan, Select, Project, Join, Left, AntiJoin, UnionAll, Distinct, Nil, More}
 use Rattle.vkg_rules.specs.declared.rewrite.Fell.{Fell}
 use Rattle.vkg_rules.specs.Steps.{Step}
 
@@ -13,8 +13,8 @@ before_all (More q qs) ps = More q (before_all qs ps)
 abbrev pub Others : Type 0
 Others = Plan × Plans
 
--- A place is told by the member that is taken at each Join, Left and UnionAll on the way to it, the outermost first. This is the plan with
--- others in the place of what stands there: all of them in a list, the first at a side of a Left.
+-- A place is told by the member that is taken at each Join, Left, AntiJoin and UnionAll on the way to it, the outermost first. This is the plan with
+-- others in the place of what stands there: all of them in a list, the first at a side of a Left or an AntiJoin.
 abbrev mutual
   pub with_at : List ℕ → Others → Plan → Plan
   with_at path y UnitPlan = UnitPlan
@@ -29,6 +29,11 @@ abbrev mutual
   with_at (zero ∷ n ∷ path) y (Left p q c) = Left (with_at (n ∷ path) y p) q c
   with_at (suc at ∷ []) y (Left p q c) = Left p y.0 c
   with_at (suc at ∷ n ∷ path) y (Left p q c) = Left p (with_at (n ∷ path) y q) c
+  with_at [] y (AntiJoin p q c) = AntiJoin p q c
+  with_at (zero ∷ []) y (AntiJoin p q c) = AntiJoin y.0 q c
+  with_at (zero ∷ n ∷ path) y (AntiJoin p q c) = AntiJoin (with_at (n ∷ path) y p) q c
+  with_at (suc at ∷ []) y (AntiJoin p q c) = AntiJoin p y.0 c
+  with_at (suc at ∷ n ∷ path) y (AntiJoin p q c) = AntiJoin p (with_at (n ∷ path) y q) c
   with_at [] y (UnionAll ps) = UnionAll ps
   with_at (at ∷ path) y (UnionAll ps) = UnionAll (with_member at path y ps)
   with_at path y (Distinct p) = Distinct (with_at path y p)

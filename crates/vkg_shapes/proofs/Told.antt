@@ -7,7 +7,7 @@ use Rattle.vkg_lists.proofs.Bools.{and_parts}
 use Rattle.vkg_lists.proofs.Onto.{map_lacking}
 use Rattle.vkg_plan.specs.declared.plan.Plan.{Plan as PlanValue}
 use Rattle.vkg_plan.specs.Kinds.{Kinds, Tables, plan_kinds}
-use Rattle.vkg_plan.specs.Plan.{Plan, Plans, Unit as UnitPlan, Empty, Scan, Select, Project, Join, Left, UnionAll, Distinct, Nil, More}
+use Rattle.vkg_plan.specs.Plan.{Plan, Plans, Unit as UnitPlan, Empty, Scan, Select, Project, Join, Left, AntiJoin, UnionAll, Distinct, Nil, More}
 use Rattle.vkg_plan.specs.Seen.{plan_seen}
 use Rattle.vkg_rules.specs.declared.rewrite.Fell.{Fell}
 use Rattle.vkg_rules.specs.declared.rewrite.Fell.TheVariants as fell
@@ -134,6 +134,7 @@ lone-kinds s (More (Select c p) ps) e h = no-nil (Select c p) (without_first is_
 lone-kinds s (More (Project es p) ps) e h = no-nil (Project es p) (without_first is_nothing ps) e
 lone-kinds s (More (Join qs c) ps) e h = no-nil (Join qs c) (without_first is_nothing ps) e
 lone-kinds s (More (Left p q c) ps) e h = no-nil (Left p q c) (without_first is_nothing ps) e
+lone-kinds s (More (AntiJoin p q c) ps) e h = no-nil (AntiJoin p q c) (without_first is_nothing ps) e
 lone-kinds s (More (UnionAll qs) ps) e h = no-nil (UnionAll qs) (without_first is_nothing ps) e
 lone-kinds s (More (Distinct p) ps) e h = no-nil (Distinct p) (without_first is_nothing ps) e
 

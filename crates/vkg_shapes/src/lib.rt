@@ -22,8 +22,8 @@ mod propagate_empty;
 mod select_true;
 pub mod without;
 
-pub use false_condition::FalseCondition;
+pub use false_condition::{FalseCondition, is_never};
 pub use few_members::FewMembers;
 pub use flat_union::FlatUnion;
-pub use propagate_empty::PropagateEmpty;
+pub use propagate_empty::{PropagateEmpty, is_nothing};
 pub use select_true::SelectTrue;

@@ -185,7 +185,8 @@ fn members(alloc: Global, plan: Plan) -> Items<Plan>
     }
 }
 
-fn is_nothing(p: &Plan) -> bool
+/// Whether a plan is an Empty.
+pub fn is_nothing(p: &Plan) -> bool
     ensures { result ≡ nothing (plan_seen p.now) }
 {
     matches!(p, Plan::Empty(_))

@@ -1,6 +1,7 @@
 -- A query that is read is lawful.
 use Rattle.std.proofs.Common.{◌≡◌, ◌∙◌, ℕ, ◌+◌, ◌<◌, Bool, true, false, List, Result, Ok, Err, Option, Some, None, length, refl, sym, ap, subst, arith, map, true≢false}
 use Rattle.std.specs.Prelude.{IfOk, slice_get}
+use Rattle.std.specs.Option.{option_or}
 use Rattle.std.proofs.lemmas.Bool.{not_from_false}
 use Rattle.std.proofs.lemmas.List.{length-map}
 use Rattle.std.proofs.lemmas.Option.{same_Some, slice_get-map, slice_get_within}
@@ -21,12 +22,12 @@ use Rattle.vkg_sparql.specs.declared.query.Query.{Query}
 use Rattle.vkg_sparql.specs.Groups.{query_value}
 use Rattle.vkg_sparql.specs.Lawful.{IsLawful, IsLawfulQuery, IsWithin}
 use Rattle.vkg_sparql.specs.Meanings.{first_token}
-use Rattle.vkg_sparql.specs.Reading.{Read, IsQueryText, Says, fault_if, fault_of, query_of, read}
+use Rattle.vkg_sparql.specs.Reading.{Read, IsQueryText, Says, fault_if, fault_of, part_fault, query_of, read, token_fault}
 use Rattle.vkg_sparql.specs.Seen.{query_seen}
 use Rattle.vkg_sparql.proofs.LawfulParts.{Fits, Good, good_query}
 use Rattle.vkg_sparql.proofs.Made.{Has, has}
 use Rattle.vkg_sparql.proofs.Numbering.{Marked, as_many, is_variable_key}
-use Rattle.vkg_sparql.proofs.Standing.{Fine, all_meanings, node_at, operand_at, variable_at}
+use Rattle.vkg_sparql.proofs.Standing.{Fine, all_meanings, given_at, node_at, operand_at, variable_at}
 
 -- ---- nodes whose keys are of their kinds are lawful
 
@@ -55,15 +56,21 @@ fault_free : (check : ℕ) (at : Option ℕ) (later : Option QueryFault) → fau
 fault_free check None later h = (refl, h)
 fault_free check (Some at) later h = absurd (cc)
 
+no_early : (a b : Option QueryFault) → option_or a b ≡ None → (a ≡ None) × (b ≡ None)
+no_early None b h = (refl, h)
+no_early (Some f) b h = absurd (cc)
+
 fine_body : (r : Read) → fault_of r ≡ None → Fine r.environment r.body
 fine_body r h =
-    let a = fault_free 4 _ _ h in
+    let p = no_early (token_fault r) (part_fault r) h in
+    let a = fault_free 4 _ _ p.0 in
     let b = fault_free 5 _ _ a.1 in
     let c = fault_free 6 _ _ b.1 in
     let d = fault_free 7 _ _ c.1 in
     let e = fault_free 8 _ _ d.1 in
-    let f = fault_free 9 _ _ e.1 in
-    record { wide = e.0; slice = (fault_free 12 _ _ f.1).0 }
+    let f = fault_free 10 _ _ p.1 in
+    let g = fault_free 11 _ _ f.1 in
+    record { wide = e.0; slice = (fault_free 12 _ _ g.1).0 }
 
 names_stay : (names : List (List ℕ)) (ms : List Meaning) (t : Tree) → (query_value names ms t).names ≡ names
 names_stay names ms (pair prologue (pair select (pair kind (pair selection (pair where_ (pair g (pair order slice))))))) = refl
@@ -97,6 +104,7 @@ module _ (text base : List ℕ) (tokens : List Token) where
       (λ i k t p. node_at text tokens r.environment start fine i k t.behind t.kind p)
       (λ i k t p. operand_at text tokens r.environment start fine i k t.behind t.kind p)
       (λ i k t p. variable_at text tokens r.environment start fine i k t.behind t.kind p)
+      (λ i k t. given_at text tokens r.environment start fine i k t.behind t.kind)
       r.named.names prologue rest w.has)
 
   lawful_tree : (t : Tree) → IsTree SPARQL (kinds_of tokens) QUERY t → IsFrom 0 t → fault_of (read text tokens base t) ≡ None → IsLawfulQuery (query_seen (query_of (read text tokens base t)))

@@ -1,8 +1,9 @@
 -- What a tree of the grammar of queries names is numbered, and its terms are narrow, where its tokens are so.
-use Rattle.std.proofs.Common.{◌≡◌, ℕ, Bool, true, false, List, [], ◌∷◌, ◌++◌, fold, map, refl, sym, subst}
+use Rattle.std.proofs.Common.{◌≡◌, ℕ, Bool, true, false, List, [], ◌∷◌, ◌++◌, fold, map, flat_map, Option, Some, None, refl, sym, subst}
 use Rattle.std.specs.List.{AllByRecursion}
 use Rattle.vkg_lists.proofs.Members.{recursion_append, recursion_left, recursion_right}
 use Rattle.vkg_grammar.specs.Trees.{Tree, pair, first, second, present}
+use Rattle.vkg_terms.specs.declared.term.Term.{Term}
 use Rattle.vkg_terms.specs.declared.term.Term.TheVariants.{Iri}
 use Rattle.vkg_sparql.specs.declared.condition.Condition.{Condition as ConditionValue}
 use Rattle.vkg_sparql.specs.declared.grammar_table.TheConstants.{SPARQL}
@@ -11,22 +12,23 @@ use Rattle.vkg_sparql.specs.declared.meaning.Meaning.TheVariants as meaning
 use Rattle.vkg_sparql.specs.declared.meaning.TripleTokens.{TripleTokens}
 use Rattle.vkg_sparql.specs.declared.pattern.Node.{Node}
 use Rattle.vkg_sparql.specs.declared.pattern.Node.TheVariants as node
-use Rattle.vkg_sparql.specs.declared.symbols.TheConstants.{SELECTION, TOKEN_VAR, SELECTION_1, GROUP, BLOCK, SAME, ITEM, PLIST, VERB, OLIST, OBJECT, TOKEN_OPEN_BRACKET, OBJECT_1, OLIST_2, PLIST_2, PLIST_4, SAME_5, GROUP_1, PART, NAME, PART_3, FILTER, BRACKETED, OR, AND, REL, UNARY, PRIMARY, CALL, CALL_3, CALL_7, PRIMARY_FROM_3, REL_2, AND_2, OR_2, PART_6, PART_7, PART_FROM_2, GROUP_5, KEY, KEY_FROM_3, ORDER_1, ORDER_2, QUERY_9, QUERY_16}
+use Rattle.vkg_sparql.specs.declared.symbols.TheConstants.{SELECTION, TOKEN_VAR, SELECTION_1, GROUP, BLOCK, SAME, ITEM, PLIST, VERB, OLIST, OBJECT, TOKEN_OPEN_BRACKET, OBJECT_1, OLIST_2, PLIST_2, PLIST_4, SAME_5, GROUP_1, PART, NAME, PART_3, FILTER, BRACKETED, OR, AND, REL, UNARY, PRIMARY, CALL, CALL_3, CALL_7, PRIMARY_FROM_3, REL_2, AND_2, OR_2, PART_6, PART_7, PART_FROM_2, PART_FROM_4, PART_FROM_5, PART_12, TABLE, TABLE_1, TABLE_4, TABLE_5, TABLE_10, VALUE, GROUP_5, KEY, KEY_FROM_3, ORDER_1, ORDER_2, QUERY_9, QUERY_16}
 use Rattle.vkg_sparql.specs.declared.query.Key.{Key}
 use Rattle.vkg_sparql.specs.declared.query.Part.{Part as PartValue}
 use Rattle.vkg_sparql.specs.Conditions.{or_joined, and_joined, negated, bound_value, operand_value, or_value, or_more, and_value, and_more, rel_value, rel_more, unary_value, primary_value, bracketed, call_value, two_value, filter_value}
-use Rattle.vkg_sparql.specs.Groups.{patterns_of, block_parts, no_part, group_value, parts_value, part_value, other_value, graph_value, union_value, groups_value, numbers_value, selection_value, query_value}
-use Rattle.vkg_sparql.specs.Lawful.{condition_nodes, patterns_nodes, name_node, part_nodes, group_nodes, unions_nodes, selected_nodes, keys_nodes, query_nodes}
-use Rattle.vkg_sparql.specs.Meanings.{first_token, meaning_at, node_of, number_of, operand_of, compare_of, applied, applied_to_two, name_of}
+use Rattle.vkg_sparql.specs.Groups.{patterns_of, block_parts, no_part, bind_value, group_value, parts_value, part_value, other_value, later_value, last_value, graph_value, union_value, groups_value, selection_value, query_value}
+use Rattle.vkg_sparql.specs.Lawful.{condition_nodes, patterns_nodes, name_node, value_nodes, rows_nodes, part_nodes, group_nodes, unions_nodes, selected_nodes, keys_nodes, query_nodes}
+use Rattle.vkg_sparql.specs.Meanings.{first_token, meaning_at, node_of, number_of, numbers_value, term_if, operand_of, compare_of, applied, applied_to_two, name_of}
 use Rattle.vkg_sparql.specs.declared.query.Part.TheVariants as part
 use Rattle.vkg_sparql.specs.Orders.{bracketed_key, key_value, keys_value, order_value}
 use Rattle.vkg_sparql.specs.Query.{Condition, And, Or, Part}
 use Rattle.vkg_sparql.specs.Seen.{condition_seen, group_seen, key_seen, part_seen, unions_seen, query_seen}
+use Rattle.vkg_sparql.specs.Tables.{data_value, row_value, column_value, rows_value, column_table, rows_table, table_value}
 use Rattle.vkg_sparql.specs.Triples.{plist_value, plist_more, verb_value, olist_value, olist_more, object_value, inner_value, bracket_value, same_value, block_value}
 use Rattle.vkg_sparql.proofs.Made.{IsToken, Has, leads, lead}
 use Rattle.vkg_sparql.proofs.Numbering.{Marked}
-use Rattle.vkg_sparql.proofs.SeenForms.{seen-Variable, seen-Constant, seen-Bound, seen-Test, seen-Take, seen-Compare, seen-SameTerm, seen-Not, seen-And, seen-Or, seen-Triples, seen-Filter, seen-Optional, seen-Graph, seen-Groups}
-use Rattle.vkg_sparql.proofs.Standing.{IsNode, IsOperand, IsVariable, is_node_kind, is_operand_kind, is_variable_kind}
+use Rattle.vkg_sparql.proofs.SeenForms.{seen-Variable, seen-Constant, seen-Bound, seen-Test, seen-Take, seen-Compare, seen-SameTerm, seen-Not, seen-And, seen-Or, seen-Triples, seen-Filter, seen-Optional, seen-Graph, seen-Groups, seen-Minus, seen-Values, seen-Bind}
+use Rattle.vkg_sparql.proofs.Standing.{IsGiven, IsNode, IsOperand, IsVariable, is_node_kind, is_operand_kind, is_variable_kind}
 use Rattle.vkg_cells.specs.WellTyped.{is_wide_number}
 
 -- a node whose number is that of a key of its kind, or whose term is narrow
@@ -102,7 +104,8 @@ module _ (keys : List (List ℕ)) where
   module _ (ks : List ℕ) (start : ℕ) (ms : List Meaning)
       (node_at : (i k : ℕ) → IsToken SPARQL ks start k i → is_node_kind k ≡ true → IsNode keys (meaning_at ms i))
       (operand_at : (i k : ℕ) → IsToken SPARQL ks start k i → is_operand_kind k ≡ true → IsOperand keys (meaning_at ms i))
-      (variable_at : (i k : ℕ) → IsToken SPARQL ks start k i → is_variable_kind k ≡ true → IsVariable keys (meaning_at ms i)) where
+      (variable_at : (i k : ℕ) → IsToken SPARQL ks start k i → is_variable_kind k ≡ true → IsVariable keys (meaning_at ms i))
+      (given_at : (i k : ℕ) → IsToken SPARQL ks start k i → IsGiven keys (meaning_at ms i)) where
     -- the tree is one of the symbol n
     abbrev Of : Tree → ℕ → Type 0
     Of t n = Has SPARQL ks start t n
@@ -249,6 +252,28 @@ module _ (keys : List (List ℕ)) where
     fit_block (pair same t) h = fit_same same h.0
     fit_block t h = tt
 
+    -- ---- tables
+
+    good_given : (m : Meaning) → IsGiven keys m → Good (value_nodes (term_if m))
+    good_given (meaning.Fixed t) h = (h, tt)
+    good_given m h = tt
+
+    good_data : (t : Tree) → Of t VALUE → Good (value_nodes (data_value ms t))
+    good_data t h = let l = lead SPARQL ks start 9 (λ k. true) t VALUE refl h in good_given (meaning_at ms (first_token t)) (given_at (first_token t) l.kind l.token)
+
+    good_row : (t : Tree) → Of t TABLE_1 → Good (flat_map value_nodes (row_value ms t))
+    good_row (pair v more) h = recursion_append (Fits keys) (value_nodes (data_value ms v)) (flat_map value_nodes (row_value ms more)) (good_data v h.0) (good_row more h.1)
+    good_row t h = tt
+
+    good_column : (t : Tree) → Of t TABLE_1 → Good (rows_nodes (column_value ms t))
+    good_column (pair v more) h =
+        recursion_append (Fits keys) (flat_map value_nodes (data_value ms v ∷ [])) (rows_nodes (column_value ms more)) (recursion_append (Fits keys) (value_nodes (data_value ms v)) [] (good_data v h.0) tt) (good_column more h.1)
+    good_column t h = tt
+
+    good_rows : (t : Tree) → Of t TABLE_5 → Good (rows_nodes (rows_value ms t))
+    good_rows (pair (pair left (pair vs right)) more) h = recursion_append (Fits keys) (flat_map value_nodes (row_value ms vs)) (rows_nodes (rows_value ms more)) (good_row vs h.0.1.0) (good_rows more h.1)
+    good_rows t h = tt
+
     -- ---- groups
 
     abbrev GoodParts : List PartValue → Type 0
@@ -270,6 +295,32 @@ module _ (keys : List (List ℕ)) where
     good_block_parts (first t) h = recursion_append (Fits keys) (part_nodes (part_seen (part.Triples (patterns_of ms (block_value t))))) [] (by_part _ (seen-Triples (patterns_of ms (block_value t))) (good_patterns (block_value t) (fit_block t h))) tt
     good_block_parts t h = tt
 
+    good_variables : (t : Tree) → Of t SELECTION_1 → Good (map node.Variable (numbers_value ms t))
+    good_variables (pair v more) h = (variable_first v TOKEN_VAR refl h.0, good_variables more h.1)
+    good_variables t h = tt
+
+    -- the table of these variables and rows
+    good_values : (vs : List ℕ) (rows : List (List (Option Term))) → Good (map node.Variable vs) → Good (rows_nodes rows) → Good (part_nodes (part_seen (part.Values vs rows)))
+    good_values vs rows h k = by_part _ (seen-Values vs rows) (recursion_append (Fits keys) (map node.Variable vs) (rows_nodes rows) h k)
+
+    good_column_table : (t : Tree) → Of t TABLE_4 → Good (part_nodes (part_seen (column_table ms t)))
+    good_column_table (pair v (pair left (pair vs right))) h = good_values (number_of (meaning_at ms (first_token v)) ∷ []) (column_value ms vs) (variable_first v TOKEN_VAR refl h.0, tt) (good_column vs h.1.1.0)
+    good_column_table t h = good_values [] [] tt tt
+
+    good_rows_table : (t : Tree) → Of t TABLE_10 → Good (part_nodes (part_seen (rows_table ms t)))
+    good_rows_table (pair left (pair vs (pair right (pair brace (pair rows close))))) h = good_values (numbers_value ms vs) (rows_value ms rows) (good_variables vs h.1.0) (good_rows rows h.1.1.1.1.0)
+    good_rows_table t h = good_values [] [] tt tt
+
+    good_table : (t : Tree) → Of t TABLE → Good (part_nodes (part_seen (table_value ms t)))
+    good_table (first t) h = good_column_table t h
+    good_table (second t) h = good_rows_table t h
+    good_table t h = good_values [] [] tt tt
+
+    good_bind : (t : Tree) → Of t PART_12 → Good (part_nodes (part_seen (bind_value ms t)))
+    good_bind (pair word (pair left (pair c (pair as_ (pair v right))))) h =
+        by_part _ (seen-Bind (or_value ms c) (number_of (meaning_at ms (first_token v)))) (variable_first v TOKEN_VAR refl h.1.1.1.1.0, good_or_value c h.1.1.0)
+    good_bind t h = good_no_part
+
     mutual
       good_group : (t : Tree) → Of t GROUP → GoodParts (group_value ms t)
       good_group (pair left (pair block (pair more right))) h = good_parts_append (block_parts ms block) (parts_value ms more) (good_block_parts block h.1.0) (good_parts more h.1.1.0)
@@ -290,8 +341,19 @@ module _ (keys : List (List ℕ)) where
       good_other : (t : Tree) → Of t PART_FROM_2 → Good (part_nodes (part_seen (other_value ms t)))
       good_other (first t) h = good_graph t h
       good_other (second (first (pair word t))) h = by_part _ (seen-Filter (filter_value ms t)) (good_filter t h.1)
-      good_other (second (second t)) h = good_union t h
+      good_other (second (second t)) h = good_later t h
       good_other t h = good_no_part
+
+      good_later : (t : Tree) → Of t PART_FROM_4 → Good (part_nodes (part_seen (later_value ms t)))
+      good_later (first t) h = good_union t h
+      good_later (second t) h = good_last t h
+      good_later t h = good_no_part
+
+      good_last : (t : Tree) → Of t PART_FROM_5 → Good (part_nodes (part_seen (last_value ms t)))
+      good_last (first (pair word g)) h = by_part _ (seen-Minus (group_value ms g)) (good_group g h.1)
+      good_last (second (first t)) h = good_bind t h
+      good_last (second (second (pair word t))) h = good_table t h.1
+      good_last t h = good_no_part
 
       good_graph : (t : Tree) → Of t PART_3 → Good (part_nodes (part_seen (graph_value ms t)))
       good_graph (pair word (pair name g)) h =
@@ -309,12 +371,8 @@ module _ (keys : List (List ℕ)) where
 
     -- ---- the query
 
-    good_numbers : (t : Tree) → Of t SELECTION_1 → Good (map node.Variable (numbers_value ms t))
-    good_numbers (pair v more) h = (variable_first v TOKEN_VAR refl h.0, good_numbers more h.1)
-    good_numbers t h = tt
-
     good_selection : (t : Tree) → Of t SELECTION → Good (selected_nodes (selection_value ms t))
-    good_selection (first (pair v more)) h = (variable_first v TOKEN_VAR refl h.0, good_numbers more h.1)
+    good_selection (first (pair v more)) h = (variable_first v TOKEN_VAR refl h.0, good_variables more h.1)
     good_selection t h = tt
 
     good_bracketed_key : (t : Tree) → Of t KEY_FROM_3 → GoodCondition (bracketed_key ms t).condition

@@ -1,5 +1,5 @@
 -- What each form of the program's expressions and parts stands for.
-use Rattle.std.proofs.Common.{◌≡◌, ◌∙◌, ℕ, List, fold, map, sym, ap}
+use Rattle.std.proofs.Common.{◌≡◌, ◌∙◌, ℕ, List, Option, fold, map, sym, ap}
 use Rattle.vkg_terms.specs.declared.term.Term.{Term}
 use Rattle.vkg_values.specs.declared.operator.Compare.{Compare as CompareOp}
 use Rattle.vkg_values.specs.declared.operator.Take.{Take as TakeOp}
@@ -15,8 +15,8 @@ use Rattle.vkg_sparql.specs.declared.query.Part.{Part as PartValue}
 use Rattle.vkg_sparql.specs.declared.query.Part.TheFolds.{fold-roll-Part}
 use Rattle.vkg_sparql.specs.declared.query.Part.TheOpen.{Part-F}
 use Rattle.vkg_sparql.specs.declared.query.Part.TheVariants as part
-use Rattle.vkg_sparql.specs.declared.query.Part.TheVariants.{rolls-Triples, rolls-Filter, rolls-Optional, rolls-Graph, rolls-Groups}
-use Rattle.vkg_sparql.specs.Query.{Condition, Variable, Constant, Bound, Test, Take, Compare, SameTerm, Not, And, Or, Part, Triples, Filter, Optional, Graph, Groups}
+use Rattle.vkg_sparql.specs.declared.query.Part.TheVariants.{rolls-Triples, rolls-Filter, rolls-Optional, rolls-Graph, rolls-Groups, rolls-Minus, rolls-Values, rolls-Bind}
+use Rattle.vkg_sparql.specs.Query.{Condition, Variable, Constant, Bound, Test, Take, Compare, SameTerm, Not, And, Or, Part, Triples, Filter, Optional, Graph, Groups, Minus, Values, Bind}
 use Rattle.vkg_sparql.specs.Seen.{condition_seen, condition_step, group_seen, part_seen, part_step, unions_seen}
 
 pub seen-Variable : (v : ℕ) → condition_seen (condition.Variable v) ≡ Variable v
@@ -63,3 +63,12 @@ seen-Graph name ps = ap part_seen (sym (rolls-Graph name ps)) ∙ fold-roll-Part
 
 pub seen-Groups : (ps : List PartValue) (pss : List (List PartValue)) → part_seen (part.Groups ps pss) ≡ Groups (group_seen ps) (unions_seen pss)
 seen-Groups ps pss = ap part_seen (sym (rolls-Groups ps pss)) ∙ fold-roll-Part Part part_step (Part-F.Groups ps pss)
+
+pub seen-Minus : (ps : List PartValue) → part_seen (part.Minus ps) ≡ Minus (group_seen ps)
+seen-Minus ps = ap part_seen (sym (rolls-Minus ps)) ∙ fold-roll-Part Part part_step (Part-F.Minus ps)
+
+pub seen-Values : (vs : List ℕ) (rows : List (List (Option Term))) → part_seen (part.Values vs rows) ≡ Values vs rows
+seen-Values vs rows = ap part_seen (sym (rolls-Values vs rows)) ∙ fold-roll-Part Part part_step (Part-F.Values vs rows)
+
+pub seen-Bind : (c : ConditionValue) (v : ℕ) → part_seen (part.Bind c v) ≡ Bind (condition_seen c) v
+seen-Bind c v = ap part_seen (sym (rolls-Bind c v)) ∙ fold-roll-Part Part part_step (Part-F.Bind c v)

@@ -10,7 +10,7 @@ use Rattle.vkg_cells.specs.WellTyped.{is_well_typed, is_too_wide, is_wide_number
 use Rattle.vkg_terms.specs.Vocabulary.{xsd}
 use Rattle.vkg_terms.specs.declared.term.Term.{Term}
 use Rattle.vkg_tokens.specs.declared.cutting.Token.{Token}
-use Rattle.vkg_tokens.specs.declared.sparql_kinds.TheConstants.{OPEN_BRACKET, IRIREF, PNAME_NS, PNAME_LN, BLANK, VAR, STRING, INTEGER, DECIMAL, IS_A, TRUE, FALSE}
+use Rattle.vkg_tokens.specs.declared.sparql_kinds.TheConstants.{OPEN_BRACKET, EQUAL, NOT_EQUAL, LESS, GREATER, LESS_EQUAL, GREATER_EQUAL, IRIREF, PNAME_NS, PNAME_LN, BLANK, VAR, STRING, INTEGER, DECIMAL, IS_A, TRUE, FALSE, ISIRI, ISURI, ISBLANK, ISLITERAL, ISNUMERIC, STR, LANG, DATATYPE, STRLEN, STRSTARTS, STRENDS, CONTAINS}
 use Rattle.vkg_turtle.specs.Document.{typed}
 use Rattle.vkg_turtle.specs.Words.{between}
 use Rattle.vkg_turtle.specs.declared.lexeme.Word.{Word}
@@ -180,6 +180,27 @@ module _ (keys : List (List ℕ)) where
   IsVariable (Variable n) = Marked keys n true
   IsVariable m = ⊥
 
+  abbrev pub IsGiven : Meaning → Type 0
+  IsGiven (Fixed t) = is_wide_number t ≡ false
+  IsGiven m = Unit {0}
+
+  given_if : (b : Bool) (m o : Meaning) → IsGiven m → IsGiven o → IsGiven (if b then m else o)
+  given_if true m o h k = h
+  given_if false m o h k = k
+
+  -- a sign or a word is no term
+  given_operator : (kind : ℕ) → IsGiven (operator_of kind)
+  given_operator kind =
+      given_if (kind == EQUAL) _ _ tt (given_if (kind == NOT_EQUAL) _ _ tt (given_if (kind == LESS) _ _ tt (given_if (kind == GREATER) _ _ tt (given_if (kind == LESS_EQUAL) _ _ tt (given_if (kind == GREATER_EQUAL) _ _ tt
+      (given_if ((kind == ISIRI) || (kind == ISURI)) _ _ tt (given_if (kind == ISBLANK) _ _ tt (given_if (kind == ISLITERAL) _ _ tt (given_if (kind == ISNUMERIC) _ _ tt (given_if (kind == STR) _ _ tt (given_if (kind == LANG) _ _ tt
+      (given_if (kind == DATATYPE) _ _ tt (given_if (kind == STRLEN) _ _ tt (given_if (kind == STRSTARTS) _ _ tt (given_if (kind == STRENDS) _ _ tt (given_if (kind == CONTAINS) _ _ tt tt))))))))))))))))
+
+  given_by : (a b c : Bool) (n : ℕ) (t : Term) (o : Meaning) → IsGiven o → (c ≡ true → is_wide_number t ≡ false) → IsGiven (if a then Variable n else if b then Label n else if c then Fixed t else o)
+  given_by true b c n t o h f = tt
+  given_by false true c n t o h f = tt
+  given_by false false true n t o h f = f refl
+  given_by false false false n t o h f = h
+
   node_by : (a b c : Bool) (n : ℕ) (t : Term) (o : Meaning) → (if a then true else if b then true else c) ≡ true → (a ≡ true → Marked keys n true) → (b ≡ true → Marked keys n false) → (c ≡ true → is_wide_number t ≡ false)
       → IsNode (if a then Variable n else if b then Label n else if c then Fixed t else o)
   node_by true b c n t o h v l f = v refl
@@ -227,6 +248,10 @@ module _ (keys : List (List ℕ)) where
     pub operand : is_operand_kind kind ≡ true → IsOperand (meaning_of e keys (lexeme kind at token) xs)
     unfolding meaning_of
     operand h = operand_by (kind == VAR) ((kind == BLANK) || (kind == OPEN_BRACKET)) (is_term kind) number (term_of e (lexeme_word kind token) xs) (operator_of kind) h variable term
+
+    pub given : IsGiven (meaning_of e keys (lexeme kind at token) xs)
+    unfolding meaning_of
+    given = given_by (kind == VAR) ((kind == BLANK) || (kind == OPEN_BRACKET)) (is_term kind) number (term_of e (lexeme_word kind token) xs) (operator_of kind) (given_operator kind) term
 
     pub only_variable : is_variable_kind kind ≡ true → IsVariable (meaning_of e keys (lexeme kind at token) xs)
     unfolding meaning_of
@@ -281,3 +306,6 @@ module _ (text : List ℕ) (tokens : List Token) (e : Environment) (start : ℕ)
 
     pub variable_at : is_variable_kind k ≡ true → IsVariable body_keys (meaning_at all_meanings i)
     variable_at p = at_token (IsVariable body_keys) (λ kind at token xs same numbers narrow. only_variable body_keys e kind at token xs numbers narrow (ap is_variable_kind same ∙ p))
+
+    pub given_at : IsGiven body_keys (meaning_at all_meanings i)
+    given_at = at_token (IsGiven body_keys) (λ kind at token xs same numbers narrow. given body_keys e kind at token xs numbers narrow)

@@ -8,7 +8,7 @@ use Rattle.vkg_terms.specs.declared.term.Term.TheVariants.{Lit}
 use Rattle.vkg_terms.specs.declared.term.Annotation.TheVariants.{Typed}
 use Rattle.vkg_terms.specs.Iri.{is_absolute}
 use Rattle.vkg_terms.specs.Vocabulary.{xsd}
-use Rattle.vkg_tokens.specs.declared.sparql_kinds.TheConstants.{OPEN_BRACE, CLOSE_BRACE, EQUAL, OR, BLANK, STRING, INTEGER, DECIMAL, OPTIONAL, DATATYPE, STRLEN, CONTAINS, LIMIT, OFFSET}
+use Rattle.vkg_tokens.specs.declared.sparql_kinds.TheConstants.{OPEN_BRACE, CLOSE_BRACE, BLANK, STRING, INTEGER, DECIMAL, BIND, LIMIT, OFFSET}
 use Rattle.vkg_turtle.specs.declared.lexeme.Word.{Word}
 use Rattle.vkg_turtle.specs.declared.lexeme.Word.TheVariants.{Name, Label, Integer}
 use Rattle.vkg_sparql.specs.declared.checks.Check.{Check}
@@ -59,8 +59,8 @@ abbrev pub first_place : Check → Environment → List Lexeme → Option ℕ
 first_place check e [] = None
 first_place check e (x ∷ xs) = if begins_slice x.kind then None else if fails check e x xs then Some x.at else first_place check e xs
 
--- SPARQL 1.1, 5.1: a filter ends no basic graph pattern, any other pattern does, and each of those has braces. So a basic graph
--- pattern is told by the last brace before it.
+-- SPARQL 1.1, 5.1: a filter ends no basic graph pattern, any other pattern does, and each of those but BIND has braces. So a basic graph
+-- pattern is told by the last brace or BIND before it.
 abbrev pub is_here : Blocks → Option ℕ → Bool
 is_here b None = false
 is_here b (Some brace) = brace == b.brace
@@ -73,23 +73,18 @@ abbrev pub with_label : Blocks → ℕ → Word → Blocks
 with_label b at (Label label) = with_found b at label (position (bytes_eq label) b.labels)
 with_label b at word = b
 
+abbrev pub ends_block : ℕ → Bool
+ends_block kind = (kind == OPEN_BRACE) || (kind == CLOSE_BRACE) || (kind == BIND)
+
 abbrev pub block_step : Blocks → Lexeme → Blocks
 block_step b x =
-    if (x.kind == OPEN_BRACE) || (x.kind == CLOSE_BRACE) then record b { brace = x.at }
+    if ends_block x.kind then record b { brace = x.at }
     else if x.kind == BLANK then with_label b x.at x.word
     else b
 
 -- the first use of a label in a second basic graph pattern (5.1.1 forbids it)
 abbrev pub label_again : List Lexeme → Option ℕ
 label_again xs = (fold block_step (record { labels = []; braces = []; brace = 0; again = None }) xs).again
-
--- own: the nodes that are counted: a group's `{`, OPTIONAL, GRAPH, FILTER, UNION, the signs of operators, the words of calls. Among the kinds
--- the signs stand together from `=` to `||`, and the words from OPTIONAL to DATATYPE and from STRLEN to CONTAINS
-abbrev pub is_node : ℕ → Bool
-is_node kind = (kind == OPEN_BRACE) || (nat_le EQUAL kind && nat_le kind OR) || (nat_le OPTIONAL kind && nat_le kind DATATYPE) || (nat_le STRLEN kind && nat_le kind CONTAINS)
-
-abbrev pub node_places : List Lexeme → List ℕ
-node_places xs = map (λ x. x.at) (filter (λ x. is_node x.kind) xs)
 
 -- where the token with this number begins
 abbrev pub place_in : List Lexeme → ℕ → Option ℕ
@@ -98,12 +93,9 @@ place_in xs token = option_map (λ x. x.at) (slice_get xs token)
 abbrev pub subject_place : List Lexeme → Option TripleTokens → Option ℕ
 subject_place xs triple = option_and_then (λ (t : TripleTokens). place_in xs t.subject) triple
 
--- own: at most 128 triple patterns and 1,024 nodes
+-- own: at most 128 triple patterns
 abbrev pub triples_over : List Lexeme → List TripleTokens → Option ℕ
 triples_over xs ts = subject_place xs (slice_get ts 128)
-
-abbrev pub nodes_over : List Lexeme → Option ℕ
-nodes_over xs = slice_get (node_places xs) 1024
 
 abbrev pub is_slice_number : Word → Bool
 is_slice_number (Integer text) = is_some (slice_number text)

@@ -5,13 +5,14 @@ use Rattle.vkg_sparql.specs.declared.meaning.Meaning.{Meaning}
 use Rattle.vkg_sparql.specs.declared.meaning.TripleTokens.{TripleTokens}
 use Rattle.vkg_sparql.specs.declared.pattern.TriplePattern.{TriplePattern}
 use Rattle.vkg_sparql.specs.declared.query.Part.{Part}
-use Rattle.vkg_sparql.specs.declared.query.Part.TheVariants.{Triples, Filter, Optional, Graph, Groups}
+use Rattle.vkg_sparql.specs.declared.query.Part.TheVariants.{Triples, Filter, Optional, Graph, Groups, Minus, Bind}
 use Rattle.vkg_sparql.specs.declared.query.Query.{Query}
 use Rattle.vkg_sparql.specs.declared.query.Selected.{Selected}
 use Rattle.vkg_sparql.specs.declared.query.Selected.TheVariants.{All, Listed}
-use Rattle.vkg_sparql.specs.Conditions.{filter_value}
-use Rattle.vkg_sparql.specs.Meanings.{first_token, meaning_at, number_of, pattern_of, name_of}
+use Rattle.vkg_sparql.specs.Conditions.{filter_value, or_value}
+use Rattle.vkg_sparql.specs.Meanings.{first_token, meaning_at, number_of, numbers_value, pattern_of, name_of}
 use Rattle.vkg_sparql.specs.Orders.{no_slice, order_value, slice_value}
+use Rattle.vkg_sparql.specs.Tables.{table_value}
 use Rattle.vkg_sparql.specs.Triples.{block_value, group_triples}
 
 abbrev pub patterns_of : List Meaning → List TripleTokens → List TriplePattern
@@ -26,6 +27,11 @@ block_parts ms t = []
 abbrev pub no_part : Part
 no_part = Triples []
 
+-- BIND "(" or AS VAR ")"
+abbrev pub bind_value : List Meaning → Tree → Part
+bind_value ms (pair word (pair left (pair c (pair as_ (pair v right))))) = Bind (or_value ms c) (number_of (meaning_at ms (first_token v)))
+bind_value ms t = no_part
+
 abbrev mutual
   -- group = "{" [ block ] { part [ "." ] [ block ] } "}"
   pub group_value : List Meaning → Tree → List Part
@@ -36,7 +42,7 @@ abbrev mutual
   parts_value ms (pair (pair p (pair dot block)) more) = (part_value ms p ∷ block_parts ms block) ++ parts_value ms more
   parts_value ms t = []
 
-  -- part = OPTIONAL group | GRAPH name group | FILTER filter | group { UNION group }
+  -- part = OPTIONAL group | GRAPH name group | FILTER filter | group { UNION group } | MINUS group | BIND "(" or AS VAR ")" | VALUES table
   pub part_value : List Meaning → Tree → Part
   part_value ms (first (pair word g)) = Optional (group_value ms g)
   part_value ms (second t) = other_value ms t
@@ -45,8 +51,20 @@ abbrev mutual
   pub other_value : List Meaning → Tree → Part
   other_value ms (first t) = graph_value ms t
   other_value ms (second (first (pair word t))) = Filter (filter_value ms t)
-  other_value ms (second (second t)) = union_value ms t
+  other_value ms (second (second t)) = later_value ms t
   other_value ms t = no_part
+
+  pub later_value : List Meaning → Tree → Part
+  later_value ms (first t) = union_value ms t
+  later_value ms (second t) = last_value ms t
+  later_value ms t = no_part
+
+  -- MINUS group | BIND "(" or AS VAR ")" | VALUES table
+  pub last_value : List Meaning → Tree → Part
+  last_value ms (first (pair word g)) = Minus (group_value ms g)
+  last_value ms (second (first t)) = bind_value ms t
+  last_value ms (second (second (pair word t))) = table_value ms t
+  last_value ms t = no_part
 
   -- GRAPH name group
   pub graph_value : List Meaning → Tree → Part
@@ -61,11 +79,6 @@ abbrev mutual
   pub groups_value : List Meaning → Tree → List (List Part)
   groups_value ms (pair (pair word g) more) = group_value ms g ∷ groups_value ms more
   groups_value ms t = []
-
--- { VAR }
-abbrev pub numbers_value : List Meaning → Tree → List ℕ
-numbers_value ms (pair v more) = number_of (meaning_at ms (first_token v)) ∷ numbers_value ms more
-numbers_value ms t = []
 
 -- selection = VAR { VAR } | "*"
 abbrev pub selection_value : List Meaning → Tree → Selected

@@ -1,5 +1,6 @@
 -- What a query names, and when that keeps within the numbers and digits that this project knows.
-use Rattle.std.specs.Prelude.{ℕ, ◌<◌, IsTrue, not, List, [], ◌∷◌, ◌++◌, map, flat_map, length, Contains}
+use Rattle.std.specs.Prelude.{ℕ, ◌<◌, IsTrue, not, List, [], ◌∷◌, ◌++◌, map, flat_map, length, Contains, Option, Some, None}
+use Rattle.vkg_terms.specs.declared.term.Term.{Term}
 use Rattle.vkg_terms.specs.declared.term.Term.TheVariants.{Iri}
 use Rattle.vkg_cells.specs.WellTyped.{is_wide_number}
 use Rattle.vkg_sparql.specs.declared.pattern.Node.{Node}
@@ -9,7 +10,7 @@ use Rattle.vkg_sparql.specs.declared.pattern.GraphName.TheVariants.{Each, Named}
 use Rattle.vkg_sparql.specs.declared.pattern.TriplePattern.{TriplePattern}
 use Rattle.vkg_sparql.specs.declared.query.Selected.{Selected}
 use Rattle.vkg_sparql.specs.declared.query.Selected.TheVariants.{All, Listed}
-use Rattle.vkg_sparql.specs.Query.{Condition, Variable, Constant, Bound, Test, Take, Compare, SameTerm, Not, And, Or, Part, Triples, Filter, Optional, Graph, Groups, Group, End, Then, Unions, Last, Union, Key, Query}
+use Rattle.vkg_sparql.specs.Query.{Condition, Variable, Constant, Bound, Test, Take, Compare, SameTerm, Not, And, Or, Part, Triples, Filter, Optional, Graph, Groups, Minus, Values, Bind, Group, End, Then, Unions, Last, Union, Key, Query}
 
 -- the variables and terms of an expression
 abbrev pub condition_nodes : Condition → List Node
@@ -34,6 +35,14 @@ abbrev pub name_node : GraphName → Node
 name_node (Each v) = node.Variable v
 name_node (Named iri) = node.Fixed (Iri iri)
 
+-- the terms of a table
+abbrev pub value_nodes : Option Term → List Node
+value_nodes None = []
+value_nodes (Some t) = node.Fixed t ∷ []
+
+abbrev pub rows_nodes : List (List (Option Term)) → List Node
+rows_nodes rows = flat_map (flat_map value_nodes) rows
+
 -- the variables, labels and terms of a group
 abbrev mutual
   pub part_nodes : Part → List Node
@@ -42,6 +51,9 @@ abbrev mutual
   part_nodes (Optional g) = group_nodes g
   part_nodes (Graph name g) = name_node name ∷ group_nodes g
   part_nodes (Groups g more) = group_nodes g ++ unions_nodes more
+  part_nodes (Minus g) = group_nodes g
+  part_nodes (Values vs rows) = map node.Variable vs ++ rows_nodes rows
+  part_nodes (Bind c v) = node.Variable v ∷ condition_nodes c
 
   pub group_nodes : Group → List Node
   group_nodes End = []

@@ -7,10 +7,9 @@ use Rattle.vkg_tokens.specs.Words.{sparql_word}
 use Rattle.vkg_sparql.specs.declared.grammar_table.TheConstants.{SPARQL}
 use Rattle.vkg_sparql.specs.Reading.{dead_check}
 
--- these words have kinds of their own, and a query is told by this check where it has one: 7 that it is left out, 2 that no query goes on so
+-- these words have kinds of their own, and a query is told by this check where it has one: 7 that it is left out
 abbrev pub words_to_come : List (List ℕ × ℕ)
-words_to_come =
-    (codes "MINUS", 7) ∷ (codes "BIND", 7) ∷ (codes "AS", 7) ∷ (codes "VALUES", 7) ∷ (codes "ASK", 7) ∷ (codes "CONSTRUCT", 7) ∷ (codes "UNDEF", 2) ∷ []
+words_to_come = (codes "ASK", 7) ∷ (codes "CONSTRUCT", 7) ∷ []
 
 -- the rule is that of a token of this kind
 abbrev pub is_token_of : ℕ → Rule → Bool

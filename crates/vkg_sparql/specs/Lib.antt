@@ -7,8 +7,11 @@ pub mod LeftOut
 pub mod Lexemes
 pub mod Literals
 pub mod Meanings
+pub mod Nodes
 pub mod Orders
 pub mod Query
 pub mod Reading
+pub mod Scopes
 pub mod Seen
+pub mod Tables
 pub mod Triples

@@ -1,6 +1,7 @@
 -- What the tokens of a query stand for, and what is made of them. Where the grammar has no such token, any value serves.
-use Rattle.std.specs.Prelude.{ℕ, List, [], slice_get, unwrap_or}
+use Rattle.std.specs.Prelude.{ℕ, List, [], ◌∷◌, slice_get, unwrap_or, Option, Some, None}
 use Rattle.vkg_grammar.specs.Trees.{Tree, leaf, nothing, pair, first, second}
+use Rattle.vkg_terms.specs.declared.term.Term.{Term}
 use Rattle.vkg_terms.specs.declared.term.Term.TheVariants.{Iri}
 use Rattle.vkg_values.specs.declared.operator.Compare.{Compare as CompareOp}
 use Rattle.vkg_values.specs.declared.operator.Compare.TheVariants.{Equal}
@@ -36,6 +37,20 @@ node_of m = node.Label 0
 abbrev pub number_of : Meaning → ℕ
 number_of (Variable n) = n
 number_of m = 0
+
+abbrev pub variable_if : Meaning → Option ℕ
+variable_if (Variable n) = Some n
+variable_if m = None
+
+-- a value of VALUES; UNDEF is none
+abbrev pub term_if : Meaning → Option Term
+term_if (Fixed t) = Some t
+term_if m = None
+
+-- { VAR }
+abbrev pub numbers_value : List Meaning → Tree → List ℕ
+numbers_value ms (pair v more) = number_of (meaning_at ms (first_token v)) ∷ numbers_value ms more
+numbers_value ms t = []
 
 -- an expression that is one token, or one literal
 abbrev pub operand_of : Meaning → Condition

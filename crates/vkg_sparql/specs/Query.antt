@@ -1,5 +1,5 @@
 -- Queries as the definitions above see them. Variables and blank node labels are numbers, with their names beside.
-use Rattle.std.specs.Prelude.{ℕ, Bool, List}
+use Rattle.std.specs.Prelude.{ℕ, Bool, List, Option}
 use Rattle.vkg_terms.specs.declared.term.Term.{Term}
 use Rattle.vkg_values.specs.declared.operator.Test.{Test as TestOp}
 use Rattle.vkg_values.specs.declared.operator.Take.{Take as TakeOp}
@@ -22,7 +22,8 @@ pub data Condition : Type 0 where
   And : (a b : Condition) → Condition
   Or : (a b : Condition) → Condition
 
--- SPARQL 1.1, 5.2: what stands between a group's braces; a group, and those that UNION joins to it (7)
+-- SPARQL 1.1, 5.2: what stands between a group's braces; a group, and those that UNION joins to it (7); the variables and the rows of a table
+-- (10.2), where UNDEF is no term; an expression, and the variable that has its value (10.1)
 mutual
   pub data Part : Type 0 where
     Triples : (ps : List TriplePattern) → Part
@@ -30,6 +31,9 @@ mutual
     Optional : (g : Group) → Part
     Graph : (name : GraphName) (g : Group) → Part
     Groups : (g : Group) (more : Unions) → Part
+    Minus : (g : Group) → Part
+    Values : (vs : List ℕ) (rows : List (List (Option Term))) → Part
+    Bind : (c : Condition) (v : ℕ) → Part
 
   pub data Group : Type 0 where
     End : Group

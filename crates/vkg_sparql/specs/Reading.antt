@@ -11,22 +11,26 @@ use Rattle.vkg_tokens.specs.declared.cutting.Token.{Token}
 use Rattle.vkg_tokens.specs.declared.lang.Lang.TheVariants.{Sparql}
 use Rattle.vkg_tokens.specs.Cut.{tokens_of}
 use Rattle.vkg_tokens.specs.Mark.{without_mark}
-use Rattle.vkg_tokens.specs.declared.sparql_kinds.TheConstants.{OPEN_BRACE, CLOSE_BRACE, OPEN, CLOSE, OPEN_BRACKET, CLOSE_BRACKET, STAR, CARET, PLUS_SIGN, QUESTION, DOUBLE, SELECT, OUTSIDE, MINUS, BIND, AS, VALUES, ASK, CONSTRUCT, KIND_COUNT}
+use Rattle.vkg_tokens.specs.declared.sparql_kinds.TheConstants.{OPEN_BRACE, CLOSE_BRACE, OPEN, CLOSE, OPEN_BRACKET, CLOSE_BRACKET, STAR, CARET, PLUS_SIGN, QUESTION, DOUBLE, SELECT, OUTSIDE, VALUES, ASK, CONSTRUCT, KIND_COUNT}
 use Rattle.vkg_turtle.specs.Lexical.{IsFirstBad}
 use Rattle.vkg_sparql.specs.declared.checks.Check.TheVariants.{Unknown, Relative, Float, Wide}
 use Rattle.vkg_sparql.specs.declared.environment.Environment.{Environment}
 use Rattle.vkg_sparql.specs.declared.grammar_table.TheConstants.{SPARQL}
 use Rattle.vkg_sparql.specs.declared.lexeme.Lexeme.{Lexeme}
+use Rattle.vkg_sparql.specs.declared.meaning.Meaning.{Meaning}
 use Rattle.vkg_sparql.specs.declared.names.Named.{Named}
 use Rattle.vkg_sparql.specs.declared.query.Query.{Query}
+use Rattle.vkg_sparql.specs.declared.scopes.Scope.{Scope}
 use Rattle.vkg_sparql.specs.declared.fault.QueryError.{QueryError}
 use Rattle.vkg_sparql.specs.declared.fault.QueryError.TheVariants.{Fault, Memory}
 use Rattle.vkg_sparql.specs.declared.fault.QueryFault.{QueryFault}
-use Rattle.vkg_sparql.specs.Checks.{first_place, label_again, triples_over, nodes_over, size_over, slice_over}
+use Rattle.vkg_sparql.specs.Checks.{first_place, label_again, triples_over, size_over, slice_over}
 use Rattle.vkg_sparql.specs.Environment.{environment_of, body_start}
 use Rattle.vkg_sparql.specs.Groups.{query_value, query_triples}
 use Rattle.vkg_sparql.specs.Lexemes.{lexemes_of, named_of}
 use Rattle.vkg_sparql.specs.Literals.{meanings_of}
+use Rattle.vkg_sparql.specs.Nodes.{nodes_over}
+use Rattle.vkg_sparql.specs.Scopes.{query_scope}
 
 -- the tokens of a query
 abbrev pub sparql_tokens : List ℕ → Result (List Token) ℕ
@@ -48,10 +52,10 @@ kind_at ts i = slice_index_or (kinds_of ts) i 0
 abbrev pub fault : ℕ → ℕ → QueryFault
 fault check at = record { check = check; at = at }
 
--- own: the words of SPARQL 1.1 that are told as left out of the profile: those of the kind OUTSIDE, and of those that are to come all
--- but UNDEF
+-- own: the words of SPARQL 1.1 that are told as left out of the profile: those of the kind OUTSIDE, those that are to come, and VALUES where no
+-- query goes on with it, as behind the outermost group
 unfoldable pub is_outside_word : ℕ → Bool
-is_outside_word kind = (kind == OUTSIDE) || (kind == MINUS) || (kind == BIND) || (kind == AS) || (kind == VALUES) || (kind == ASK) || (kind == CONSTRUCT)
+is_outside_word kind = (kind == OUTSIDE) || (kind == VALUES) || (kind == ASK) || (kind == CONSTRUCT)
 
 -- own: the tokens that are told so: these words, `(` `*` `/` `|` `^` `+` `-` `?`, a number with an exponent, and SELECT within a query. Among
 -- the kinds `*` to `^` stand together, and `+` to `?`
@@ -91,21 +95,35 @@ fault_if check (Some at) later = Some (fault check at)
 abbrev pub limit_over : Read → Option ℕ
 limit_over r = lesser (lesser (triples_over r.lexemes (query_triples r.tree)) (nodes_over r.lexemes)) (lesser r.named.over (size_over r.size))
 
--- the least check that fails, at its least place: 4 a prefix, 5 an IRI, 6 a blank node label, 7 a datatype outside the profile,
--- 8 a number, 9 a limit, 12 the number of a slice
-abbrev pub fault_of : Read → Option QueryFault
-fault_of r =
+-- what each token means
+abbrev pub meanings : Read → List Meaning
+meanings r = meanings_of r.environment r.named.keys (body_start r.tree) r.lexemes
+
+-- of the checks of tokens the least that fails, at its least place: 4 a prefix, 5 an IRI, 6 a blank node label, 7 a datatype outside the
+-- profile, 8 a number, 9 a limit
+abbrev pub token_fault : Read → Option QueryFault
+token_fault r =
     fault_if 4 (first_place Unknown r.environment r.body)
     (fault_if 5 (option_or r.environment.relative (first_place Relative r.environment r.body))
     (fault_if 6 (label_again r.body)
     (fault_if 7 (first_place Float r.environment r.body)
     (fault_if 8 (first_place Wide r.environment r.body)
-    (fault_if 9 (limit_over r)
-    (fault_if 12 (slice_over r.body) None))))))
+    (fault_if 9 (limit_over r) None)))))
+
+-- of the checks of parts: 10 a table of VALUES, 11 a variable of BIND, 12 the number of a slice
+abbrev pub scope_fault : Scope → List Lexeme → Option QueryFault
+scope_fault s body = fault_if 10 s.uneven (fault_if 11 s.again (fault_if 12 (slice_over body) None))
+
+abbrev pub part_fault : Read → Option QueryFault
+part_fault r = scope_fault (query_scope (meanings r) r.lexemes r.tree) r.body
+
+-- the least check that fails, at its least place
+abbrev pub fault_of : Read → Option QueryFault
+fault_of r = option_or (token_fault r) (part_fault r)
 
 -- the query
 abbrev pub query_of : Read → Query
-query_of r = query_value r.named.names (meanings_of r.environment r.named.keys (body_start r.tree) r.lexemes) r.tree
+query_of r = query_value r.named.names (meanings r) r.tree
 
 -- The text is one of the grammar, and this is what was read of it.
 pub record Says (text base : List ℕ) (r : Read) : Type 0 where

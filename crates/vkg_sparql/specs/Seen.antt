@@ -8,7 +8,7 @@ use Rattle.vkg_sparql.specs.declared.query.Part.TheOpen.{Part-F}
 use Rattle.vkg_sparql.specs.declared.query.Part.TheFolds.{fold-Part}
 use Rattle.vkg_sparql.specs.declared.query.Key.{Key as KeyValue}
 use Rattle.vkg_sparql.specs.declared.query.Query.{Query as QueryValue}
-use Rattle.vkg_sparql.specs.Query.{Condition, Variable, Constant, Bound, Test, Take, Compare, SameTerm, Not, And, Or, Part, Triples, Filter, Optional, Graph, Groups, Group, End, Then, Unions, Last, Union, Key, Query}
+use Rattle.vkg_sparql.specs.Query.{Condition, Variable, Constant, Bound, Test, Take, Compare, SameTerm, Not, And, Or, Part, Triples, Filter, Optional, Graph, Groups, Minus, Values, Bind, Group, End, Then, Unions, Last, Union, Key, Query}
 
 -- one form of an expression over what stands in it; a chain is joined from the left
 abbrev pub condition_step : Condition-F Condition → Condition
@@ -40,6 +40,9 @@ part_step (Part-F.Filter c) = Filter (condition_seen c)
 part_step (Part-F.Optional ps) = Optional (group_of ps)
 part_step (Part-F.Graph name ps) = Graph name (group_of ps)
 part_step (Part-F.Groups ps pss) = Groups (group_of ps) (unions_of pss)
+part_step (Part-F.Minus ps) = Minus (group_of ps)
+part_step (Part-F.Values vs rows) = Values vs rows
+part_step (Part-F.Bind c v) = Bind (condition_seen c) v
 
 abbrev pub part_seen : PartValue → Part
 part_seen = fold-Part Part part_step

@@ -76,7 +76,7 @@ abbrev mutual
   parts_triples (pair (pair p (pair dot block)) more) = (part_triples p ++ block_triples block) ++ parts_triples more
   parts_triples t = []
 
-  -- part = OPTIONAL group | GRAPH name group | FILTER filter | group { UNION group }
+  -- part = OPTIONAL group | GRAPH name group | FILTER filter | group { UNION group } | MINUS group | BIND .. | VALUES table
   pub part_triples : Tree → List TripleTokens
   part_triples (first (pair word g)) = group_triples g
   part_triples (second t) = other_triples t
@@ -84,8 +84,18 @@ abbrev mutual
 
   pub other_triples : Tree → List TripleTokens
   other_triples (first t) = graph_triples t
-  other_triples (second (second t)) = union_triples t
+  other_triples (second (second t)) = later_triples t
   other_triples t = []
+
+  pub later_triples : Tree → List TripleTokens
+  later_triples (first t) = union_triples t
+  later_triples (second t) = last_triples t
+  later_triples t = []
+
+  -- MINUS group | BIND "(" or AS VAR ")" | VALUES table
+  pub last_triples : Tree → List TripleTokens
+  last_triples (first (pair word g)) = group_triples g
+  last_triples t = []
 
   -- GRAPH name group
   pub graph_triples : Tree → List TripleTokens

@@ -1,6 +1,6 @@
 ghost use Rattle.std.specs.Prelude.{◌≡◌, ◌<◌, ◌++◌, OnOk};
 ghost use Rattle.vkg_grammar.specs.Forest.{tree, node_count};
-ghost use Rattle.vkg_sparql.specs.Triples.{group_triples, parts_triples, part_triples, other_triples, graph_triples, union_triples, groups_triples};
+ghost use Rattle.vkg_sparql.specs.Triples.{group_triples, parts_triples, part_triples, other_triples, later_triples, last_triples, graph_triples, union_triples, groups_triples};
 
 use crate::meaning::TripleTokens;
 use crate::triple_reader::read_triples;
@@ -51,7 +51,7 @@ fn read_parts(forest: &Forest, at: usize, out: &mut Items<TripleTokens>) -> Resu
     Ok(())
 }
 
-// part = OPTIONAL group | GRAPH name group | FILTER filter | group { UNION group }
+// part = OPTIONAL group | GRAPH name group | FILTER filter | group { UNION group } | MINUS group | BIND .. | VALUES table
 #[cycle(triples)]
 fn read_part(forest: &Forest, at: usize, out: &mut Items<TripleTokens>) -> Result<(), Memory>
     requires { at < node_count forest.now }
@@ -67,7 +67,7 @@ fn read_part(forest: &Forest, at: usize, out: &mut Items<TripleTokens>) -> Resul
     }
 }
 
-// GRAPH name group | FILTER filter | group { UNION group }
+// GRAPH name group | FILTER filter | ..
 #[cycle(triples)]
 fn read_other(forest: &Forest, at: usize, out: &mut Items<TripleTokens>) -> Result<(), Memory>
     requires { at < node_count forest.now }
@@ -76,7 +76,35 @@ fn read_other(forest: &Forest, at: usize, out: &mut Items<TripleTokens>) -> Resu
     match forest.node(at) {
         Node::First(t) => read_graph(forest, t, out),
         Node::Second(t) => match forest.node(t) {
-            Node::Second(t) => read_groups(forest, t, out),
+            Node::Second(t) => read_later(forest, t, out),
+            _ => Ok(()),
+        },
+        _ => Ok(()),
+    }
+}
+
+// group { UNION group } | MINUS group | ..
+#[cycle(triples)]
+fn read_later(forest: &Forest, at: usize, out: &mut Items<TripleTokens>) -> Result<(), Memory>
+    requires { at < node_count forest.now }
+    ensures { OnOk result (out.new ≡ out.old ++ later_triples (tree forest.now at)) }
+{
+    match forest.node(at) {
+        Node::First(t) => read_groups(forest, t, out),
+        Node::Second(t) => read_last(forest, t, out),
+        _ => Ok(()),
+    }
+}
+
+// MINUS group | BIND "(" or AS VAR ")" | VALUES table
+#[cycle(triples)]
+fn read_last(forest: &Forest, at: usize, out: &mut Items<TripleTokens>) -> Result<(), Memory>
+    requires { at < node_count forest.now }
+    ensures { OnOk result (out.new ≡ out.old ++ last_triples (tree forest.now at)) }
+{
+    match forest.node(at) {
+        Node::First(t) => match forest.node(t) {
+            Node::Pair(_, group) => read_group_triples(forest, group, out),
             _ => Ok(()),
         },
         _ => Ok(()),

@@ -1,6 +1,6 @@
 ghost use Rattle.std.specs.Prelude.{◌≡◌, position, OnOk, IfOk};
 ghost use Rattle.std.specs.Str.{bytes_eq};
-ghost use Rattle.vkg_sparql.specs.Checks.{is_here, with_found, with_label, block_step, label_again};
+ghost use Rattle.vkg_sparql.specs.Checks.{is_here, with_found, with_label, ends_block, block_step, label_again};
 
 use crate::lexeme::Lexeme;
 use crate::names::Names;
@@ -10,14 +10,20 @@ use vkg_hash::Seed;
 use vkg_tokens::sparql_kinds as kinds;
 use vkg_turtle::Word;
 
-/// The blank node labels of a query, each with the last brace before its first use; the last brace; and the first use of a
-/// label in a second basic graph pattern.
+/// The blank node labels of a query, each with the last brace or BIND before its first use; the last brace or BIND; and the first use
+/// of a label in a second basic graph pattern.
 #[derive(Drop)]
 pub struct Blocks {
     pub labels: Names,
     pub braces: Items<usize>,
     pub brace: usize,
     pub again: Option<usize>,
+}
+
+fn ends_block(kind: usize) -> bool
+    ensures { result ≡ ends_block kind }
+{
+    kind == kinds::OPEN_BRACE || kind == kinds::CLOSE_BRACE || kind == kinds::BIND
 }
 
 impl Blocks {
@@ -69,7 +75,7 @@ impl Blocks {
     fn step(&mut self, alloc: Global, lexeme: &Lexeme) -> Result<(), Memory>
         ensures { OnOk result (self.new ≡ block_step self.old lexeme.now) }
     {
-        if lexeme.kind == kinds::OPEN_BRACE || lexeme.kind == kinds::CLOSE_BRACE {
+        if ends_block(lexeme.kind) {
             self.brace = lexeme.at;
             Ok(())
         } else if lexeme.kind == kinds::BLANK {

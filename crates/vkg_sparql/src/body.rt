@@ -4,24 +4,28 @@ ghost use Rattle.vkg_grammar.specs.Forest.{tree, node_count};
 ghost use Rattle.vkg_grammar.specs.Form.{IsShallow};
 ghost use Rattle.vkg_grammar.specs.Kinds.{kinds_of};
 ghost use Rattle.vkg_grammar.specs.OneTree.{IsTheTree};
-ghost use Rattle.vkg_sparql.specs.Checks.{triples_over, nodes_over, size_over};
+ghost use Rattle.vkg_sparql.specs.Checks.{triples_over, size_over};
+ghost use Rattle.vkg_sparql.specs.Nodes.{nodes_over};
 ghost use Rattle.vkg_lists.specs.Places.{lesser as lesser_of};
 ghost use Rattle.vkg_sparql.specs.Environment.{body_start};
 ghost use Rattle.vkg_sparql.specs.Groups.{query_value, query_triples};
 ghost use Rattle.vkg_sparql.specs.Lexemes.{lexemes_of};
 ghost use Rattle.vkg_sparql.specs.Literals.{meanings_of};
-ghost use Rattle.vkg_sparql.specs.Reading.{IsQueryText, TextFails, sparql, sparql_tokens, parts, fault_if, fault_of};
+ghost use Rattle.vkg_sparql.specs.Reading.{IsQueryText, TextFails, sparql, sparql_tokens, parts, fault_if, token_fault, scope_fault, fault_of};
+ghost use Rattle.vkg_sparql.specs.Scopes.{query_scope};
 
 use crate::blocks::label_again;
-use crate::checks::{Check, first_place, nodes_over, size_over, slice_over, triples_over};
+use crate::checks::{Check, first_place, size_over, slice_over, triples_over};
 use crate::environment::{Environment, body_start, environment_of};
 use crate::fault::{QueryError, QueryFault};
 use crate::grammar_table::SPARQL;
 use crate::lexeme::{Lexeme, lexemes_of};
 use crate::literals::meanings_of;
 use crate::names::{Named, named_of};
+use crate::nodes::nodes_over;
 use crate::query::Query;
 use crate::query_reader::{read_all_triples, read_tree};
+use crate::scopes::query_scope;
 use std::alloc::Global;
 use vkg_base::{Memory, lesser};
 use vkg_grammar::{Forest, Parsed};
@@ -67,6 +71,52 @@ fn limit_over(
     Ok(lesser(lesser(triples, nodes), lesser(over, size_over(size))))
 }
 
+// Of the checks of tokens the least that fails, at its least place.
+fn token_fault(
+    alloc: Global,
+    seed: Seed,
+    size: usize,
+    lexemes: &[Lexeme],
+    environment: &Environment,
+    body: &[Lexeme],
+    named: &Named,
+    forest: &Forest,
+    at: usize,
+) -> Result<Option<QueryFault>, Memory>
+    requires { at < node_count forest.now }
+    ensures { IfOk result (λ f. f ≡ token_fault (parts size lexemes.now environment.now body.now named.now (tree forest.now at))) }
+{
+    let unknown = first_place(alloc, Check::Unknown, environment, body)?;
+    let relative = first_place(alloc, Check::Relative, environment, body)?;
+    let again = label_again(alloc, seed, body)?;
+    let float = first_place(alloc, Check::Float, environment, body)?;
+    let wide = first_place(alloc, Check::Wide, environment, body)?;
+    let limit = limit_over(alloc, size, lexemes, named.over, forest, at)?;
+    let numbers = fault_if(8, wide, fault_if(9, limit, None));
+    let labels = fault_if(6, again, fault_if(7, float, numbers));
+    let iris = fault_if(5, environment.relative.or(relative), labels);
+    Ok(fault_if(4, unknown, iris))
+}
+
+// Of the checks of parts the least that fails, at its least place.
+fn part_fault(
+    alloc: Global,
+    lexemes: &[Lexeme],
+    environment: &Environment,
+    body: &[Lexeme],
+    named: &Named,
+    forest: &Forest,
+    at: usize,
+) -> Result<Option<QueryFault>, Memory>
+    requires { at < node_count forest.now }
+    ensures { IfOk result (λ f. f ≡ scope_fault (query_scope (meanings_of environment.now named.now.keys lexemes.now) lexemes.now (tree forest.now at)) body.now) }
+{
+    let meanings = meanings_of(alloc, environment, &named.keys, lexemes)?;
+    let scope = query_scope(alloc, &meanings, lexemes, forest, at)?;
+    let slice = fault_if(12, slice_over(body), None);
+    Ok(fault_if(10, scope.uneven, fault_if(11, scope.again, slice)))
+}
+
 // The least check that fails, at its least place.
 fn fault_of(
     alloc: Global,
@@ -82,17 +132,21 @@ fn fault_of(
     requires { at < node_count forest.now }
     ensures { IfOk result (λ f. f ≡ fault_of (parts size lexemes.now environment.now body.now named.now (tree forest.now at))) }
 {
-    let unknown = first_place(alloc, Check::Unknown, environment, body)?;
-    let relative = first_place(alloc, Check::Relative, environment, body)?;
-    let again = label_again(alloc, seed, body)?;
-    let float = first_place(alloc, Check::Float, environment, body)?;
-    let wide = first_place(alloc, Check::Wide, environment, body)?;
-    let limit = limit_over(alloc, size, lexemes, named.over, forest, at)?;
-    let slice = fault_if(9, limit, fault_if(12, slice_over(body), None));
-    let numbers = fault_if(8, wide, slice);
-    let labels = fault_if(6, again, fault_if(7, float, numbers));
-    let iris = fault_if(5, environment.relative.or(relative), labels);
-    Ok(fault_if(4, unknown, iris))
+    let found = token_fault(
+        alloc,
+        seed,
+        size,
+        lexemes,
+        environment,
+        body,
+        named,
+        forest,
+        at,
+    )?;
+    if found.is_some() {
+        return Ok(found);
+    }
+    part_fault(alloc, lexemes, environment, body, named, forest, at)
 }
 
 #[tactic(auto, using(std::proofs::lemmas::List::drop_all))]

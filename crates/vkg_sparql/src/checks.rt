@@ -1,5 +1,5 @@
 ghost use Rattle.std.specs.Prelude.{◌≡◌, ◌&&◌, IfOk, map, filter, option_map, slice_get, is_none};
-ghost use Rattle.vkg_sparql.specs.Checks.{is_unknown, is_relative, is_float_type, is_float, is_literal, fails, first_place, is_node, node_places, place_in, subject_place, triples_over, nodes_over, size_over, begins_slice, is_slice_number, no_number, slice_over};
+ghost use Rattle.vkg_sparql.specs.Checks.{is_unknown, is_relative, is_float_type, is_float, is_literal, fails, first_place, place_in, subject_place, triples_over, size_over, begins_slice, is_slice_number, no_number, slice_over};
 ghost use Rattle.vkg_sparql.specs.Environment.{iri_of};
 
 use crate::environment::Environment;
@@ -133,36 +133,8 @@ pub fn first_place(
     Ok(None)
 }
 
-fn is_node(kind: usize) -> bool
-    ensures { result ≡ is_node kind }
-{
-    kind == kinds::OPEN_BRACE
-        || (kinds::EQUAL <= kind && kind <= kinds::OR)
-        || (kinds::OPTIONAL <= kind && kind <= kinds::DATATYPE)
-        || (kinds::STRLEN <= kind && kind <= kinds::CONTAINS)
-}
-
-fn node_places(alloc: Global, lexemes: &[Lexeme]) -> Result<Vec<usize>, Memory>
-    ensures { IfOk result (λ places. places.items ≡ node_places lexemes.now) }
-{
-    let mut places = Vec::new(alloc);
-    for lexeme in lexemes {
-        if is_node(lexeme.kind) {
-            places.push(lexeme.at)?;
-        }
-    }
-    Ok(places)
-}
-
-/// The place of the 1,025th node.
-pub fn nodes_over(alloc: Global, lexemes: &[Lexeme]) -> Result<Option<usize>, Memory>
-    ensures { IfOk result (λ at. at ≡ nodes_over lexemes.now) }
-{
-    let places = node_places(alloc, lexemes)?;
-    Ok(places.get(1024).copied())
-}
-
-fn place_in(lexemes: &[Lexeme], token: usize) -> Option<usize>
+/// Where a token begins.
+pub fn place_in(lexemes: &[Lexeme], token: usize) -> Option<usize>
     ensures { result ≡ place_in lexemes.now token }
 {
     match lexemes.get(token) {

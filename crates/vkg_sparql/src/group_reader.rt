@@ -1,12 +1,13 @@
 ghost use Rattle.std.specs.Prelude.{◌≡◌, ◌<◌, ◌++◌, ◌∷◌, map, IfOk, OnOk};
 ghost use Rattle.vkg_grammar.specs.Forest.{tree, node_count};
-ghost use Rattle.vkg_sparql.specs.Groups.{patterns_of, block_parts, no_part, group_value, parts_value, part_value, other_value, graph_value, union_value, groups_value};
+ghost use Rattle.vkg_sparql.specs.Groups.{patterns_of, block_parts, no_part, group_value, parts_value, bind_value, part_value, other_value, later_value, last_value, graph_value, union_value, groups_value};
 ghost use Rattle.vkg_sparql.specs.Meanings.{name_of, meaning_at};
 
-use crate::condition_reader::read_filter;
-use crate::meaning::{Meaning, TripleTokens, first_token, name_of, pattern_of};
+use crate::condition_reader::{read_filter, read_or};
+use crate::meaning::{Meaning, TripleTokens, first_token, name_of, number_of, pattern_of};
 use crate::pattern::TriplePattern;
 use crate::query::Part;
+use crate::table_reader::read_table;
 use crate::triple_reader::read_triples;
 use std::alloc::Global;
 use vkg_base::{Items, Memory};
@@ -49,6 +50,35 @@ fn no_part(alloc: Global) -> Result<Part, Memory>
     ensures { IfOk result (λ p. p ≡ no_part) }
 {
     Ok(Part::Triples(Items::new(alloc)))
+}
+
+// BIND "(" or AS VAR ")"
+fn read_bind(
+    alloc: Global,
+    meanings: &[Meaning],
+    forest: &Forest,
+    at: usize,
+) -> Result<Part, Memory>
+    requires { at < node_count forest.now }
+    ensures { IfOk result (λ p. p ≡ bind_value meanings.now (tree forest.now at)) }
+{
+    let Node::Pair(_, rest) = forest.node(at) else {
+        return no_part(alloc);
+    };
+    let Node::Pair(_, rest) = forest.node(rest) else {
+        return no_part(alloc);
+    };
+    let Node::Pair(value, rest) = forest.node(rest) else {
+        return no_part(alloc);
+    };
+    let Node::Pair(_, rest) = forest.node(rest) else {
+        return no_part(alloc);
+    };
+    let Node::Pair(variable, _) = forest.node(rest) else {
+        return no_part(alloc);
+    };
+    let number = number_of(meanings, first_token(forest, variable));
+    Ok(Part::Bind(read_or(alloc, meanings, forest, value)?, number))
 }
 
 /// The parts of the group whose tree is at `at` (SPARQL 1.1, 19.8, GroupGraphPattern), in the order in which they are written:
@@ -105,7 +135,7 @@ fn push_parts(
     Ok(())
 }
 
-// part = OPTIONAL group | GRAPH name group | FILTER filter | group { UNION group }
+// part = OPTIONAL group | GRAPH name group | FILTER filter | group { UNION group } | MINUS group | BIND .. | VALUES table
 #[cycle(group)]
 fn read_part(
     alloc: Global,
@@ -128,7 +158,7 @@ fn read_part(
     }
 }
 
-// GRAPH name group | FILTER filter | group { UNION group }
+// GRAPH name group | FILTER filter | ..
 #[cycle(group)]
 fn read_other(
     alloc: Global,
@@ -146,7 +176,53 @@ fn read_other(
                 Node::Pair(_, t) => Ok(Part::Filter(read_filter(alloc, meanings, forest, t)?)),
                 _ => no_part(alloc),
             },
-            Node::Second(t) => read_groups(alloc, meanings, forest, t),
+            Node::Second(t) => read_later(alloc, meanings, forest, t),
+            _ => no_part(alloc),
+        },
+        _ => no_part(alloc),
+    }
+}
+
+// group { UNION group } | MINUS group | ..
+#[cycle(group)]
+fn read_later(
+    alloc: Global,
+    meanings: &[Meaning],
+    forest: &Forest,
+    at: usize,
+) -> Result<Part, Memory>
+    requires { at < node_count forest.now }
+    ensures { IfOk result (λ p. p ≡ later_value meanings.now (tree forest.now at)) }
+{
+    match forest.node(at) {
+        Node::First(t) => read_groups(alloc, meanings, forest, t),
+        Node::Second(t) => read_last(alloc, meanings, forest, t),
+        _ => no_part(alloc),
+    }
+}
+
+// MINUS group | BIND "(" or AS VAR ")" | VALUES table
+#[cycle(group)]
+fn read_last(
+    alloc: Global,
+    meanings: &[Meaning],
+    forest: &Forest,
+    at: usize,
+) -> Result<Part, Memory>
+    requires { at < node_count forest.now }
+    ensures { IfOk result (λ p. p ≡ last_value meanings.now (tree forest.now at)) }
+{
+    match forest.node(at) {
+        Node::First(t) => match forest.node(t) {
+            Node::Pair(_, group) => Ok(Part::Minus(read_group(alloc, meanings, forest, group)?)),
+            _ => no_part(alloc),
+        },
+        Node::Second(t) => match forest.node(t) {
+            Node::First(t) => read_bind(alloc, meanings, forest, t),
+            Node::Second(t) => match forest.node(t) {
+                Node::Pair(_, table) => read_table(alloc, meanings, forest, table),
+                _ => no_part(alloc),
+            },
             _ => no_part(alloc),
         },
         _ => no_part(alloc),

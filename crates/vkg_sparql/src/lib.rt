@@ -1,5 +1,5 @@
 //! SPARQL queries (SPARQL 1.1 Query Language, W3C Recommendation of 2013), in the profile of this project: SELECT over
-//! basic graph patterns, OPTIONAL, UNION, GRAPH and FILTER, with ORDER BY, LIMIT and OFFSET.
+//! basic graph patterns, OPTIONAL, UNION, GRAPH, FILTER, MINUS, VALUES and BIND, with ORDER BY, LIMIT and OFFSET.
 //!
 //! A query is kept as it is written, with its variables and blank node labels numbered. The definitions in `specs/` say
 //! what each type stands for as a tree that computes; copies are equal to what they copy.
@@ -22,12 +22,16 @@ mod lexeme;
 mod literals;
 mod meaning;
 mod names;
+mod nodes;
 mod order_reader;
 mod pattern;
 mod query;
 mod query_reader;
 mod reading;
+mod rows;
+mod scopes;
 mod symbols;
+mod table_reader;
 mod triple_reader;
 
 pub use blocks::Blocks;
@@ -40,6 +44,9 @@ pub use group_reader::{read_group, read_groups};
 pub use lexeme::Lexeme;
 pub use meaning::{Meaning, TripleTokens};
 pub use names::{Named, Names};
+pub use nodes::{Nodes, Stretch};
 pub use pattern::{GraphName, Node, TriplePattern, copy_patterns};
 pub use query::{Key, Part, Query, Selected, Slice};
 pub use reading::{is_determined, leaves_out_words, read_query};
+pub use rows::copy_rows;
+pub use scopes::Scope;

@@ -114,7 +114,8 @@ fn operator_of(kind: usize) -> Meaning
     }
 }
 
-fn is_term(kind: usize) -> bool
+/// Whether a token is a term, or begins a literal.
+pub fn is_term(kind: usize) -> bool
     ensures { result ≡ is_term kind }
 {
     kind == kinds::IRIREF

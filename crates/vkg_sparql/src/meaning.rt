@@ -1,6 +1,6 @@
 ghost use Rattle.std.specs.Prelude.{◌≡◌, ◌<◌, IfOk, unwrap_or};
 ghost use Rattle.vkg_grammar.specs.Forest.{tree, node_count};
-ghost use Rattle.vkg_sparql.specs.Meanings.{first_token, meaning_at, node_of, number_of, operand_of, compare_of, applied, applied_to_two, pattern_of, name_of};
+ghost use Rattle.vkg_sparql.specs.Meanings.{first_token, meaning_at, node_of, number_of, variable_if, term_if, operand_of, compare_of, applied, applied_to_two, pattern_of, name_of};
 
 use crate::condition::Condition;
 use crate::pattern::{GraphName, Node, TriplePattern};
@@ -60,6 +60,26 @@ pub fn node_of(meanings: &[Meaning], token: usize) -> Result<Node, Memory>
         Some(Meaning::Label(number)) => Ok(Node::Label(*number)),
         Some(Meaning::Fixed(term)) => Ok(Node::Fixed(term.copy()?)),
         _ => Ok(Node::Label(0)),
+    }
+}
+
+/// The number of the variable that a token is, if it is one.
+pub fn variable_if(meanings: &[Meaning], token: usize) -> Option<usize>
+    ensures { result ≡ variable_if (meaning_at meanings.now token) }
+{
+    match at(meanings, token) {
+        Some(Meaning::Variable(number)) => Some(*number),
+        _ => None,
+    }
+}
+
+/// The term that a token stands for, if it stands for one: UNDEF does not.
+pub fn term_if(meanings: &[Meaning], token: usize) -> Result<Option<Term>, Memory>
+    ensures { IfOk result (λ t. t ≡ term_if (meaning_at meanings.now token)) }
+{
+    match at(meanings, token) {
+        Some(Meaning::Fixed(term)) => Ok(Some(term.copy()?)),
+        _ => Ok(None),
     }
 }
 

@@ -1,6 +1,7 @@
 use crate::condition::Condition;
 use crate::pattern::{GraphName, TriplePattern};
 use vkg_base::{Items, Text};
+use vkg_terms::Term;
 
 /// What stands in a group between its braces (SPARQL 1.1, 5.2), in the order of the text.
 #[derive(Drop)]
@@ -15,6 +16,12 @@ pub enum Part {
     Graph(GraphName, Items<Part>),
     /// A group, and those that UNION joins to it (7).
     Groups(Items<Part>, Items<Items<Part>>),
+    /// MINUS (8.2).
+    Minus(Items<Part>),
+    /// VALUES (10.2): variables, and rows of values for them. UNDEF is none.
+    Values(Items<usize>, Items<Items<Option<Term>>>),
+    /// BIND (10.1): an expression, and the variable that has its value.
+    Bind(Condition, usize),
 }
 
 /// What stands behind SELECT (SPARQL 1.1, 16.1): `*`, or variables by their numbers.

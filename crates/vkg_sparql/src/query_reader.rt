@@ -1,6 +1,7 @@
 ghost use Rattle.std.specs.Prelude.{◌≡◌, ◌<◌, ◌++◌, [], IfOk, OnOk};
 ghost use Rattle.vkg_grammar.specs.Forest.{tree, node_count};
-ghost use Rattle.vkg_sparql.specs.Groups.{numbers_value, selection_value, is_distinct, no_query, query_value, query_triples};
+ghost use Rattle.vkg_sparql.specs.Meanings.{numbers_value};
+ghost use Rattle.vkg_sparql.specs.Groups.{selection_value, is_distinct, no_query, query_value, query_triples};
 
 use crate::all_triples::read_group_triples;
 use crate::group_reader::read_group;
@@ -11,8 +12,8 @@ use std::alloc::Global;
 use vkg_base::{Items, Memory, Text};
 use vkg_grammar::{Forest, Node};
 
-// { VAR }
-fn read_numbers(
+/// The numbers of variables: { VAR }.
+pub fn read_numbers(
     alloc: Global,
     meanings: &[Meaning],
     forest: &Forest,

@@ -67,9 +67,6 @@ fn is_outside_word(kind: usize) -> bool
     ensures { result ≡ is_outside_word kind }
 {
     kind == kinds::OUTSIDE
-        || kind == kinds::MINUS
-        || kind == kinds::BIND
-        || kind == kinds::AS
         || kind == kinds::VALUES
         || kind == kinds::ASK
         || kind == kinds::CONSTRUCT

@@ -237,7 +237,7 @@ pub const BLOCK_3: usize = 77;
 /// `[ block ]`
 pub const GROUP_1: usize = 78;
 
-/// `part = OPTIONAL group | GRAPH name group | FILTER filter | group { UNION group }`
+/// `part = OPTIONAL group | GRAPH name group | FILTER filter | group { UNION group } | MINUS group | BIND "(" or AS VAR ")" | VALUES table`
 pub const PART: usize = 79;
 
 /// `OPTIONAL`
@@ -486,128 +486,215 @@ pub const PART_6: usize = 160;
 /// `group { UNION group }`
 pub const PART_7: usize = 161;
 
-/// `FILTER filter | group { UNION group }`
-pub const PART_FROM_3: usize = 162;
+/// `MINUS`
+pub const TOKEN_MINUS: usize = 162;
 
-/// `GRAPH name group | FILTER filter | group { UNION group }`
-pub const PART_FROM_2: usize = 163;
+/// `MINUS group`
+pub const PART_8: usize = 163;
 
-/// `[ "." ]`
-pub const GROUP_2: usize = 164;
+/// `BIND`
+pub const TOKEN_BIND: usize = 164;
 
-/// `[ "." ] [ block ]`
-pub const GROUP_3: usize = 165;
+/// `AS`
+pub const TOKEN_AS: usize = 165;
 
-/// `part [ "." ] [ block ]`
-pub const GROUP_4: usize = 166;
+/// `AS VAR ")"`
+pub const PART_9: usize = 166;
 
-/// `{ part [ "." ] [ block ] }`
-pub const GROUP_5: usize = 167;
+/// `or AS VAR ")"`
+pub const PART_10: usize = 167;
+
+/// `"(" or AS VAR ")"`
+pub const PART_11: usize = 168;
+
+/// `BIND "(" or AS VAR ")"`
+pub const PART_12: usize = 169;
+
+/// `VALUES`
+pub const TOKEN_VALUES: usize = 170;
+
+/// `table = VAR "{" { value } "}" | "(" { VAR } ")" "{" { row } "}"`
+pub const TABLE: usize = 171;
+
+/// `value = iri | literal | UNDEF`
+pub const VALUE: usize = 172;
+
+/// `UNDEF`
+pub const TOKEN_UNDEF: usize = 173;
+
+/// `literal | UNDEF`
+pub const VALUE_FROM_2: usize = 174;
+
+/// `{ value }`
+pub const TABLE_1: usize = 175;
 
 /// `"}"`
-pub const TOKEN_CLOSE_BRACE: usize = 168;
+pub const TOKEN_CLOSE_BRACE: usize = 176;
+
+/// `{ value } "}"`
+pub const TABLE_2: usize = 177;
+
+/// `"{" { value } "}"`
+pub const TABLE_3: usize = 178;
+
+/// `VAR "{" { value } "}"`
+pub const TABLE_4: usize = 179;
+
+/// `row = "(" { value } ")"`
+pub const ROW: usize = 180;
+
+/// `{ value } ")"`
+pub const ROW_1: usize = 181;
+
+/// `{ row }`
+pub const TABLE_5: usize = 182;
+
+/// `{ row } "}"`
+pub const TABLE_6: usize = 183;
+
+/// `"{" { row } "}"`
+pub const TABLE_7: usize = 184;
+
+/// `")" "{" { row } "}"`
+pub const TABLE_8: usize = 185;
+
+/// `{ VAR } ")" "{" { row } "}"`
+pub const TABLE_9: usize = 186;
+
+/// `"(" { VAR } ")" "{" { row } "}"`
+pub const TABLE_10: usize = 187;
+
+/// `VALUES table`
+pub const PART_13: usize = 188;
+
+/// `BIND "(" or AS VAR ")" | VALUES table`
+pub const PART_FROM_6: usize = 189;
+
+/// `MINUS group | BIND "(" or AS VAR ")" | VALUES table`
+pub const PART_FROM_5: usize = 190;
+
+/// `group { UNION group } | MINUS group | BIND "(" or AS VAR ")" | VALUES table`
+pub const PART_FROM_4: usize = 191;
+
+/// `FILTER filter | group { UNION group } | MINUS group | BIND "(" or AS VAR ")" | VALUES table`
+pub const PART_FROM_3: usize = 192;
+
+/// `GRAPH name group | FILTER filter | group { UNION group } | MINUS group | BIND "(" or AS VAR ")" | VALUES table`
+pub const PART_FROM_2: usize = 193;
+
+/// `[ "." ]`
+pub const GROUP_2: usize = 194;
+
+/// `[ "." ] [ block ]`
+pub const GROUP_3: usize = 195;
+
+/// `part [ "." ] [ block ]`
+pub const GROUP_4: usize = 196;
+
+/// `{ part [ "." ] [ block ] }`
+pub const GROUP_5: usize = 197;
 
 /// `{ part [ "." ] [ block ] } "}"`
-pub const GROUP_6: usize = 169;
+pub const GROUP_6: usize = 198;
 
 /// `[ block ] { part [ "." ] [ block ] } "}"`
-pub const GROUP_7: usize = 170;
+pub const GROUP_7: usize = 199;
 
 /// `order = ORDER BY key { key }`
-pub const ORDER: usize = 171;
+pub const ORDER: usize = 200;
 
 /// `ORDER`
-pub const TOKEN_ORDER: usize = 172;
+pub const TOKEN_ORDER: usize = 201;
 
 /// `BY`
-pub const TOKEN_BY: usize = 173;
+pub const TOKEN_BY: usize = 202;
 
 /// `key = VAR | call | bracketed | direction bracketed`
-pub const KEY: usize = 174;
+pub const KEY: usize = 203;
 
 /// `direction = ASC | DESC`
-pub const DIRECTION: usize = 175;
+pub const DIRECTION: usize = 204;
 
 /// `ASC`
-pub const TOKEN_ASC: usize = 176;
+pub const TOKEN_ASC: usize = 205;
 
 /// `DESC`
-pub const TOKEN_DESC: usize = 177;
+pub const TOKEN_DESC: usize = 206;
 
 /// `direction bracketed`
-pub const KEY_1: usize = 178;
+pub const KEY_1: usize = 207;
 
 /// `bracketed | direction bracketed`
-pub const KEY_FROM_3: usize = 179;
+pub const KEY_FROM_3: usize = 208;
 
 /// `call | bracketed | direction bracketed`
-pub const KEY_FROM_2: usize = 180;
+pub const KEY_FROM_2: usize = 209;
 
 /// `{ key }`
-pub const ORDER_1: usize = 181;
+pub const ORDER_1: usize = 210;
 
 /// `key { key }`
-pub const ORDER_2: usize = 182;
+pub const ORDER_2: usize = 211;
 
 /// `BY key { key }`
-pub const ORDER_3: usize = 183;
+pub const ORDER_3: usize = 212;
 
 /// `[ order ]`
-pub const QUERY_9: usize = 184;
+pub const QUERY_9: usize = 213;
 
 /// `slice = LIMIT INTEGER [ OFFSET INTEGER ] | OFFSET INTEGER [ LIMIT INTEGER ]`
-pub const SLICE: usize = 185;
+pub const SLICE: usize = 214;
 
 /// `LIMIT`
-pub const TOKEN_LIMIT: usize = 186;
+pub const TOKEN_LIMIT: usize = 215;
 
 /// `OFFSET`
-pub const TOKEN_OFFSET: usize = 187;
+pub const TOKEN_OFFSET: usize = 216;
 
 /// `OFFSET INTEGER`
-pub const SLICE_1: usize = 188;
+pub const SLICE_1: usize = 217;
 
 /// `[ OFFSET INTEGER ]`
-pub const SLICE_2: usize = 189;
+pub const SLICE_2: usize = 218;
 
 /// `INTEGER [ OFFSET INTEGER ]`
-pub const SLICE_3: usize = 190;
+pub const SLICE_3: usize = 219;
 
 /// `LIMIT INTEGER [ OFFSET INTEGER ]`
-pub const SLICE_4: usize = 191;
+pub const SLICE_4: usize = 220;
 
 /// `LIMIT INTEGER`
-pub const SLICE_5: usize = 192;
+pub const SLICE_5: usize = 221;
 
 /// `[ LIMIT INTEGER ]`
-pub const SLICE_6: usize = 193;
+pub const SLICE_6: usize = 222;
 
 /// `INTEGER [ LIMIT INTEGER ]`
-pub const SLICE_7: usize = 194;
+pub const SLICE_7: usize = 223;
 
 /// `OFFSET INTEGER [ LIMIT INTEGER ]`
-pub const SLICE_8: usize = 195;
+pub const SLICE_8: usize = 224;
 
 /// `[ slice ]`
-pub const QUERY_10: usize = 196;
+pub const QUERY_10: usize = 225;
 
 /// `[ order ] [ slice ]`
-pub const QUERY_11: usize = 197;
+pub const QUERY_11: usize = 226;
 
 /// `group [ order ] [ slice ]`
-pub const QUERY_12: usize = 198;
+pub const QUERY_12: usize = 227;
 
 /// `[ WHERE ] group [ order ] [ slice ]`
-pub const QUERY_13: usize = 199;
+pub const QUERY_13: usize = 228;
 
 /// `selection [ WHERE ] group [ order ] [ slice ]`
-pub const QUERY_14: usize = 200;
+pub const QUERY_14: usize = 229;
 
 /// `[ DISTINCT | REDUCED ] selection [ WHERE ] group [ order ] [ slice ]`
-pub const QUERY_15: usize = 201;
+pub const QUERY_15: usize = 230;
 
 /// `SELECT [ DISTINCT | REDUCED ] selection [ WHERE ] group [ order ] [ slice ]`
-pub const QUERY_16: usize = 202;
+pub const QUERY_16: usize = 231;
 
 /// How many symbols there are.
-pub const SYMBOL_COUNT: usize = 203;
+pub const SYMBOL_COUNT: usize = 232;

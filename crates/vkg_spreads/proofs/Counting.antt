@@ -5,7 +5,7 @@ use Rattle.std.proofs.lemmas.List.{drop_all}
 use Rattle.std.proofs.lemmas.Bool.{lt-leb}
 use Rattle.std.proofs.lemmas.Bool.Decides.{leb_tells}
 use Rattle.vkg_plan.specs.declared.plan.Plan.{Plan as PlanValue}
-use Rattle.vkg_plan.specs.Plan.{Plan, Plans, Unit, Empty, Scan, Select, Project, Join, Left, UnionAll, Distinct, Nil, More, each}
+use Rattle.vkg_plan.specs.Plan.{Plan, Plans, Unit, Empty, Scan, Select, Project, Join, Left, AntiJoin, UnionAll, Distinct, Nil, More, each}
 use Rattle.vkg_plan.specs.Seen.{plan_seen}
 use Rattle.vkg_rules.specs.StepSeen.{plans_seen}
 use Rattle.vkg_rules.proofs.Members.{drop_here}
@@ -25,6 +25,7 @@ mutual
   branches_positive (Distinct p) = branches_positive p
   branches_positive (Join ps c) = product_positive ps
   branches_positive (Left p q c) = mul-pos (branches_positive p) (branches_positive q)
+  branches_positive (AntiJoin p q c) = omega arith
   branches_positive (UnionAll us) = omega arith
   branches_positive Unit = omega arith
   branches_positive (Empty ks) = omega arith

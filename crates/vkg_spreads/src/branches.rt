@@ -44,6 +44,7 @@ fn branches(p: &Plan) -> usize
         Plan::Join(ps, _) => product(ps.as_slice()),
         Plan::Left(p, q, _) => times(branches(p), branches(q)),
         Plan::UnionAll(us) => sum(us.as_slice()).max(1),
+        Plan::AntiJoin(_, _, _) => 1,
         Plan::Unit => 1,
         Plan::Empty(_) => 1,
         Plan::Scan(_) => 1,

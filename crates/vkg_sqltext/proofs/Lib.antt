@@ -1,3 +1,4 @@
+pub mod AntiText
 pub mod Cutting
 pub mod Heads
 pub mod LeftText

@@ -11,7 +11,7 @@ use Rattle.vkg_cells.specs.declared.cell.SqlType.TheVariants as kind
 use Rattle.vkg_schema.specs.Names.{HasOwnNames, table_name}
 use Rattle.vkg_expr.specs.Expr.{Expr, exprs}
 use Rattle.vkg_plan.specs.Kinds.{Tables, is_well_typed}
-use Rattle.vkg_plan.specs.Plan.{Plan, Plans, Unit as Once, Empty, Scan, Select, Project, Join, Left, UnionAll, Distinct, Nil, More}
+use Rattle.vkg_plan.specs.Plan.{Plan, Plans, Unit as Once, Empty, Scan, Select, Project, Join, Left, AntiJoin, UnionAll, Distinct, Nil, More}
 use Rattle.vkg_sqltext.specs.Laws.{HaveOwnTexts, HoldsPlan}
 use Rattle.vkg_sqltext.specs.Text.{column_text, commas, doubled, expr_text, in_brackets, kind_text, outputs, outputs_text, separated, sources, sql_text, sql_texts}
 use Rattle.vkg_sqltext.proofs.Cutting.{decimal_opens, within_same}
@@ -151,6 +151,7 @@ module _ (schema : Tables) (names : HasOwnNames schema) where
   PartsAreOne (Project es p) = PlanIsOne p
   PartsAreOne (Join ps c) = PlansAreOne ps
   PartsAreOne (Left p q c) = PlanIsOne p × PlanIsOne q
+  PartsAreOne (AntiJoin p q c) = PlanIsOne p × PlanIsOne q
   PartsAreOne (UnionAll ps) = PlansAreOne ps
   PartsAreOne (Distinct p) = PlanIsOne p
   PartsAreOne p = Unit {0}
@@ -170,6 +171,7 @@ module _ (schema : Tables) (names : HasOwnNames schema) where
   plan_rest (Project es p) = codes " " ++ outputs_text es ++ codes " FROM " ++ in_brackets (text p) ++ codes " AS t"
   plan_rest (Join ps c) = codes " * FROM " ++ separated (codes " CROSS JOIN ") (sources 1 (sql_texts schema ps)) ++ codes " WHERE " ++ expr_text c
   plan_rest (Left p q c) = codes " * FROM " ++ separated (codes " LEFT JOIN ") (sources 1 (text p ∷ text q ∷ [])) ++ codes " ON " ++ expr_text c
+  plan_rest (AntiJoin p q c) = codes " * FROM " ++ separated (codes " ANTI JOIN ") (sources 1 (text p ∷ text q ∷ [])) ++ codes " ON " ++ expr_text c
   plan_rest (UnionAll ps) = separated (codes " UNION ALL ") (map in_brackets (sql_texts schema ps))
   plan_rest (Distinct p) = codes " DISTINCT * FROM " ++ in_brackets (text p) ++ codes " AS t"
 
@@ -254,6 +256,9 @@ module _ (schema : Tables) (names : HasOwnNames schema) where
   abbrev left_tail : Plan → Expr → List ℕ → List ℕ
   left_tail q c x = called 1 ++ (codes " LEFT JOIN (" ++ (text q ++ 41 ∷ (called 2 ++ (codes " ON " ++ (expr_text c ++ x)))))
 
+  abbrev anti_tail : Plan → Expr → List ℕ → List ℕ
+  anti_tail q c x = called 1 ++ (codes " ANTI JOIN (" ++ (text q ++ 41 ∷ (called 2 ++ (codes " ON " ++ (expr_text c ++ x)))))
+
   abbrev starred : Plan → List ℕ → List ℕ
   starred p tail = codes " * FROM (" ++ (text p ++ 41 ∷ tail)
 
@@ -277,6 +282,14 @@ module _ (schema : Tables) (names : HasOwnNames schema) where
       (joined_is (text p) ((codes " LEFT JOIN (" ++ side) ++ []) (codes " ON ") (expr_text c) x
       ∙ ap (λ l. text p ++ 41 ∷ (called 1 ++ (codes " LEFT JOIN (" ++ l))) (member (text q) (codes " AS t") (decimal 2) [] on))
 
+  anti_is : (p q : Plan) (c : Expr) (x : List ℕ) → plan_rest (AntiJoin p q c) ++ x ≡ starred p (anti_tail q c x)
+  anti_is p q c x =
+      let side : List ℕ = ((text q ++ 41 ∷ []) ++ codes " AS t") ++ decimal 2 in
+      let on : List ℕ = codes " ON " ++ (expr_text c ++ x) in
+      ap (λ l. codes " * FROM (" ++ l)
+      (joined_is (text p) ((codes " ANTI JOIN (" ++ side) ++ []) (codes " ON ") (expr_text c) x
+      ∙ ap (λ l. text p ++ 41 ∷ (called 1 ++ (codes " ANTI JOIN (" ++ l))) (member (text q) (codes " AS t") (decimal 2) [] on))
+
   star_one : (p q : Plan) (x y : List ℕ) → PlanIsOne p → SoundPlan schema p → SoundPlan schema q → starred p x ≡ starred q y → (p ≡ q) × (x ≡ y)
   star_one p q x y a s t e = within p q x y a s t (append_cancel_left (codes " * FROM (") _ _ e)
 
@@ -288,6 +301,13 @@ module _ (schema : Tables) (names : HasOwnNames schema) where
   join_no_left : (ps : Plans) (c d : Expr) (q : Plan) (x y : List ℕ) → join_tail ps c x ≡ left_tail q d y → ⊥
   join_no_left Nil c d q x y e = absurd (let bad = head_same 87 76 _ _ (tail_same 32 32 _ _ (append_cancel_left (called 1) _ _ e)) in omega (arith, bad))
   join_no_left (More p ps) c d q x y e = absurd (let bad = head_same 67 76 _ _ (tail_same 32 32 _ _ (append_cancel_left (called 1) _ _ e)) in omega (arith, bad))
+
+  join_no_anti : (ps : Plans) (c d : Expr) (q : Plan) (x y : List ℕ) → join_tail ps c x ≡ anti_tail q d y → ⊥
+  join_no_anti Nil c d q x y e = absurd (let bad = head_same 87 65 _ _ (tail_same 32 32 _ _ (append_cancel_left (called 1) _ _ e)) in omega (arith, bad))
+  join_no_anti (More p ps) c d q x y e = absurd (let bad = head_same 67 65 _ _ (tail_same 32 32 _ _ (append_cancel_left (called 1) _ _ e)) in omega (arith, bad))
+
+  left_no_anti : (r o : Plan) (c d : Expr) (x y : List ℕ) → left_tail r c x ≡ anti_tail o d y → ⊥
+  left_no_anti r o c d x y e = absurd (let bad = head_same 76 65 _ _ (tail_same 32 32 _ _ (append_cancel_left (called 1) _ _ e)) in omega (arith, bad))
 
   -- ---- what stands behind SELECT of a Project
 
@@ -334,6 +354,8 @@ module _ (schema : Tables) (names : HasOwnNames schema) where
       absurd (where_no_join c x _ (star_one p q (where_tail c x) (join_tail qs d y) a s.1 t.0 (sym (select_is c p x) ∙ e ∙ join_is q qs d y)).1)
   rest_one (Select c p) (Left q r d) x y a s t u v n e =
       absurd (where_no_join c x _ (star_one p q (where_tail c x) (left_tail r d y) a s.1 t.0 (sym (select_is c p x) ∙ e ∙ left_is q r d y)).1)
+  rest_one (Select c p) (AntiJoin q r d) x y a s t u v n e =
+      absurd (where_no_join c x _ (star_one p q (where_tail c x) (anti_tail r d y) a s.1 t.0 (sym (select_is c p x) ∙ e ∙ anti_is q r d y)).1)
   rest_one (Join (More p ps) c) (Select d q) x y a s t u v n e =
       absurd (where_no_join d y _ (sym (star_one p q (join_tail ps c x) (where_tail d y) a.0 s.0 t.1 (sym (join_is p ps c x) ∙ e ∙ select_is d q y)).1))
   rest_one (Join (More p ps) c) (Join (More q qs) d) x y a s t u v n e =
@@ -343,6 +365,8 @@ module _ (schema : Tables) (names : HasOwnNames schema) where
       ((λ i. Join (More (r.0 i) (more.0 i)) (w.0 i)), w.1)
   rest_one (Join (More p ps) c) (Left q r d) x y a s t u v n e =
       absurd (join_no_left ps c d r x y (star_one p q (join_tail ps c x) (left_tail r d y) a.0 s.0 t.0 (sym (join_is p ps c x) ∙ e ∙ left_is q r d y)).1)
+  rest_one (Join (More p ps) c) (AntiJoin q r d) x y a s t u v n e =
+      absurd (join_no_anti ps c d r x y (star_one p q (join_tail ps c x) (anti_tail r d y) a.0 s.0 t.0 (sym (join_is p ps c x) ∙ e ∙ anti_is q r d y)).1)
   rest_one (Left p r c) (Select d q) x y a s t u v n e =
       absurd (where_no_join d y _ (sym (star_one p q (left_tail r c x) (where_tail d y) a.0 s.0 t.1 (sym (left_is p r c x) ∙ e ∙ select_is d q y)).1))
   rest_one (Left p r c) (Join (More q qs) d) x y a s t u v n e =
@@ -352,6 +376,19 @@ module _ (schema : Tables) (names : HasOwnNames schema) where
       let second = within r o _ _ a.1 s.1 t.1 (append_cancel_left (codes " LEFT JOIN (") _ _ (append_cancel_left (called 1) _ _ first.1)) in
       let w = expr_one c d x y s.2 t.2 (closes_ends u) (closes_ends v) (append_cancel_left (codes " ON ") _ _ (append_cancel_left (called 2) _ _ second.1)) in
       ((λ i. Left (first.0 i) (second.0 i) (w.0 i)), w.1)
+  rest_one (AntiJoin p r c) (Select d q) x y a s t u v n e =
+      absurd (where_no_join d y _ (sym (star_one p q (anti_tail r c x) (where_tail d y) a.0 s.0 t.1 (sym (anti_is p r c x) ∙ e ∙ select_is d q y)).1))
+  rest_one (AntiJoin p r c) (Join (More q qs) d) x y a s t u v n e =
+      absurd (join_no_anti qs d c r y x (sym (star_one p q (anti_tail r c x) (join_tail qs d y) a.0 s.0 t.0 (sym (anti_is p r c x) ∙ e ∙ join_is q qs d y)).1))
+  rest_one (AntiJoin p r c) (AntiJoin q o d) x y a s t u v n e =
+      let first = star_one p q (anti_tail r c x) (anti_tail o d y) a.0 s.0 t.0 (sym (anti_is p r c x) ∙ e ∙ anti_is q o d y) in
+      let second = within r o _ _ a.1 s.1 t.1 (append_cancel_left (codes " ANTI JOIN (") _ _ (append_cancel_left (called 1) _ _ first.1)) in
+      let w = expr_one c d x y s.2 t.2 (closes_ends u) (closes_ends v) (append_cancel_left (codes " ON ") _ _ (append_cancel_left (called 2) _ _ second.1)) in
+      ((λ i. AntiJoin (first.0 i) (second.0 i) (w.0 i)), w.1)
+  rest_one (Left p r c) (AntiJoin q o d) x y a s t u v n e =
+      absurd (left_no_anti r o c d x y (star_one p q (left_tail r c x) (anti_tail o d y) a.0 s.0 t.0 (sym (left_is p r c x) ∙ e ∙ anti_is q o d y)).1)
+  rest_one (AntiJoin p r c) (Left q o d) x y a s t u v n e =
+      absurd (left_no_anti o r d c y x (sym (star_one p q (anti_tail r c x) (left_tail o d y) a.0 s.0 t.0 (sym (anti_is p r c x) ∙ e ∙ left_is q o d y)).1))
   rest_one (Distinct p) (Distinct q) x y a s t u v n e =
       let joined = append_cancel_left (codes " DISTINCT * FROM (") _ _ e in
       let r = within p q (codes " AS t" ++ x) (codes " AS t" ++ y) a s t (sym (bracketed (text p) (codes " AS t") x) ∙ joined ∙ bracketed (text q) (codes " AS t") y) in
@@ -363,15 +400,19 @@ module _ (schema : Tables) (names : HasOwnNames schema) where
   rest_one (Select c p) (Distinct q) x y a s t u v n e = absurd (star_no_distinct _ _ e)
   rest_one (Join (More p ps) c) (Distinct q) x y a s t u v n e = absurd (star_no_distinct _ _ e)
   rest_one (Left p r c) (Distinct q) x y a s t u v n e = absurd (star_no_distinct _ _ e)
+  rest_one (AntiJoin p r c) (Distinct q) x y a s t u v n e = absurd (star_no_distinct _ _ e)
   rest_one (Distinct p) (Select d q) x y a s t u v n e = absurd (star_no_distinct _ _ (sym e))
   rest_one (Distinct p) (Join (More q qs) d) x y a s t u v n e = absurd (star_no_distinct _ _ (sym e))
   rest_one (Distinct p) (Left q o d) x y a s t u v n e = absurd (star_no_distinct _ _ (sym e))
+  rest_one (Distinct p) (AntiJoin q o d) x y a s t u v n e = absurd (star_no_distinct _ _ (sym e))
   rest_one (Select c p) (Project fs q) x y a s t u v n e = absurd (star_no_project fs q _ y e)
   rest_one (Join (More p ps) c) (Project fs q) x y a s t u v n e = absurd (star_no_project fs q _ y e)
   rest_one (Left p r c) (Project fs q) x y a s t u v n e = absurd (star_no_project fs q _ y e)
+  rest_one (AntiJoin p r c) (Project fs q) x y a s t u v n e = absurd (star_no_project fs q _ y e)
   rest_one (Project es p) (Select d q) x y a s t u v n e = absurd (star_no_project es p _ x (sym e))
   rest_one (Project es p) (Join (More q qs) d) x y a s t u v n e = absurd (star_no_project es p _ x (sym e))
   rest_one (Project es p) (Left q o d) x y a s t u v n e = absurd (star_no_project es p _ x (sym e))
+  rest_one (Project es p) (AntiJoin q o d) x y a s t u v n e = absurd (star_no_project es p _ x (sym e))
   rest_one (Distinct p) (Project fs q) x y a s t u v n e = absurd (distinct_no_project fs q _ y t.0 e)
   rest_one (Project es p) (Distinct q) x y a s t u v n e = absurd (distinct_no_project es p _ x s.0 (sym e))
   rest_one (UnionAll (More p ps)) (UnionAll (More q qs)) x y a s t u v n e =
@@ -396,6 +437,7 @@ module _ (schema : Tables) (names : HasOwnNames schema) where
     plan_one (Project es p) = from_parts (Project es p) (plan_one p)
     plan_one (Join ps c) = from_parts (Join ps c) (plans_one ps)
     plan_one (Left p q c) = from_parts (Left p q c) (plan_one p, plan_one q)
+    plan_one (AntiJoin p q c) = from_parts (AntiJoin p q c) (plan_one p, plan_one q)
     plan_one (UnionAll ps) = from_parts (UnionAll ps) (plans_one ps)
     plan_one (Distinct p) = from_parts (Distinct p) (plan_one p)
 

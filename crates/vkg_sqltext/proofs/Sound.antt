@@ -14,9 +14,9 @@ use Rattle.vkg_expr.specs.Typing.{are_all, arity, common, equality_kind, fits, i
 use Rattle.vkg_expr.proofs.TypedParts.{all_is, equality_given, lexical_given, one_is}
 use Rattle.vkg_expr.proofs.ValueFits.{common_given}
 use Rattle.vkg_plan.specs.Kinds.{Tables, beside_all, kinds_of_each, plan_kinds}
-use Rattle.vkg_plan.specs.Plan.{Plan, Plans, Unit as Once, Empty, Scan, Select, Project, Join, Left, UnionAll, Distinct, Nil, More}
+use Rattle.vkg_plan.specs.Plan.{Plan, Plans, Unit as Once, Empty, Scan, Select, Project, Join, Left, AntiJoin, UnionAll, Distinct, Nil, More}
 use Rattle.vkg_plan.proofs.KindLists.{alike_some, beside_some}
-use Rattle.vkg_plan.proofs.RowsFit.{checked_parts}
+use Rattle.vkg_plan.proofs.RowsFit.{checked_parts, first_checked-parts}
 use Rattle.vkg_sqltext.specs.Laws.{HoldsExpr, HoldsExprs, HoldsPlan, HoldsPlans}
 use Rattle.vkg_sqltext.proofs.Heads.{SoundExpr, SoundExprs}
 
@@ -81,6 +81,7 @@ abbrev mutual
   SoundPlan schema (Join Nil c) = ⊥
   SoundPlan schema (Join (More p ps) c) = SoundPlan schema p × SoundPlans schema ps × SoundExpr c
   SoundPlan schema (Left p q c) = SoundPlan schema p × SoundPlan schema q × SoundExpr c
+  SoundPlan schema (AntiJoin p q c) = SoundPlan schema p × SoundPlan schema q × SoundExpr c
   SoundPlan schema (UnionAll Nil) = ⊥
   SoundPlan schema (UnionAll (More p ps)) = SoundPlan schema p × SoundPlans schema ps
   SoundPlan schema (Distinct p) = SoundPlan schema p
@@ -111,6 +112,11 @@ mutual
       let s = checked_parts c (joined (plan_kinds schema p) (plan_kinds schema q)) h in
       let parts = both_some (plan_kinds schema p) (plan_kinds schema q) (ap is_some s.1) in
       (sound_plan schema p parts.0 w.0, sound_plan schema q parts.1 w.1, sound_expr c s.0 (ap is_some s.2) w.2)
+  sound_plan schema (AntiJoin p q c) h w =
+      let k = some_of (plan_kinds schema (AntiJoin p q c)) h in
+      let a = first_checked-parts c (plan_kinds schema p) (plan_kinds schema q) k.0 k.1 in
+      let s = checked_parts c (joined (plan_kinds schema p) (plan_kinds schema q)) (ap is_some a.both) in
+      (sound_plan schema p (ap is_some a.first) w.0, sound_plan schema q (ap is_some a.second) w.1, sound_expr c s.0 (ap is_some s.2) w.2)
   sound_plan schema (UnionAll Nil) h w = absurd (cc)
   sound_plan schema (UnionAll (More p ps)) h w =
       let parts = first_some (plan_kinds schema p) (kinds_of_each schema ps) (alike_some (kinds_of_each schema (More p ps)) h) in

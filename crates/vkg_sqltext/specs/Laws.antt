@@ -10,7 +10,7 @@ use Rattle.vkg_schema.specs.Names.{HasOwnNames}
 use Rattle.vkg_expr.specs.Expr.{Expr, Exprs, Col, Const, MakeIri, IriOf, MakeBlank, MakeLit, Lex, IriSafe, Concat, Same, IsNull, Not, And, Or, Coalesce, Sparql, Ebv}
 use Rattle.vkg_expr.specs.Expr as expr
 use Rattle.vkg_plan.specs.Kinds.{Tables, is_well_typed}
-use Rattle.vkg_plan.specs.Plan.{Plan, Plans, Unit as Once, Empty, Scan, Select, Project, Join, Left, UnionAll, Distinct, Nil, More}
+use Rattle.vkg_plan.specs.Plan.{Plan, Plans, Unit as Once, Empty, Scan, Select, Project, Join, Left, AntiJoin, UnionAll, Distinct, Nil, More}
 use Rattle.vkg_order.specs.declared.modifiers.Direction.{Direction}
 use Rattle.vkg_order.specs.declared.modifiers.Modifiers.{Modifiers}
 use Rattle.vkg_sqltext.specs.OrderText.{order_text}
@@ -67,6 +67,7 @@ abbrev mutual
   HoldsPlan (Project es p) = HoldsExprs (expr.exprs es) × HoldsPlan p
   HoldsPlan (Join ps c) = HoldsPlans ps × HoldsExpr c
   HoldsPlan (Left p q c) = HoldsPlan p × HoldsPlan q × HoldsExpr c
+  HoldsPlan (AntiJoin p q c) = HoldsPlan p × HoldsPlan q × HoldsExpr c
   HoldsPlan (UnionAll ps) = HoldsPlans ps
   HoldsPlan (Distinct p) = HoldsPlan p
 

@@ -20,7 +20,7 @@ use Rattle.vkg_expr.specs.declared.expr.Operator.TheVariants.{Test, Take, Compar
 use Rattle.vkg_expr.specs.Expr.{Expr, Exprs, Col, Const, MakeIri, IriOf, MakeBlank, MakeLit, Lex, IriSafe, Concat, Same, IsNull, Not, And, Or, Coalesce, Sparql, Ebv}
 use Rattle.vkg_expr.specs.Expr as expr
 use Rattle.vkg_plan.specs.Kinds.{Tables}
-use Rattle.vkg_plan.specs.Plan.{Plan, Plans, Unit, Empty, Scan, Select, Project, Join, Left, UnionAll, Distinct, Nil, More}
+use Rattle.vkg_plan.specs.Plan.{Plan, Plans, Unit, Empty, Scan, Select, Project, Join, Left, AntiJoin, UnionAll, Distinct, Nil, More}
 
 -- SQL-92, 5.2 and 5.3: each character, and this one twice
 abbrev pub doubled : ℕ → ℕ → List ℕ
@@ -156,6 +156,7 @@ abbrev mutual
   sql_text schema (Project es p) = codes "SELECT " ++ outputs_text es ++ codes " FROM " ++ in_brackets (sql_text schema p) ++ codes " AS t"
   sql_text schema (Join ps c) = codes "SELECT * FROM " ++ separated (codes " CROSS JOIN ") (sources 1 (sql_texts schema ps)) ++ codes " WHERE " ++ expr_text c
   sql_text schema (Left p q c) = codes "SELECT * FROM " ++ separated (codes " LEFT JOIN ") (sources 1 (sql_text schema p ∷ sql_text schema q ∷ [])) ++ codes " ON " ++ expr_text c
+  sql_text schema (AntiJoin p q c) = codes "SELECT * FROM " ++ separated (codes " ANTI JOIN ") (sources 1 (sql_text schema p ∷ sql_text schema q ∷ [])) ++ codes " ON " ++ expr_text c
   sql_text schema (UnionAll ps) = separated (codes " UNION ALL ") (map in_brackets (sql_texts schema ps))
   sql_text schema (Distinct p) = codes "SELECT DISTINCT * FROM " ++ in_brackets (sql_text schema p) ++ codes " AS t"
 

@@ -146,6 +146,20 @@ pub fn left_text(
     joined(alloc, sides.as_slice(), " LEFT JOIN ", " ON ", c)
 }
 
+pub fn anti_text(
+    alloc: Global,
+    p: Result<Text, Memory>,
+    q: Result<Text, Memory>,
+    c: &Expr,
+) -> Result<Text, Memory>
+    ensures { IfOk result (λ t. IsOkAnd p (λ r. IsOkAnd q (λ s. t ≡ codes "SELECT * FROM " ++ separated (codes " ANTI JOIN ") (sources_of 1 (r ∷ s ∷ [])) ++ codes " ON " ++ text_of_expr (expr_seen c.now)))) }
+{
+    let mut sides = Items::new(alloc);
+    sides.push(p?)?;
+    sides.push(q?)?;
+    joined(alloc, sides.as_slice(), " ANTI JOIN ", " ON ", c)
+}
+
 fn joined(alloc: Global, ps: &[Text], sign: &str, word: &str, c: &Expr) -> Result<Text, Memory>
     ensures { IfOk result (λ t. t ≡ codes "SELECT * FROM " ++ separated sign.now (sources_of 1 ps.now) ++ word.now ++ text_of_expr (expr_seen c.now)) }
 {

@@ -6,8 +6,8 @@ ghost use Rattle.vkg_plan.specs.Seen.{plan_seen};
 ghost use Rattle.vkg_sqltext.specs.Text.{sql_text as text_of_plan, sql_texts as texts_of_plans};
 
 use crate::nodes::{
-    distinct_text, empty_text, join_text, left_text, project_text, select_text, table_text,
-    union_text,
+    anti_text, distinct_text, empty_text, join_text, left_text, project_text, select_text,
+    table_text, union_text,
 };
 use std::alloc::Global;
 use vkg_base::{Items, Memory, Text};
@@ -35,6 +35,14 @@ fn plan_text(alloc: Global, plan: &Plan, schema: &Schema) -> Result<Text, Memory
         Plan::Join(ps, c) => join_text(alloc, plan_texts(alloc, ps.as_slice(), schema), c),
         Plan::Left(p, q, c) => {
             left_text(
+                alloc,
+                plan_text(alloc, p, schema),
+                plan_text(alloc, q, schema),
+                c,
+            )
+        }
+        Plan::AntiJoin(p, q, c) => {
+            anti_text(
                 alloc,
                 plan_text(alloc, p, schema),
                 plan_text(alloc, q, schema),

@@ -11,20 +11,20 @@ use Rattle.vkg_plan.specs.Seen.{plan_seen}
 use Rattle.vkg_plan.specs.Kinds.{Tables}
 use Rattle.vkg_rules.specs.Parts.{AreTyped, typed_more}
 use Rattle.vkg_rules.specs.Steps.{IsTyped}
-use Rattle.vkg_plan.specs.Plan.{Plan, Plans, Nil, More, plans, Select, Project, Join, Left, UnionAll, Distinct}
+use Rattle.vkg_plan.specs.Plan.{Plan, Plans, Nil, More, plans, Select, Project, Join, Left, AntiJoin, UnionAll, Distinct}
 use Rattle.vkg_rules.specs.declared.rewrite.Fell.{Fell}
 use Rattle.vkg_rules.specs.Everywhere.{among, around, everywhere, first_of_list, in_members, inside, later_in_list}
 use Rattle.vkg_rules.specs.Steps.{ListStep, Step}
 use Rattle.vkg_rules.proofs.Members.{everywhere-root}
 use Rattle.vkg_rules.proofs.Seen.{seen-Join, seen-Distinct}
-use Rattle.vkg_plan.proofs.SeenParts.{seen-Select, seen-Project, seen-Left, seen-UnionAll}
+use Rattle.vkg_plan.proofs.SeenParts.{seen-Select, seen-Project, seen-Left, seen-AntiJoin, seen-UnionAll}
 use Rattle.vkg_steps.specs.Behind.{Behind, BehindEach, BehindMember}
 use Rattle.vkg_rules.proofs.Outcomes.{outcome-some}
 use Rattle.vkg_rules.specs.Places.{DidNotApply, DiffersAt, DiffersBefore, outcome, with_at}
 use Rattle.vkg_steps.specs.Outcomes.{DifferAt, IsInside, IsListStep, IsNext, IsStep, list_outcome}
-use Rattle.vkg_steps.proofs.PlaceLemmas.{differ-set, differs-distinct, differs-join, differs-left, differs-project, differs-right, differs-select, differs-union, dropped as drop_behind, not-applied, nothing_behind}
+use Rattle.vkg_steps.proofs.PlaceLemmas.{differ-set, differs-against, differs-alone, differs-distinct, differs-join, differs-left, differs-project, differs-right, differs-select, differs-union, dropped as drop_behind, not-applied, nothing_behind}
 
-pub ruleset outcomes = (seen-Select, seen-Project, seen-Left, seen-UnionAll, seen-Join, seen-Distinct)
+pub ruleset outcomes = (seen-Select, seen-Project, seen-Left, seen-AntiJoin, seen-UnionAll, seen-Join, seen-Distinct)
 
 -- ---- places
 
@@ -149,6 +149,37 @@ in_right r p q q' c f place settled none is =
       subst (λ (path : List ℕ). DiffersAt path (Left p q c) (Left p q' c)) same d,
     )
 
+-- ---- AntiJoin: as Left
+
+alone-some : (p q : Plan) (c : Expr) (o n : Option Step) (x : Step) → o ≡ Some x →
+    outcome (AntiJoin p q c) (option_or (option_map (around (λ x. AntiJoin x q c)) o) (option_map (around (λ x. AntiJoin p x c)) n)) ≡ (AntiJoin x.0 q c, Some x.1)
+alone-some p q c o n x e = ap (λ (z : Option Step). outcome (AntiJoin p q c) (option_or (option_map (around (λ x. AntiJoin x q c)) z) (option_map (around (λ x. AntiJoin p x c)) n))) e
+
+against-outcome : (p q : Plan) (c : Expr) (n : Option Step) → outcome (AntiJoin p q c) (option_map (around (λ x. AntiJoin p x c)) n) ≡ (AntiJoin p (outcome q n).0 c, (outcome q n).1)
+against-outcome p q c None = refl
+against-outcome p q c (Some x) = refl
+
+pub in_alone : (r : Plan → Option Step) (p q p' : Plan) (c : Expr) (f : Fell) (place : List ℕ) → r (AntiJoin p q c) ≡ None → IsStep r p p' (Some f) place → IsInside r (AntiJoin p q c) (AntiJoin p' q c) (Some f) (place ++ 0 ∷ [])
+in_alone r p q p' c f place none is =
+    let d = differs-alone (reverse place) p p' q c is.2 in
+    let same = sym (turned place 0) in (
+      sym (alone-some p q c (everywhere r p) (everywhere r q) (p', f) (outcome-some p p' f (everywhere r p) is.0)),
+      subst (λ (path : List ℕ). Behind r path (AntiJoin p' q c)) same (not-applied r (0 ∷ reverse place) (AntiJoin p q c) (AntiJoin p' q c) none d, is.1),
+      subst (λ (path : List ℕ). DiffersAt path (AntiJoin p q c) (AntiJoin p' q c)) same d,
+    )
+
+pub in_against : (r : Plan → Option Step) (p q q' : Plan) (c : Expr) (f : Option Fell) (place : List ℕ) → everywhere r p ≡ None → r (AntiJoin p q c) ≡ None → IsStep r q q' f place →
+    IsInside r (AntiJoin p q c) (AntiJoin p q' c) f (place ++ 1 ∷ [])
+in_against r p q q' c f place settled none is =
+    let d = differs-against (reverse place) p q q' c is.2 in
+    let same = sym (turned place 1) in (
+      ap (λ (y : Plan × Option Fell). (AntiJoin p y.0 c, y.1)) is.0
+          ∙ sym (against-outcome p q c (everywhere r q))
+          ∙ sym (ap (λ (z : Option Step). outcome (AntiJoin p q c) (option_or (option_map (around (λ x. AntiJoin x q c)) z) (option_map (around (λ x. AntiJoin p x c)) (everywhere r q)))) settled),
+      subst (λ (path : List ℕ). Behind r path (AntiJoin p q' c)) same (not-applied r (1 ∷ reverse place) (AntiJoin p q c) (AntiJoin p q' c) none d, (settled, is.1)),
+      subst (λ (path : List ℕ). DiffersAt path (AntiJoin p q c) (AntiJoin p q' c)) same d,
+    )
+
 -- ---- lists
 
 pub member_behind : (r : Plan → Option Step) (xs : List Plan) (at : ℕ) (path : List ℕ) (p : Plan) → BehindMember r at path (plans xs) → slice_get xs at ≡ Some p → Behind r path p
@@ -227,6 +258,16 @@ left_turn r (suc n) path p q c h e = absurd (omega (arith, e))
 pub right_turn : (r : Plan → Option Step) (turn : ℕ) (path : List ℕ) (p q : Plan) (c : Expr) → Behind r (turn ∷ path) (Left p q c) → 0 < turn → (everywhere r p ≡ None) × Behind r path q
 right_turn r zero path p q c h e = absurd (omega (arith, e))
 right_turn r (suc n) path p q c h e = h.1
+
+-- ---- anti joins by the turn
+
+pub alone_turn : (r : Plan → Option Step) (turn : ℕ) (path : List ℕ) (p q : Plan) (c : Expr) → Behind r (turn ∷ path) (AntiJoin p q c) → turn ≡ 0 → Behind r path p
+alone_turn r zero path p q c h e = h.1
+alone_turn r (suc n) path p q c h e = absurd (omega (arith, e))
+
+pub against_turn : (r : Plan → Option Step) (turn : ℕ) (path : List ℕ) (p q : Plan) (c : Expr) → Behind r (turn ∷ path) (AntiJoin p q c) → 0 < turn → (everywhere r p ≡ None) × Behind r path q
+against_turn r zero path p q c h e = absurd (omega (arith, e))
+against_turn r (suc n) path p q c h e = h.1
 
 -- what is told of a result part by part
 pub told : {X : Type 0} (P : Plan → Option Fell → List ℕ → Type 0) (a : X → Plan) (b : X → Option Fell) (d : X → List ℕ) (p : Plan) (f : Option Fell) (n : List ℕ) (made : Result X Memory)

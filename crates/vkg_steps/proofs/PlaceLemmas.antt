@@ -3,7 +3,7 @@ use Rattle.std.proofs.Common.{◌≡◌, ℕ, zero, suc, List, [], ◌∷◌, Op
 use Rattle.std.specs.Prelude.{slice_set}
 use Rattle.std.proofs.lemmas.Option.{same_Some}
 use Rattle.vkg_expr.specs.Expr.{Expr}
-use Rattle.vkg_plan.specs.Plan.{Plan, Plans, Nil, More, plans, Unit as UnitPlan, Empty, Scan, Select, Project, Join, Left, UnionAll, Distinct}
+use Rattle.vkg_plan.specs.Plan.{Plan, Plans, Nil, More, plans, Unit as UnitPlan, Empty, Scan, Select, Project, Join, Left, AntiJoin, UnionAll, Distinct}
 use Rattle.vkg_rules.specs.Places.{DidNotApply, DiffersAt, Others, before_all, with_at, with_member}
 use Rattle.vkg_rules.specs.Steps.{Step}
 use Rattle.vkg_steps.specs.Behind.{Behind, BehindMember}
@@ -39,6 +39,14 @@ pub differs-right : (path : List ℕ) (p q q' : Plan) (c : Expr) → DiffersAt p
 differs-right [] p q q' c d = ((q, Nil), refl)
 differs-right (at ∷ path) p q q' c d = (d.0, ap (λ (x : Plan). Left p x c) d.1)
 
+pub differs-alone : (path : List ℕ) (p p' q : Plan) (c : Expr) → DiffersAt path p p' → DiffersAt (zero ∷ path) (AntiJoin p q c) (AntiJoin p' q c)
+differs-alone [] p p' q c d = ((p, Nil), refl)
+differs-alone (at ∷ path) p p' q c d = (d.0, ap (λ (x : Plan). AntiJoin x q c) d.1)
+
+pub differs-against : (path : List ℕ) (p q q' : Plan) (c : Expr) → DiffersAt path q q' → DiffersAt (1 ∷ path) (AntiJoin p q c) (AntiJoin p q' c)
+differs-against [] p q q' c d = ((q, Nil), refl)
+differs-against (at ∷ path) p q q' c d = (d.0, ap (λ (x : Plan). AntiJoin p x c) d.1)
+
 -- a member that is set in a list
 pub differ-set : (xs : List Plan) (at : ℕ) (path : List ℕ) (p q : Plan) → slice_get xs at ≡ Some p → DiffersAt path p q → DifferAt (at ∷ path) (plans xs) (plans (slice_set xs at q))
 differ-set [] at path p q e d = cc
@@ -63,6 +71,9 @@ here r (at ∷ path) (Join ps c) h = h.0
 here r [] (Left p q c) h = tt
 here r (zero ∷ path) (Left p q c) h = h.0
 here r (suc at ∷ path) (Left p q c) h = h.0
+here r [] (AntiJoin p q c) h = tt
+here r (zero ∷ path) (AntiJoin p q c) h = h.0
+here r (suc at ∷ path) (AntiJoin p q c) h = h.0
 here r [] (UnionAll ps) h = tt
 here r (at ∷ path) (UnionAll ps) h = h.0
 here r path (Distinct p) h = h.0
@@ -76,6 +87,7 @@ nothing_behind r (Select c p) = (tt, nothing_behind r p)
 nothing_behind r (Project es p) = (tt, nothing_behind r p)
 nothing_behind r (Join ps c) = tt
 nothing_behind r (Left p q c) = tt
+nothing_behind r (AntiJoin p q c) = tt
 nothing_behind r (UnionAll ps) = tt
 nothing_behind r (Distinct p) = (tt, nothing_behind r p)
 
@@ -104,6 +116,10 @@ twice zero [] z y (Left p q c) = (z, refl)
 twice zero (n ∷ path) z y (Left p q c) = ((with_at (n ∷ path) z y.0, Nil), refl)
 twice (suc at) [] z y (Left p q c) = (z, refl)
 twice (suc at) (n ∷ path) z y (Left p q c) = ((with_at (n ∷ path) z y.0, Nil), refl)
+twice zero [] z y (AntiJoin p q c) = (z, refl)
+twice zero (n ∷ path) z y (AntiJoin p q c) = ((with_at (n ∷ path) z y.0, Nil), refl)
+twice (suc at) [] z y (AntiJoin p q c) = (z, refl)
+twice (suc at) (n ∷ path) z y (AntiJoin p q c) = ((with_at (n ∷ path) z y.0, Nil), refl)
 twice at path z y (UnionAll ps) = let h = member-twice at path z y ps in (h.0, ap UnionAll h.1)
 twice at path z y (Distinct p) = let h = twice at path z y p in (h.0, ap Distinct h.1)
 
@@ -126,5 +142,7 @@ dropped r at path y (Project es p) h = (once r at path y (Project es p) h.0, dro
 dropped r at path y (Join ps c) h = (once r at path y (Join ps c) h.0, member-dropped r at path y ps h.1)
 dropped r zero path y (Left p q c) h = (once r zero path y (Left p q c) h.0, nothing_behind r p)
 dropped r (suc at) path y (Left p q c) h = (once r (suc at) path y (Left p q c) h.0, (h.1.0, nothing_behind r q))
+dropped r zero path y (AntiJoin p q c) h = (once r zero path y (AntiJoin p q c) h.0, nothing_behind r p)
+dropped r (suc at) path y (AntiJoin p q c) h = (once r (suc at) path y (AntiJoin p q c) h.0, (h.1.0, nothing_behind r q))
 dropped r at path y (UnionAll ps) h = (once r at path y (UnionAll ps) h.0, member-dropped r at path y ps h.1)
 dropped r at path y (Distinct p) h = (once r at path y (Distinct p) h.0, dropped r at path y p h.1)

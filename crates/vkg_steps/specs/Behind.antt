@@ -1,11 +1,11 @@
 -- A place in a plan before which nothing is left to do.
 use Rattle.std.specs.Prelude.{◌≡◌, ℕ, zero, suc, List, [], ◌∷◌, Option, None}
-use Rattle.vkg_plan.specs.Plan.{Plan, Plans, Unit as UnitPlan, Empty, Scan, Select, Project, Join, Left, UnionAll, Distinct, Nil, More}
+use Rattle.vkg_plan.specs.Plan.{Plan, Plans, Unit as UnitPlan, Empty, Scan, Select, Project, Join, Left, AntiJoin, UnionAll, Distinct, Nil, More}
 use Rattle.vkg_rules.specs.Everywhere.{everywhere}
 use Rattle.vkg_rules.specs.Places.{DidNotApply}
 use Rattle.vkg_rules.specs.Steps.{Step}
 
--- A place is told by the member that is taken at each Join, Left and UnionAll on the way to it, the outermost first. The rule changes
+-- A place is told by the member that is taken at each Join, Left, AntiJoin and UnionAll on the way to it, the outermost first. The rule changes
 -- no subplan that stands before it in preorder, but for those on the way; and of these it changed none before the plan became another there.
 abbrev mutual
   pub Behind : (Plan → Option Step) → List ℕ → Plan → Type 0
@@ -19,6 +19,9 @@ abbrev mutual
   Behind r [] (Left p q c) = Unit {0}
   Behind r (zero ∷ path) (Left p q c) = DidNotApply r (zero ∷ path) (Left p q c) × Behind r path p
   Behind r (suc at ∷ path) (Left p q c) = DidNotApply r (suc at ∷ path) (Left p q c) × ((everywhere r p ≡ None) × Behind r path q)
+  Behind r [] (AntiJoin p q c) = Unit {0}
+  Behind r (zero ∷ path) (AntiJoin p q c) = DidNotApply r (zero ∷ path) (AntiJoin p q c) × Behind r path p
+  Behind r (suc at ∷ path) (AntiJoin p q c) = DidNotApply r (suc at ∷ path) (AntiJoin p q c) × ((everywhere r p ≡ None) × Behind r path q)
   Behind r [] (UnionAll ps) = Unit {0}
   Behind r (at ∷ path) (UnionAll ps) = DidNotApply r (at ∷ path) (UnionAll ps) × BehindMember r at path ps
   Behind r path (Distinct p) = DidNotApply r path (Distinct p) × Behind r path p

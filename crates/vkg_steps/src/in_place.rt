@@ -4,7 +4,7 @@
 // forms is one more way out of the function, which the prover goes.
 ghost use Rattle.std.specs.Prelude.{◌≡◌, [], ◌∷◌, ◌++◌, IfOk, IfSome, None, Some, map, reverse};
 ghost use Rattle.vkg_expr.specs.Seen.{expr_seen};
-ghost use Rattle.vkg_plan.specs.Plan.{Distinct, Join, Left, Project, Select, UnionAll};
+ghost use Rattle.vkg_plan.specs.Plan.{AntiJoin, Distinct, Join, Left, Project, Select, UnionAll};
 ghost use Rattle.vkg_plan.specs.Seen.{plan_seen};
 ghost use Rattle.vkg_rules.specs.Everywhere.{everywhere};
 ghost use Rattle.vkg_rules.specs.Parts.{AreTyped};
@@ -148,6 +148,7 @@ pub fn step_below<R: Rewrite>(
             }
         },
         Plan::Left(p, q, c) => step_left(rule, alloc, schema, p, q, c, place),
+        Plan::AntiJoin(p, q, c) => step_anti(rule, alloc, schema, p, q, c, place),
         Plan::UnionAll(ps) => reunited(alloc, step_list(rule, alloc, schema, ps, place)?),
         Plan::Distinct(p) => each_once(alloc, step_in(rule, alloc, schema, p, place)?),
     }
@@ -285,6 +286,88 @@ pub fn step_right<R: Rewrite>(
     }
 }
 
+/// A step on one side of an anti join.
+#[cycle(in_place)]
+fn step_anti<R: Rewrite>(
+    rule: &R,
+    alloc: Global,
+    schema: &Schema,
+    p: Box<Plan>,
+    q: Box<Plan>,
+    c: Expr,
+    place: &[usize],
+) -> Result<Stepped, Memory>
+    requires p { IsTyped schema.now (plan_seen p) }
+    requires q { IsTyped schema.now (plan_seen q) }
+    requires none { R.becomes rule.now schema.now (AntiJoin (plan_seen p) (plan_seen q) (expr_seen c)) ≡ None }
+    requires behind { Behind (R.becomes rule.now schema.now) (reverse place.now) (AntiJoin (plan_seen p) (plan_seen q) (expr_seen c)) }
+    ensures { IfOk result (λ x. IsInside (R.becomes rule.now schema.now) (AntiJoin (plan_seen p) (plan_seen q) (expr_seen c)) (plan_seen x.plan) x.fell x.place) }
+{
+    let Some((turn, below)) = last_turn(place) else {
+        return step_anti_sides(rule, alloc, schema, p, q, c, &[]);
+    };
+    if turn == 0 {
+        step_anti_sides(rule, alloc, schema, p, q, c, below)
+    } else {
+        step_anti_right(rule, alloc, schema, p, q, c, below)
+    }
+}
+
+/// A step on the left side, or else on the right one.
+#[cycle(in_place)]
+fn step_anti_sides<R: Rewrite>(
+    rule: &R,
+    alloc: Global,
+    schema: &Schema,
+    p: Box<Plan>,
+    q: Box<Plan>,
+    c: Expr,
+    place: &[usize],
+) -> Result<Stepped, Memory>
+    requires p { IsTyped schema.now (plan_seen p) }
+    requires q { IsTyped schema.now (plan_seen q) }
+    requires none { R.becomes rule.now schema.now (AntiJoin (plan_seen p) (plan_seen q) (expr_seen c)) ≡ None }
+    requires behind { Behind (R.becomes rule.now schema.now) (reverse place.now) (plan_seen p) }
+    ensures { IfOk result (λ x. IsInside (R.becomes rule.now schema.now) (AntiJoin (plan_seen p) (plan_seen q) (expr_seen c)) (plan_seen x.plan) x.fell x.place) }
+{
+    match step_in(rule, alloc, schema, p, place) {
+        Ok(x) => match x.fell {
+            Some(_) => on_anti_left(alloc, x, q, c),
+            None => step_anti_right(rule, alloc, schema, x.plan, q, c, &[]),
+        },
+        Err(fault) => {
+            mem::drop(c);
+            Err(fault)
+        }
+    }
+}
+
+/// A step on the right side, where there is none on the left one.
+#[cycle(in_place)]
+fn step_anti_right<R: Rewrite>(
+    rule: &R,
+    alloc: Global,
+    schema: &Schema,
+    p: Box<Plan>,
+    q: Box<Plan>,
+    c: Expr,
+    place: &[usize],
+) -> Result<Stepped, Memory>
+    requires p { everywhere (R.becomes rule.now schema.now) (plan_seen p) ≡ None }
+    requires q { IsTyped schema.now (plan_seen q) }
+    requires none { R.becomes rule.now schema.now (AntiJoin (plan_seen p) (plan_seen q) (expr_seen c)) ≡ None }
+    requires behind { Behind (R.becomes rule.now schema.now) (reverse place.now) (plan_seen q) }
+    ensures { IfOk result (λ x. IsInside (R.becomes rule.now schema.now) (AntiJoin (plan_seen p) (plan_seen q) (expr_seen c)) (plan_seen x.plan) x.fell x.place) }
+{
+    match step_in(rule, alloc, schema, q, place) {
+        Ok(x) => on_anti_right(alloc, p, x, c),
+        Err(fault) => {
+            mem::drop(c);
+            Err(fault)
+        }
+    }
+}
+
 /// A step with one more turn on the way to its place.
 fn turned(x: Stepped, turn: usize) -> Result<Stepped, Memory>
     ensures plan { IfOk result (λ y. y.plan ≡ x.plan) }
@@ -318,6 +401,26 @@ fn on_right(alloc: Global, p: Box<Plan>, x: Stepped, c: Expr) -> Result<Stepped,
 {
     let Stepped { plan, fell, place } = x;
     turned(boxed(alloc, Plan::Left(p, plan, c), fell, place)?, 1)
+}
+
+#[tactic(auto, using(crate::proofs::OutcomeLemmas::outcomes))]
+fn on_anti_left(alloc: Global, x: Stepped, q: Box<Plan>, c: Expr) -> Result<Stepped, Memory>
+    ensures plan { IfOk result (λ y. plan_seen y.plan ≡ AntiJoin (plan_seen x.plan) (plan_seen q) (expr_seen c)) }
+    ensures fell { IfOk result (λ y. y.fell ≡ x.fell) }
+    ensures place { IfOk result (λ y. y.place ≡ x.place ++ 0 ∷ []) }
+{
+    let Stepped { plan, fell, place } = x;
+    turned(boxed(alloc, Plan::AntiJoin(plan, q, c), fell, place)?, 0)
+}
+
+#[tactic(auto, using(crate::proofs::OutcomeLemmas::outcomes))]
+fn on_anti_right(alloc: Global, p: Box<Plan>, x: Stepped, c: Expr) -> Result<Stepped, Memory>
+    ensures plan { IfOk result (λ y. plan_seen y.plan ≡ AntiJoin (plan_seen p) (plan_seen x.plan) (expr_seen c)) }
+    ensures fell { IfOk result (λ y. y.fell ≡ x.fell) }
+    ensures place { IfOk result (λ y. y.place ≡ x.place ++ 1 ∷ []) }
+{
+    let Stepped { plan, fell, place } = x;
+    turned(boxed(alloc, Plan::AntiJoin(p, plan, c), fell, place)?, 1)
 }
 
 #[cycle(in_place)]

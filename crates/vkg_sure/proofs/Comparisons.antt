@@ -8,12 +8,13 @@ use Rattle.vkg_expr.specs.declared.expr.Expr.{Expr as ExprValue}
 use Rattle.vkg_expr.specs.Expr.{Expr, exprs}
 use Rattle.vkg_expr.specs.Logic.{and_of, conjuncts}
 use Rattle.vkg_expr.specs.Seen.{expr_seen}
-use Rattle.vkg_plan.specs.Kinds.{Kinds, Tables, plan_kinds}
+use Rattle.vkg_plan.specs.Kinds.{Kinds, Tables}
 use Rattle.vkg_plan.specs.Plan.{Plan}
 use Rattle.vkg_conditions.specs.Conditions.{if_so}
 use Rattle.vkg_conditions.specs.SimplifyCondition.{first_conjunct}
 use Rattle.vkg_equalities.specs.Decided.{decided}
-use Rattle.vkg_equalities.specs.TableColumns.{flag_at, table_columns}
+use Rattle.vkg_equalities.specs.TableColumns.{flag_at}
+use Rattle.vkg_equalities.specs.TermEquality.{condition_columns, condition_kinds}
 use Rattle.vkg_sure.specs.TermComparison.{as_same, compared, compared_in, if_smaller, node_compared, same_terms}
 
 pub is_so : (b : Bool) (e : Expr) → is_some (if_so b e) ≡ b
@@ -50,4 +51,4 @@ over-kinds flags c (Some ks) h =
     (λ e k. ap (λ o. option_and_then (if_smaller e) (option_and_then (decided (flag_at flags) ks) o)) (none-there (as_same e) k)) h)
 
 pub none_compared : (s : Tables) (p : Plan) (c : Expr) → list_any (λ e. is_some (as_same e)) (conjuncts c) ≡ false → node_compared s p c ≡ None
-none_compared s p c h = over-kinds (table_columns s p) c (plan_kinds s p) h
+none_compared s p c h = over-kinds (condition_columns s p) c (condition_kinds s p) h

@@ -7,7 +7,7 @@ use Rattle.vkg_expr.specs.Places.{first_place}
 use Rattle.vkg_expr.specs.Seen.{expr_seen}
 use Rattle.vkg_plan.specs.declared.plan.Plan.{Plan as PlanValue}
 use Rattle.vkg_plan.specs.Kinds.{Tables}
-use Rattle.vkg_plan.specs.Plan.{Plan, Unit as UnitPlan, Empty, Scan, Select, Project, Join, Left, UnionAll, Distinct}
+use Rattle.vkg_plan.specs.Plan.{Plan, Unit as UnitPlan, Empty, Scan, Select, Project, Join, Left, AntiJoin, UnionAll, Distinct}
 use Rattle.vkg_plan.specs.Seen.{plan_seen}
 use Rattle.vkg_rules.specs.declared.rewrite.Fell.{Fell}
 use Rattle.vkg_rules.specs.declared.rewrite.Fell.TheVariants as fell
@@ -29,6 +29,7 @@ changed_is f (Select c p) h = twice smaller (λ d. Select d p) (first_place f c)
 changed_is f (Project es p) h = cc
 changed_is f (Join ps c) h = twice smaller (Join ps) (first_place f c)
 changed_is f (Left p q c) h = twice smaller (Left p q) (first_place f c)
+changed_is f (AntiJoin p q c) h = twice smaller (AntiJoin p q) (first_place f c)
 changed_is f (UnionAll ps) h = cc
 changed_is f (Distinct p) h = cc
 

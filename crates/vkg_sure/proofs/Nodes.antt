@@ -8,7 +8,7 @@ use Rattle.vkg_plan.specs.declared.plan.Plan.TheVariants as value
 use Rattle.vkg_plan.specs.Kinds.{Tables}
 use Rattle.vkg_plan.specs.Plan.{Plan, plans}
 use Rattle.vkg_plan.specs.Seen.{plan_seen}
-use Rattle.vkg_plan.proofs.SeenParts.{seen-Left, seen-Select}
+use Rattle.vkg_plan.proofs.SeenParts.{seen-AntiJoin, seen-Left, seen-Select}
 use Rattle.vkg_rules.proofs.Seen.{seen-Join}
 use Rattle.vkg_sure.specs.declared.told.Told.{Told}
 use Rattle.vkg_sure.specs.NeverNull.{never_null, never_null_each}
@@ -33,3 +33,7 @@ pub placed_left : (s : Tables) (e p q l r : PlanValue) (c : ExprValue) (at : ℕ
 placed_left s e p q l r c at t u is first second i h =
     h ∙ ap (λ z. or_behind z (placed_of s (plan_seen r))) (i ∙ ap (λ x. placed_of s (plan_seen x) at) first) ∙ ap (λ x. or_behind (placed_of s (plan_seen p) at) (placed_of s (plan_seen x))) second
     ∙ sym (placed_two (never_null s (plan_seen p)) (never_null s (plan_seen q)) at) ∙ ap (λ x. placed_of s x at) (sym (ap plan_seen is ∙ seen-Left p q c))
+
+pub placed_anti : (s : Tables) (e p q l : PlanValue) (c : ExprValue) (at : ℕ) (t : Told) → e ≡ value.AntiJoin p q c → l ≡ p → t ≡ unsaid (told_at (never_null s (plan_seen l)) at) → t ≡ unsaid (told_at (never_null s (plan_seen e)) at)
+placed_anti s e p q l c at t is same h =
+    h ∙ ap (λ x. placed_of s (plan_seen x) at) same ∙ ap (λ x. placed_of s x at) (sym (ap plan_seen is ∙ seen-AntiJoin p q c))

@@ -15,7 +15,7 @@ use Rattle.vkg_expr.specs.Value.{truth_of, value_of, values_of}
 use Rattle.vkg_expr.proofs.KindLists.{are_all-more}
 use Rattle.vkg_expr.proofs.TypedParts.{one_is}
 use Rattle.vkg_plan.specs.Kinds.{Kinds, Tables}
-use Rattle.vkg_plan.specs.Plan.{Plan, Select, Project, Join, Left}
+use Rattle.vkg_plan.specs.Plan.{Plan, Select, Project, Join, Left, AntiJoin}
 use Rattle.vkg_rules.specs.declared.rewrite.Fell.TheVariants as fell
 use Rattle.vkg_rules.specs.InNodes.{IsLawful}
 use Rattle.vkg_rules.specs.Measure.{equalities_each, sizes}
@@ -23,7 +23,7 @@ use Rattle.vkg_rules.specs.Steps.{IsTyped}
 use Rattle.vkg_conditions.specs.FirstPlace.{first_place-same, or_cases}
 use Rattle.vkg_conditions.specs.FirstPlaceLess.{place-less}
 use Rattle.vkg_conditions.specs.Junctions.{IsTruth, SimplerOn}
-use Rattle.vkg_conditions.specs.NodesLaw.{AreOwn, BetterOn, join-better, left-better, project-better, select-better}
+use Rattle.vkg_conditions.specs.NodesLaw.{AreOwn, BetterOn, anti-better, join-better, left-better, project-better, select-better}
 use Rattle.vkg_conditions.specs.SameAs.{SameEachOn, SameOn}
 use Rattle.vkg_conditions.specs.SimplifyCondition.{first_of, in_own}
 
@@ -137,4 +137,7 @@ sound-lawful On f sound s (Join ps c) q own t h =
 sound-lawful On f sound s (Left p r c) q own t h =
     let m = map_given (Left p r) (first_place f c) q h in
     subst (λ z. IsLawful s (Left p r c) (z, fell.Size)) m.2 (left-better On s c m.0 p r t own (λ ks k. place-better On f sound ks c m.0 m.1 k))
+sound-lawful On f sound s (AntiJoin p r c) q own t h =
+    let m = map_given (AntiJoin p r) (first_place f c) q h in
+    subst (λ z. IsLawful s (AntiJoin p r c) (z, fell.Size)) m.2 (anti-better On s c m.0 p r t own (λ ks k. place-better On f sound ks c m.0 m.1 k))
 sound-lawful On f sound s _ q own t h = cc

@@ -5,7 +5,7 @@ use Rattle.vkg_expr.specs.Expr.{Expr, Same, IsNull}
 use Rattle.vkg_expr.specs.Logic.{conjuncts}
 use Rattle.vkg_expr.specs.Strict.{is_strict}
 use Rattle.vkg_plan.specs.Kinds.{Tables}
-use Rattle.vkg_plan.specs.Plan.{Plan, Plans, Unit, Empty, Scan, Select, Project, Join, Left, UnionAll, Distinct, Nil, More}
+use Rattle.vkg_plan.specs.Plan.{Plan, Plans, Unit, Empty, Scan, Select, Project, Join, Left, AntiJoin, UnionAll, Distinct, Nil, More}
 use Rattle.vkg_equalities.specs.TableColumns.{flags_beside}
 use Rattle.vkg_unique.specs.Sure.{is_sure, unset, with_conjunct, with_tested}
 
@@ -33,7 +33,7 @@ common [] = []
 common (fs ∷ fss) = fold both fs fss
 
 -- of each column of a plan whether no row has NULL in it, as far as this is seen: a NOT NULL column of a table (SQL-92, 11.7), one of
--- which a condition says so, one of the left side of a left join, a strict expression over such columns, one of each member of a union
+-- which a condition says so, one of the left side of a left join or an anti join, a strict expression over such columns, one of each member of a union
 abbrev mutual
   pub never_null : Tables → Plan → List Bool
   never_null schema Unit = []
@@ -43,6 +43,7 @@ abbrev mutual
   never_null schema (Project es p) = map (is_known (never_null schema p)) es
   never_null schema (Join ps c) = with_all_told (flags_beside (never_null_each schema ps)) c
   never_null schema (Left p q c) = never_null schema p ++ unset (never_null schema q)
+  never_null schema (AntiJoin p q c) = never_null schema p
   never_null schema (UnionAll ps) = common (never_null_each schema ps)
   never_null schema (Distinct p) = never_null schema p
 
@@ -57,4 +58,5 @@ own_never_null schema (Select c p) = never_null schema p
 own_never_null schema (Project es p) = never_null schema p
 own_never_null schema (Join ps c) = flags_beside (never_null_each schema ps)
 own_never_null schema (Left p q c) = never_null schema p ++ never_null schema q
+own_never_null schema (AntiJoin p q c) = never_null schema p ++ never_null schema q
 own_never_null schema p = []

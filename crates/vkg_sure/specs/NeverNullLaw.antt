@@ -31,9 +31,9 @@ use Rattle.vkg_expr.specs.Value.{holds, truth_cell, truth_of, value_of, values_o
 use Rattle.vkg_expr.proofs.TypedParts.{equality_given, fits_row, one_is}
 use Rattle.vkg_columns.proofs.Conjuncts.{AreTruths, IsTruth, conjuncts-kind, holds-conjuncts}
 use Rattle.vkg_plan.specs.Kinds.{Kinds, Tables, beside_all, kinds_of_each, plan_kinds, side_by_side, width}
-use Rattle.vkg_plan.specs.Plan.{Plan, Plans, Unit as UnitPlan, Empty, Scan, Select, Project, Join, Left, UnionAll, Distinct, Nil, More}
+use Rattle.vkg_plan.specs.Plan.{Plan, Plans, Unit as UnitPlan, Empty, Scan, Select, Project, Join, Left, AntiJoin, UnionAll, Distinct, Nil, More}
 use Rattle.vkg_plan.specs.Rows.{is_alone, one_row, pairs, product, rows_of, rows_of_each}
-use Rattle.vkg_plan.proofs.RowsFit.{beside_is}
+use Rattle.vkg_plan.proofs.RowsFit.{beside_is, first_checked-parts}
 use Rattle.vkg_shapes.specs.UnionKinds.{AllKinds, given-union}
 use Rattle.vkg_conditions.specs.NodesLaw.{own_kinds, own_rows}
 use Rattle.vkg_nulls.specs.KnownColumnsLaw.{HasKnown, HaveKnown}
@@ -100,6 +100,7 @@ module _ (s : Tables) where
         length-append (never_null s p) (unset (never_null s q))
         ∙ (λ i. long p a.0 a.1 i + (length-map (never_null s q) (λ f. false) ∙ long q a.2.0 a.2.1) i)
         ∙ sym (length-append a.0 a.2.0) ∙ ap length a.2.2
+    long (AntiJoin p q c) ks e = long p ks (first_checked-parts c (plan_kinds s p) (plan_kinds s q) ks e).first
     long (UnionAll ps) ks e = long-union ps ks e (given-union s ks ps e)
     long (Distinct p) ks e = long p ks e
 
@@ -267,6 +268,8 @@ module _ (s : Tables) (db : Database) (m : MeetsSchema s db) where
               subst (HasKnown flags) x.2
               (known-append (never_null s p) (unset (never_null s q)) x.0 nulls (never p a.0 a.1 x.0 b.0) (unset-row (never_null s q) nulls (nulls-long q a.2.0 a.2.1 ∙ sym (long s q a.2.0 a.2.1))))
         ]
+    never (AntiJoin p q c) ks e r d =
+        never p ks (first_checked-parts c (plan_kinds s p) (plan_kinds s q) ks e).first r (Contains-from_filter (is_alone (holds c) (rows_of s q db)) (rows_of s p db) r d).0
     never (UnionAll ps) ks e r d = never-union ps ks (given-union s ks ps e) r d
     never (Distinct p) ks e r d = never p ks e r (Contains-from_distinct one_row (rows_of s p db) r d)
 
@@ -311,6 +314,9 @@ module _ (s : Tables) (db : Database) (m : MeetsSchema s db) where
       let a = beside_is (kinds_of_each s ps) ks e in
       recursion_from_each (HasKnown (flags_beside (never_null_each s ps))) (product (rows_of_each s ps db)) (never-beside ps a.0 a.1)
   own-never (Left p q c) ks e =
+      let a = both_given (plan_kinds s p) (plan_kinds s q) ks e in
+      recursion_from_each (HasKnown (never_null s p ++ never_null s q)) (pairs (rows_of s p db) (rows_of s q db)) (pairs-never p q a.0 a.2.0 a.1 a.2.1)
+  own-never (AntiJoin p q c) ks e =
       let a = both_given (plan_kinds s p) (plan_kinds s q) ks e in
       recursion_from_each (HasKnown (never_null s p ++ never_null s q)) (pairs (rows_of s p db) (rows_of s q db)) (pairs-never p q a.0 a.2.0 a.1 a.2.1)
   own-never _ ks e = cc

@@ -9,7 +9,7 @@ use Rattle.vkg_values.specs.Operators.{is_literal}
 use Rattle.vkg_expr.specs.declared.expr.Operator.{Operator}
 use Rattle.vkg_expr.specs.declared.expr.Operator.TheVariants as op
 use Rattle.vkg_expr.specs.Expr.{Expr, Exprs, Const, MakeIri, MakeBlank, Same, Sparql, Nil, More}
-use Rattle.vkg_plan.specs.Kinds.{Kinds, Tables, plan_kinds}
+use Rattle.vkg_plan.specs.Kinds.{Kinds, Tables}
 use Rattle.vkg_plan.specs.Plan.{Plan}
 use Rattle.vkg_rules.specs.declared.rewrite.Fell.TheVariants as fell
 use Rattle.vkg_rules.specs.Measure.{size}
@@ -18,7 +18,8 @@ use Rattle.vkg_conditions.specs.Conditions.{if_so}
 use Rattle.vkg_conditions.specs.NodeCondition.{condition_of, conditioned}
 use Rattle.vkg_conditions.specs.SimplifyCondition.{in_conjuncts}
 use Rattle.vkg_equalities.specs.Decided.{decided}
-use Rattle.vkg_equalities.specs.TableColumns.{flag_at, table_columns}
+use Rattle.vkg_equalities.specs.TableColumns.{flag_at}
+use Rattle.vkg_equalities.specs.TermEquality.{condition_columns, condition_kinds}
 
 -- a term that is no literal, and an expression that makes one or NULL
 abbrev pub holds_no_literal : Cell → Bool
@@ -55,9 +56,9 @@ compared is_column ks c = option_and_then (if_smaller c) (option_and_then (decid
 unfoldable pub compared_in : List Bool → Kinds → Expr → Option Expr
 compared_in flags ks c = in_conjuncts (compared (flag_at flags) ks) c
 
--- the condition of a plan's first node, which is one over the plan's own columns
+-- the condition of a plan's first node
 abbrev pub node_compared : Tables → Plan → Expr → Option Expr
-node_compared schema p c = option_and_then (λ ks. compared_in (table_columns schema p) ks c) (plan_kinds schema p)
+node_compared schema p c = option_and_then (λ ks. compared_in (condition_columns schema p) ks c) (condition_kinds schema p)
 
 -- SQL-92, 7.5 and 7.6: a row or a pair passes where each conjunct is true
 abbrev pub term_comparison : Rule

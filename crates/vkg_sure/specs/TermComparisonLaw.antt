@@ -1,6 +1,6 @@
 -- Its laws: of two terms of which one is no literal `=` is true where they are one term, so that the verdict on them holds of the same rows.
-use Rattle.std.proofs.Common.{◌≡◌, ◌∙◌, inl, inr, ◌+◌, ◌<◌, ◌≤◌, ℕ, Bool, true, false, cond, not, ◌&&◌, ◌||◌, List, [], ◌∷◌, ◌++◌, map, length, refl, sym, ap, subst, arith}
-use Rattle.std.specs.Prelude.{Option, Some, None, option_and_then, option_map, replicate, if◌then◌else◌, nat_lt, ◌==◌}
+use Rattle.std.proofs.Common.{◌≡◌, ◌∙◌, ◌⊎◌, inl, inr, ◌+◌, ◌<◌, ◌≤◌, ℕ, Bool, true, false, cond, not, ◌&&◌, ◌||◌, List, [], ◌∷◌, ◌++◌, map, length, refl, sym, ap, subst, arith}
+use Rattle.std.specs.Prelude.{Option, Some, None, is_some, option_and_then, option_map, replicate, if◌then◌else◌, nat_lt, ◌==◌}
 use Rattle.std.specs.List.{AllByRecursion, filter, list_all}
 use Rattle.std.proofs.lemmas.Bool.{ltb-true, or_cases}
 use Rattle.std.proofs.lemmas.Option.{option_and_then_some}
@@ -8,7 +8,7 @@ use Rattle.vkg_lists.proofs.Bags.{bag_same}
 use Rattle.vkg_lists.proofs.Bools.{and_parts, not_true}
 use Rattle.vkg_lists.proofs.Members.{each_from_recursion, filter_agree_on, recursion_left, recursion_right}
 use Rattle.vkg_lists.proofs.Onto.{both_given, map_given}
-use Rattle.vkg_lists.proofs.Results.{then_given}
+use Rattle.vkg_lists.proofs.Results.{some_then, then_given}
 use Rattle.vkg_lists.specs.Options.{joined}
 use Rattle.vkg_terms.specs.declared.term.Term.{Term}
 use Rattle.vkg_terms.specs.declared.term.Term.TheVariants.{Iri, Blank, Lit}
@@ -34,7 +34,7 @@ use Rattle.vkg_expr.proofs.ReadBack.{truth_back}
 use Rattle.vkg_expr.proofs.TypedParts.{one_is}
 use Rattle.vkg_columns.proofs.Conjuncts.{AreTruths, IsTruth, and_of-kind, conjuncts-kind, holds-and_of, holds-conjuncts}
 use Rattle.vkg_plan.specs.Kinds.{Kinds, Tables, beside_all, checked, kinds_of_each, plan_kinds, width}
-use Rattle.vkg_plan.specs.Plan.{Plan, Plans, Select, Join, Left}
+use Rattle.vkg_plan.specs.Plan.{Plan, Plans, Select, Join, Left, AntiJoin}
 use Rattle.vkg_plan.specs.Rows.{is_alone, left_pairs, pairs, product, rows_of, rows_of_each}
 use Rattle.vkg_plan.proofs.RowsFit.{beside_is, checked_parts}
 use Rattle.vkg_rules.specs.declared.rewrite.Fell.TheVariants as fell
@@ -51,6 +51,7 @@ use Rattle.vkg_equalities.specs.Decided.{decided}
 use Rattle.vkg_equalities.specs.DecidedLaw.{decided-right}
 use Rattle.vkg_equalities.specs.TableColumns.{columns_of_each, flag_at, flags_beside, table_columns}
 use Rattle.vkg_equalities.specs.TableColumnsLaw.{CellsFit, FitsColumns, cells, pair-cells, product-cells}
+use Rattle.vkg_equalities.specs.TermEquality.{condition_columns, condition_kinds}
 use Rattle.vkg_sure.specs.TermComparison.{as_same, compared, compared_in, if_smaller, makes_no_literal, node_compared, same_by, same_terms, term_comparison}
 
 -- ---- of two terms of which one is no literal
@@ -250,13 +251,13 @@ module _ (On : Row → Type 0) (ks : Kinds) (f : Expr → Option Expr) (better :
   conjuncts-better (And es) d h t = several-better es d t h
   conjuncts-better c d h t = alone-better c d t h
 
--- over the kinds that the plan has
+-- over the kinds that the condition is over
 in-better : (flags : List Bool) (ks : Kinds) (c d : Expr) → compared_in flags ks c ≡ Some d → IsTruth ks c → BetterOn (FitsColumns (flag_at flags) ks) ks c d
 unfolding compared_in
 in-better flags ks c d h t = conjuncts-better (FitsColumns (flag_at flags) ks) ks (compared (flag_at flags) ks) (compared-better (flag_at flags) ks) c d h t
 
-node-better : (s : Tables) (p : Plan) (ks : Kinds) (c d : Expr) → plan_kinds s p ≡ Some ks → IsTruth ks c → node_compared s p c ≡ Some d → BetterOn (FitsColumns (flag_at (table_columns s p)) ks) ks c d
-node-better s p ks c d is typed h = in-better (table_columns s p) ks c d (ap (option_and_then (λ l. compared_in (table_columns s p) l c)) (sym is) ∙ h) typed
+node-better : (s : Tables) (p : Plan) (ks : Kinds) (c d : Expr) → condition_kinds s p ≡ Some ks → IsTruth ks c → node_compared s p c ≡ Some d → BetterOn (FitsColumns (flag_at (condition_columns s p)) ks) ks c d
+node-better s p ks c d is typed h = in-better (condition_columns s p) ks c d (ap (option_and_then (λ l. compared_in (condition_columns s p) l c)) (sym is) ∙ h) typed
 
 checked-same : (c d : Expr) (o : Option Kinds) (ks : Kinds) → o ≡ Some ks → IsTruth ks c → IsTruth ks d → checked d o ≡ checked c o
 checked-same c d o ks is h g = to d g ∙ sym (to c h)
@@ -340,10 +341,31 @@ module _ (s : Tables) (form : IsWellFormed s) where
         falls = (omega arith, omega (arith, n), omega (arith, l));
       })
 
+  anti-lawful : (p q : Plan) (c : Expr) (x : Step) → IsTyped s (AntiJoin p q c) → term_comparison s (AntiJoin p q c) ≡ Some x → IsLawful s (AntiJoin p q c) x
+  anti-lawful p q c x typed e =
+      let t : ℕ → Bool = flag_at (table_columns s p ++ table_columns s q) in
+      let o : Option Kinds = joined (plan_kinds s p) (plan_kinds s q) in
+      let first = some_then (λ (ks : Kinds). plan_kinds s p) (checked c o) typed in
+      let a = checked_parts c o (ap is_some first.1) in
+      let b = both_given (plan_kinds s p) (plan_kinds s q) a.0 a.1 in
+      let m = map_given (λ (d : Expr). (AntiJoin p q d, fell.Size)) (node_compared s (AntiJoin p q c) c) x e in
+      let r = node-better s (AntiJoin p q c) a.0 c m.0 a.1 a.2 m.1 in
+      let k : kinds_or_none s p ++ kinds_or_none s q ≡ a.0 = (λ i. or_no_kinds (b.1 i) ++ or_no_kinds (b.2.1 i)) ∙ b.2.2 in
+      let l = r.less in
+      let n = fewer-over a.0 (kinds_or_none s p ++ kinds_or_none s q) c m.0 k r.fewer in
+      subst (IsLawful s (AntiJoin p q c)) m.2 (record {
+        kinds = ap (option_and_then (λ (ks : Kinds). plan_kinds s p)) (checked-same c m.0 o a.0 a.1 a.2 r.truth);
+        rows = λ db meets. bag_same (all_alone-on (FitsColumns t a.0) (holds c) (holds m.0) (λ row f. sym (r.same row f)) (rows_of s p db) (rows_of s q db)
+            (subst (λ z. CellsFit t z (pairs (rows_of s p db) (rows_of s q db))) b.2.2
+            (pair-cells s db form meets p (table_columns s q) b.0 b.2.0 (rows_of s q db) b.1 (cells s db form meets p b.0 b.1) (cells s db form meets q b.2.0 b.2.1))));
+        falls = (omega arith, omega (arith, n), omega (arith, l));
+      })
+
   lawful : (p : Plan) (x : Step) → IsTyped s p → term_comparison s p ≡ Some x → IsLawful s p x
   lawful (Select c p) x typed e = select-lawful c p x typed e
   lawful (Join ps c) x typed e = join-lawful ps c x typed e
   lawful (Left p q c) x typed e = left-lawful p q c x typed e
+  lawful (AntiJoin p q c) x typed e = anti-lawful p q c x typed e
   lawful _ x typed e = cc
 
 pub term_comparison-keeps : KeepsAll term_comparison

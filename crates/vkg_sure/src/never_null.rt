@@ -29,6 +29,7 @@ pub fn own_told(alloc: Global, schema: &Schema, plan: &Plan, column: usize) -> R
         Plan::Project(_, p) => never_null(alloc, schema, p, column),
         Plan::Join(ps, _) => beside(alloc, schema, ps.as_slice(), column),
         Plan::Left(p, q, _) => of_two(alloc, schema, p, q, column),
+        Plan::AntiJoin(p, q, _) => of_two(alloc, schema, p, q, column),
         _ => Ok(Told::Behind(column)),
     }
 }
@@ -56,6 +57,7 @@ fn never_null(alloc: Global, schema: &Schema, plan: &Plan, column: usize) -> Res
         Plan::Project(es, p) => projected(alloc, schema, p, es.as_slice(), column),
         Plan::Join(ps, c) => joined(alloc, schema, ps.as_slice(), c, column),
         Plan::Left(p, q, _) => left_joined(alloc, schema, p, q, column),
+        Plan::AntiJoin(p, _, _) => never_null(alloc, schema, p, column),
         Plan::UnionAll(ps) => in_common(alloc, schema, ps.as_slice(), column),
         Plan::Distinct(p) => never_null(alloc, schema, p, column),
     }

@@ -31,6 +31,7 @@ pub fn placed(schema: &Schema, plan: &Plan, column: usize) -> Told
             let told = placed(schema, p, column);
             or_placed(schema, told, q)
         }
+        Plan::AntiJoin(p, _, _) => placed(schema, p, column),
         Plan::UnionAll(ps) => in_common(schema, ps.as_slice(), column),
         Plan::Distinct(p) => placed(schema, p, column),
     }

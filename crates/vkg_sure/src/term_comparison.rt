@@ -9,9 +9,9 @@ use crate::comparing::{compared_in, may_compare};
 use std::alloc::Global;
 use vkg_base::{Box, Memory};
 use vkg_conditions::node_condition::{condition, conditioned, with_condition};
-use vkg_equalities::are_table_columns;
+use vkg_equalities::{condition_columns, condition_kinds};
 use vkg_expr::Expr;
-use vkg_plan::{Plan, copy_plan_box, plan_kinds};
+use vkg_plan::{Plan, copy_plan_box};
 use vkg_rules::{Answer, Fell, Rewrite};
 use vkg_schema::Schema;
 
@@ -78,9 +78,9 @@ fn of_node(
     if !may_compare(c) {
         return Ok(None);
     }
-    let Some(kinds) = plan_kinds(alloc, plan, schema)? else {
+    let Some(kinds) = condition_kinds(alloc, schema, plan)? else {
         return Ok(None);
     };
-    let flags = are_table_columns(alloc, schema, plan)?;
+    let flags = condition_columns(alloc, schema, plan)?;
     compared_in(alloc, flags.as_slice(), kinds.as_slice(), c)
 }

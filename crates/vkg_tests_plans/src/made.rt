@@ -58,6 +58,13 @@ pub fn left(alloc: Global, p: Made, q: Made, c: MadeExpr) -> Made {
     Box::new(alloc, Plan::Left(p, q, c.into_inner()))
 }
 
+pub fn anti_joined(alloc: Global, p: Made, q: Made, c: MadeExpr) -> Made {
+    let p = p?;
+    let q = q?;
+    let c = c?;
+    Box::new(alloc, Plan::AntiJoin(p, q, c.into_inner()))
+}
+
 pub fn scans(alloc: Global, first: usize, second: usize) -> Result<Items<Plan>, Memory> {
     let mut ps = Items::new(alloc);
     ps.push(Plan::Scan(first))?;

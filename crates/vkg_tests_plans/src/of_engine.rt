@@ -1,4 +1,4 @@
-use crate::made::{Made, MadeExpr, left, null_test, same, scan, scans, select, told};
+use crate::made::{Made, MadeExpr, anti_joined, left, null_test, same, scan, scans, select, told};
 use std::alloc::Global;
 use std::process::Abort;
 use std::test::Fail;
@@ -89,6 +89,11 @@ fn left_of(alloc: Global, p: usize, q: usize, c: MadeExpr) -> Made {
     left(alloc, scan(alloc, p), scan(alloc, q), c)
 }
 
+// The rows of a table without a partner in another.
+fn anti_of(alloc: Global, p: usize, q: usize, c: MadeExpr) -> Made {
+    anti_joined(alloc, scan(alloc, p), scan(alloc, q), c)
+}
+
 fn made(alloc: Global, node: &str) -> Made {
     match node {
         "Unit" => Box::new(alloc, Plan::Unit),
@@ -104,6 +109,9 @@ fn made(alloc: Global, node: &str) -> Made {
         "Left" => left_of(alloc, 1, 0, same(alloc, 2, 3)),
         "Left or NULL" => left_of(alloc, 1, 0, same_or_null(alloc, 2, 3)),
         "Left or NULL without NULL" => left_of(alloc, 0, 2, same_or_null(alloc, 0, 2)),
+        "AntiJoin" => anti_of(alloc, 1, 0, same(alloc, 2, 3)),
+        "AntiJoin or NULL" => anti_of(alloc, 1, 0, same_or_null(alloc, 2, 3)),
+        "AntiJoin or NULL without NULL" => anti_of(alloc, 0, 2, same_or_null(alloc, 0, 2)),
         "UnionAll" => union(alloc),
         _ => distinct(alloc, union(alloc)),
     }
@@ -172,6 +180,10 @@ fn each_node_has_its_rows(rt: HostRuntime) -> Result<(), Fail> {
             "7,Ann,1,1,Ore;8,Bo,NULL,1,Ore;8,Bo,NULL,2,NULL;9,Ann,1,1,Ore;",
         ),
         ("Left or NULL without NULL", "1,Ore,1,10;2,NULL,NULL,NULL;"),
+        // where the condition is unknown the row stays
+        ("AntiJoin", "8,Bo,NULL;"),
+        ("AntiJoin or NULL", ""),
+        ("AntiJoin or NULL without NULL", "2,NULL;"),
         ("UnionAll", "1,Ore;1,Ore;2,NULL;2,NULL;"),
         ("Distinct", "1,Ore;2,NULL;"),
     ];

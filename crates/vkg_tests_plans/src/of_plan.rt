@@ -1,4 +1,4 @@
-use crate::made::{Made, column, left, scan, schema_of, select};
+use crate::made::{Made, anti_joined, column, left, same, scan, schema_of, select};
 use std::alloc::Global;
 use std::test::Fail;
 use vkg_base::{Box, Items, Memory};
@@ -66,6 +66,14 @@ fn ill_typed(alloc: Global, rule: &str) -> Made {
         ),
         "a join by no truth" => join(alloc, two(alloc)?, Expr::Col(0)),
         "a left join by no truth" => left(alloc, scan(alloc, 0), scan(alloc, 0), column(alloc, 1)),
+        "an anti join by no truth" => {
+            anti_joined(alloc, scan(alloc, 0), scan(alloc, 0), column(alloc, 1))
+        }
+        "a selection by a column that an anti join has not" => select(
+            alloc,
+            same(alloc, 0, 1),
+            anti_joined(alloc, scan(alloc, 0), scan(alloc, 0), same(alloc, 0, 1)),
+        ),
         "a union of none" => union(alloc, Items::new(alloc)),
         _ => union(alloc, two(alloc)?),
     }
@@ -85,6 +93,8 @@ fn ill_typed_plans_have_no_kinds(rt: HostRuntime) -> Result<(), Fail> {
         "a join of none",
         "a join by no truth",
         "a left join by no truth",
+        "an anti join by no truth",
+        "a selection by a column that an anti join has not",
         "a union of none",
         "a union of other kinds",
     ];

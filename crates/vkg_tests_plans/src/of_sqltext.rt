@@ -1,6 +1,6 @@
 use crate::made::{
-    Made, MadeExpr, column, iri_of, left, null_test, same, scan, scans, schema_of, select, text,
-    told,
+    Made, MadeExpr, anti_joined, column, iri_of, left, null_test, same, scan, scans, schema_of,
+    select, text, told,
 };
 use std::alloc::Global;
 use std::test::Fail;
@@ -184,13 +184,14 @@ fn made(alloc: Global, node: &str) -> Made {
         "Project of none" => project(alloc, columns(alloc, 0), unit(alloc)),
         "Join" => join(alloc),
         "Left" => left(alloc, scan(alloc, 1), scan(alloc, 0), same(alloc, 2, 3)),
+        "AntiJoin" => { anti_joined(alloc, scan(alloc, 1), scan(alloc, 0), same(alloc, 2, 3)) }
         "UnionAll" => union(alloc),
         _ => distinct(alloc, unit(alloc)),
     }
 }
 
 // Nodes of plans, and their texts.
-const TEXTS_OF_NODES: [(&str, &str); 10] = [
+const TEXTS_OF_NODES: [(&str, &str); 11] = [
     ("Unit", "VALUES ()"),
     ("Empty", "EMPTY (INT, TERM)"),
     ("Scan", "TABLE \"a\"\"b\""),
@@ -210,6 +211,10 @@ const TEXTS_OF_NODES: [(&str, &str); 10] = [
     (
         "Left",
         "SELECT * FROM (TABLE \"emp\") AS t1 LEFT JOIN (TABLE \"dept\") AS t2 ON SAME(c3, c4)",
+    ),
+    (
+        "AntiJoin",
+        "SELECT * FROM (TABLE \"emp\") AS t1 ANTI JOIN (TABLE \"dept\") AS t2 ON SAME(c3, c4)",
     ),
     ("UnionAll", "(TABLE \"dept\") UNION ALL (TABLE \"dept\")"),
     ("Distinct", "SELECT DISTINCT * FROM (VALUES ()) AS t"),

@@ -23,6 +23,7 @@ fn variables_stand_by_their_first_place(rt: HostRuntime) -> Result<(), Fail> {
 fn laws_compute_nothing() {
     laws::maps();
     laws::left_joins();
+    laws::minuses();
     laws::basic_graph_patterns();
     laws::solution_lines();
 }

@@ -117,3 +117,59 @@ fn answers_are_ordered_and_sliced(rt: HostRuntime) -> Result<(), Fail> {
     }
     Ok(())
 }
+
+#[test]
+fn solutions_are_taken_away(rt: HostRuntime) -> Result<(), Fail> {
+    let rows = [
+        (
+            "SELECT ?n { ?x <name> ?n MINUS { ?x <says> ?w } }",
+            "?n\n\"Bo\"\n",
+        ),
+        // no variable is in common, so nothing is taken away
+        (
+            "SELECT ?n { ?x <name> ?n MINUS { ?y <says> ?w } }",
+            "?n\n\"Ann\"\n\"Bo\"\n",
+        ),
+        // nor where the variable in common is bound on one side alone
+        (
+            "SELECT ?n { ?x <name> ?n OPTIONAL { ?x <says> ?w } MINUS { ?y <says> ?w } }",
+            "?n\n\"Bo\"\n",
+        ),
+        (
+            "SELECT ?n { ?x <name> ?n MINUS {} }",
+            "?n\n\"Ann\"\n\"Bo\"\n",
+        ),
+    ];
+    for (text, want) in rows.iter() {
+        let found = answer_to(rt.alloc(), text)?;
+        assert_eq!(rt; found.as_str(), *want, "at {text}");
+    }
+    Ok(())
+}
+
+#[test]
+fn values_are_given_and_computed(rt: HostRuntime) -> Result<(), Fail> {
+    let rows = [
+        (
+            "SELECT ?n { VALUES ?n { \"Bo\" \"Cy\" } ?e <name> ?n }",
+            "?n\n\"Bo\"\n",
+        ),
+        // UNDEF leaves its variable unbound, so that it may be bound by what stands beside
+        (
+            "SELECT ?n ?x { VALUES (?n ?x) { (UNDEF 1) } ?e <name> ?n }",
+            "?n\t?x\n\"Ann\"\t\"1\"^^<http://www.w3.org/2001/XMLSchema#integer>\n\"Bo\"\t\"1\"^^<http://www.w3.org/2001/XMLSchema#integer>\n",
+        ),
+        ("SELECT ?n { VALUES ?n {} ?e <name> ?n }", "?n\n"),
+        (
+            "SELECT ?n ?l { ?x <name> ?n BIND(STRLEN(?n) AS ?l) }",
+            "?n\t?l\n\"Ann\"\t\"3\"^^<http://www.w3.org/2001/XMLSchema#integer>\n\"Bo\"\t\"2\"^^<http://www.w3.org/2001/XMLSchema#integer>\n",
+        ),
+        // where the expression is an error, the variable is unbound
+        ("SELECT * { BIND(?z AS ?y) }", "?y\n\n"),
+    ];
+    for (text, want) in rows.iter() {
+        let found = answer_to(rt.alloc(), text)?;
+        assert_eq!(rt; found.as_str(), *want, "at {text}");
+    }
+    Ok(())
+}

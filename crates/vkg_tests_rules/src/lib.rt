@@ -5,12 +5,14 @@
 //! the libraries since a crate with tests is proved twice, with them and without.
 //!
 //! - `vkg_shapes`, and the rules of rules of `vkg_rules`: plans and what each rule makes of them, as texts.
-//! - `vkg_conditions`, `vkg_nulls`, `vkg_unions`, `vkg_equalities`, `vkg_moves`, `vkg_lifts`, `vkg_spreads`, `vkg_key_joins`, `vkg_unique`,
-//!   `vkg_sure` and `vkg_key_lefts`: the same of their rules.
+//! - `vkg_conditions`, `vkg_nulls`, `vkg_unions`, `vkg_equalities`, `vkg_moves`, `vkg_lifts`, `vkg_spreads`, `vkg_antis`, `vkg_key_joins`,
+//!   `vkg_unique`, `vkg_sure` and `vkg_key_lefts`: the same of their rules.
 #![tactic(auto)]
 
 #[cfg(test)]
 mod made;
+#[cfg(test)]
+mod of_antis;
 #[cfg(test)]
 mod of_comparisons;
 #[cfg(test)]

@@ -174,6 +174,13 @@ pub fn join(alloc: Global, p: Made, q: Made, c: MadeExpr) -> Made {
     Box::new(alloc, Plan::Join(ps, c.into_inner()))
 }
 
+pub fn anti_joined(alloc: Global, p: Made, q: Made, c: MadeExpr) -> Made {
+    let p = p?;
+    let q = q?;
+    let c = c?;
+    Box::new(alloc, Plan::AntiJoin(p, q, c.into_inner()))
+}
+
 pub fn left(alloc: Global, p: Made, q: Made, c: MadeExpr) -> Made {
     let p = p?;
     let q = q?;

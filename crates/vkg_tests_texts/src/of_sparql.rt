@@ -99,15 +99,71 @@ fn words_of_calls_are_counted(rt: HostRuntime) -> Result<(), Fail> {
 
 // Each is told where it stands: as left out, or as a word that no query goes on with.
 #[test]
-fn words_to_come_are_refused(rt: HostRuntime) -> Result<(), Fail> {
+fn words_out_of_place_are_refused(rt: HostRuntime) -> Result<(), Fail> {
     let rows = &[
-        ("SELECT * { MINUS {} }", "Q07 11"),
-        ("SELECT * { BIND(1 AS ?x) }", "Q07 11"),
-        ("SELECT * { VALUES ?x { UNDEF } }", "Q07 11"),
         ("SELECT * { UNDEF }", "Q02 11"),
         ("CONSTRUCT {} {}", "Q07 0"),
+        ("SELECT * {} VALUES ?x { 1 }", "Q07 12"),
+        ("SELECT * { MINUS ?x }", "Q02 17"),
+        ("SELECT * { BIND(1 ?x) }", "Q02 18"),
+        ("SELECT * { VALUES ?x { ?y } }", "Q02 23"),
     ];
     all_shown(&rt, rt.alloc(), rows)
+}
+
+// What VALUES and BIND may hold, and what is wrong with them.
+#[test]
+fn tables_and_bound_variables_are_checked(rt: HostRuntime) -> Result<(), Fail> {
+    let rows = &[
+        ("SELECT * { VALUES () { () () } }", "0 1 false"),
+        (
+            "SELECT * { VALUES (?a ?b) { (1 UNDEF) ('x'@en 'y'^^<d>) } . ?s ?p ?o }",
+            "5 2 false",
+        ),
+        (
+            "SELECT * { ?s ?p ?o MINUS { ?a ?b ?c } BIND(?a AS ?b) }",
+            "6 3 false",
+        ),
+        (
+            "SELECT * { FILTER(?x) BIND(1 AS ?x) { BIND(1 AS ?x) } }",
+            "1 3 false",
+        ),
+        ("SELECT * { VALUES (?a ?b) { (1) } }", "Q10 28"),
+        ("SELECT * { VALUES (?a ?b) { (1 2) () (3 4 5) } }", "Q10 34"),
+        ("SELECT * { VALUES (?a ?b ?a) {} }", "Q10 25"),
+        ("SELECT * { MINUS { VALUES () { (UNDEF) } } }", "Q10 31"),
+        ("SELECT * { VALUES (?a ?a) {} BIND(1 AS ?a) }", "Q10 22"),
+        ("SELECT * { ?s ?p ?o BIND(1 AS ?o) }", "Q11 30"),
+        ("SELECT * { { BIND(1 AS ?x) } BIND(2 AS ?x) }", "Q11 39"),
+        ("SELECT * { OPTIONAL { ?x ?p ?o } BIND(1 AS ?x) }", "Q11 43"),
+        ("SELECT * { VALUES ?x { 1 } BIND(1 AS ?x) }", "Q11 37"),
+        ("SELECT * { GRAPH ?x {} BIND(1 AS ?x) }", "Q11 33"),
+        (
+            "SELECT * { { BIND(1 AS ?x) BIND(1 AS ?x) } UNION {} }",
+            "Q11 37",
+        ),
+        ("SELECT * { _:a ?p ?o BIND(1 AS ?x) _:a ?q ?r }", "Q06 35"),
+        (
+            "SELECT * { VALUES ?x { 123456789012345678901234567890123456789 } }",
+            "Q08 23",
+        ),
+        (
+            "SELECT * { VALUES ?x { '1'^^<http://www.w3.org/2001/XMLSchema#float> } }",
+            "Q07 23",
+        ),
+    ];
+    all_shown(&rt, rt.alloc(), rows)
+}
+
+// VALUES and each value are nodes, the brace is none: the last value is the 1,025th.
+#[test]
+fn values_are_counted(rt: HostRuntime) -> Result<(), Fail> {
+    let mut text = String::from_str(rt.alloc(), "SELECT * { VALUES ?x { ")?;
+    for _ in 0..1023 {
+        text.push_str("1 ")?;
+    }
+    text.push_str("} }")?;
+    all_shown(&rt, rt.alloc(), &[(text.as_str(), "Q09 2067")])
 }
 
 // The number of keys, and the slice.

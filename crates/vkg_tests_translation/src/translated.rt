@@ -6,7 +6,7 @@ use vkg_algebra::translate;
 use vkg_sparql::{Query, read_query};
 
 // Queries and their algebra by the rules of SPARQL 1.1, 18.2.2.
-const ROWS: [(&str, &str); 12] = [
+const ROWS: [(&str, &str); 18] = [
     ("SELECT * {}", "Bgp"),
     (
         "SELECT ?n ?d { ?e <name> ?n OPTIONAL { ?e <ref-dept> ?d } }",
@@ -52,6 +52,27 @@ const ROWS: [(&str, &str); 12] = [
         "SELECT * { ?s <q> ?o FILTER(STRLEN(?o) > 1 && STRSTARTS(?o, \"a\") && (STRENDS(?o, \"b\") || contains(?o, \"c\"))) }",
         "Filter(And(Greater(Length ?o, \"1\"^^<http://www.w3.org/2001/XMLSchema#integer>), Starts(?o, \"a\"), Or(Ends(?o, \"b\"), Contains(?o, \"c\"))), Bgp[?s <http://e/q> ?o])",
     ),
+    (
+        "SELECT * { ?e <name> ?n MINUS { ?e <dept> ?d } ?e <q> ?x }",
+        "Join(Minus(Bgp[?e <http://e/name> ?n], Bgp[?e <http://e/dept> ?d]), Bgp[?e <http://e/q> ?x])",
+    ),
+    (
+        "SELECT * { MINUS { ?s <p> ?o } }",
+        "Minus(Bgp, Bgp[?s <http://e/p> ?o])",
+    ),
+    (
+        "SELECT * { VALUES (?n ?x) { (\"Bo\" UNDEF) (UNDEF 1) } ?e <name> ?n }",
+        "Join(Table( ?n ?x )( \"Bo\" UNDEF )( UNDEF \"1\"^^<http://www.w3.org/2001/XMLSchema#integer> ), Bgp[?e <http://e/name> ?n])",
+    ),
+    (
+        "SELECT * { ?e <name> ?n VALUES ?n { <a> UNDEF } }",
+        "Join(Bgp[?e <http://e/name> ?n], Table( ?n )( <http://e/a> )( UNDEF ))",
+    ),
+    (
+        "SELECT * { ?e <name> ?n BIND(STRLEN(?n) AS ?m) FILTER(?m > 1) }",
+        "Filter(Greater(?m, \"1\"^^<http://www.w3.org/2001/XMLSchema#integer>), Extend(Bgp[?e <http://e/name> ?n], ?m, Length ?n))",
+    ),
+    ("SELECT * { BIND(?z AS ?y) }", "Extend(Bgp, ?y, ?z)"),
 ];
 
 fn query_of(alloc: Global, text: &str) -> Result<Query, Fail> {

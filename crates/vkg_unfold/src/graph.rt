@@ -73,7 +73,7 @@ fn with_variable(alloc: Global, variable: Var, others: &[Var]) -> Result<Items<V
 }
 
 /// In mode each a plan without graphs stands behind the graphs' names.
-fn in_mode(
+pub(crate) fn in_mode(
     alloc: Global,
     schema: &[Table],
     rules: &[RuleTerms<'_>],
@@ -126,6 +126,9 @@ fn is_pattern(a: &Algebra) -> bool
         Algebra::Union(_, _) => false,
         Algebra::Filter(_, _) => false,
         Algebra::Graph(_, _) => false,
+        Algebra::Minus(_, _) => false,
+        Algebra::Table(_, _) => false,
+        Algebra::Extend(_, _, _) => false,
     }
 }
 

@@ -21,12 +21,15 @@ mod bgp;
 mod columns;
 mod conditions;
 mod exprs;
+mod extend;
 mod graph;
 mod graph_test;
+mod minus;
 mod named;
 mod pattern;
 mod query;
 mod rule_terms;
+mod table;
 mod two;
 
 pub use query::{start_plan, unfold};

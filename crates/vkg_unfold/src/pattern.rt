@@ -365,7 +365,7 @@ fn union_of(alloc: Global, columns: usize, members: Items<Plan>) -> Result<Plan,
 }
 
 /// The kinds of columns of terms.
-fn terms(alloc: Global, columns: usize) -> Result<Items<SqlType>, Memory>
+pub(crate) fn terms(alloc: Global, columns: usize) -> Result<Items<SqlType>, Memory>
     ensures { IfOk result (λ ks. ks ≡ replicate columns kind.Term) }
 {
     let mut kinds = Items::new(alloc);

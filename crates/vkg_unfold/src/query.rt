@@ -18,8 +18,11 @@ ghost use Rattle.vkg_answers.specs.Answering.{GivesSolutions};
 
 use crate::bgp::bgp_plan;
 use crate::conditions::{filter_expr, value_expr};
+use crate::extend::extend_plan;
 use crate::graph::{graph_of_each, graph_of_name};
+use crate::minus::minus_plan;
 use crate::rule_terms::{RuleTerms, rule_terms};
+use crate::table::table_in_mode;
 use crate::two::{join_plan, left_plan, union_plan, visible_columns};
 use std::alloc::Global;
 use vkg_algebra::{Algebra, Var, selected_variables, visible};
@@ -100,6 +103,22 @@ fn plan_of(
         Algebra::Graph(GraphName::Each(variable), a) => {
             let p = plan_of(alloc, schema, rules, a, &Mode::Each);
             graph_of_each(alloc, schema, rules, mode, *variable, a, p)
+        }
+        Algebra::Minus(a, b) => {
+            let p = plan_of(alloc, schema, rules, a, mode);
+            minus_plan(alloc, mode, a, b, p, plan_of(alloc, schema, rules, b, mode))
+        }
+        Algebra::Table(variables, rows) => table_in_mode(
+            alloc,
+            schema,
+            rules,
+            mode,
+            variables.as_slice(),
+            rows.as_slice(),
+        ),
+        Algebra::Extend(a, variable, condition) => {
+            let p = plan_of(alloc, schema, rules, a, mode);
+            extend_plan(alloc, mode, a, *variable, condition, p)
         }
     }
 }

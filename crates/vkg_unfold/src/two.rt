@@ -148,7 +148,11 @@ pub(crate) fn visible_columns(
 }
 
 /// In mode each the graph's column, which stands behind the variables.
-fn push_graph(columns: &mut Items<Expr>, mode: &Mode, variables: &[Var]) -> Result<(), Memory>
+pub(crate) fn push_graph(
+    columns: &mut Items<Expr>,
+    mode: &Mode,
+    variables: &[Var],
+) -> Result<(), Memory>
     ensures { OnOk result (map expr_seen columns.new ≡ map expr_seen columns.old ++ if_each mode.now (Col (length variables.now))) }
 {
     match mode {
@@ -209,7 +213,7 @@ fn agreement(alloc: Global, mode: &Mode, left: &[Var], right: &[Var]) -> Result<
     Ok(conditions)
 }
 
-fn push_shared(
+pub(crate) fn push_shared(
     alloc: Global,
     conditions: &mut Items<Expr>,
     mode: &Mode,
@@ -226,7 +230,7 @@ fn push_shared(
     conditions.push(same_or_unbound(alloc, place(left, variable), behind)?)
 }
 
-fn push_same_graph(
+pub(crate) fn push_same_graph(
     alloc: Global,
     conditions: &mut Items<Expr>,
     mode: &Mode,

@@ -1,7 +1,7 @@
 -- The plan of every algebra has a column of terms for each variable, and in mode each one for the graph.
 use Rattle.std.proofs.Common.{◌≡◌, ◌∙◌, ℕ, suc, ◌<◌, ◌≤◌, ◌+◌, Bool, true, false, ⊎_elim, List, [], ◌∷◌, ◌++◌, map, length, nat_eq, refl, sym, ap, subst, arith, append-nil, length-append}
-use Rattle.std.specs.Prelude.{Option, Some, None, replicate, flat_map, if◌then◌else◌}
-use Rattle.std.specs.List.{AllByRecursion, filter, Contains, position_or_len}
+use Rattle.std.specs.Prelude.{Option, Some, None, replicate, flat_map, option_and_then, if◌then◌else◌}
+use Rattle.std.specs.List.{AllByRecursion, filter, Contains, list_any, position_or_len}
 use Rattle.std.specs.Bool.{then_some}
 use Rattle.std.proofs.lemmas.Bool.{true≢false}
 use Rattle.std.proofs.lemmas.List.{length-map, replicate-append-replicate}
@@ -14,6 +14,7 @@ use Rattle.vkg_lists.proofs.Distinct.{Contains-distinct, Contains-from_distinct}
 use Rattle.vkg_lists.proofs.Members.{Contains-none, Contains-here, Contains-there, Contains-cons_cases, Contains-flat_map, Contains-from_flat_map, Contains-from_filter, recursion_from_each, recursion_append}
 use Rattle.vkg_lists.proofs.Positions.{first_found}
 use Rattle.vkg_lists.proofs.Tests.{nat_test, option_test}
+use Rattle.vkg_terms.specs.declared.term.Term.{Term}
 use Rattle.vkg_cells.specs.declared.cell.SqlType.{SqlType}
 use Rattle.vkg_cells.specs.declared.cell.SqlType.TheVariants as kind
 use Rattle.vkg_sparql.specs.declared.pattern.Node.{Node}
@@ -21,7 +22,7 @@ use Rattle.vkg_sparql.specs.declared.pattern.Node.TheVariants.{Variable as Varia
 use Rattle.vkg_sparql.specs.declared.pattern.GraphName.TheVariants as name
 use Rattle.vkg_sparql.specs.declared.pattern.TriplePattern.{TriplePattern}
 use Rattle.vkg_sparql.specs.Query.{Condition, Variable, Constant, Bound, Test, Take, Compare, SameTerm, Not, And, Or}
-use Rattle.vkg_algebra.specs.Algebra.{Algebra, Bgp, LeftJoin, Filter, Graph}
+use Rattle.vkg_algebra.specs.Algebra.{Algebra, Bgp, LeftJoin, Filter, Graph, Minus, Table, Extend}
 use Rattle.vkg_algebra.specs.Algebra as algebra
 use Rattle.vkg_algebra.specs.Visible.{each_once, has, node_variables, pattern_variables, visible}
 use Rattle.vkg_algebra.proofs.VisibleLemmas.{visible_once}
@@ -29,15 +30,15 @@ use Rattle.vkg_expr.specs.Expr.{Expr, Col, Same, IsNull, exprs}
 use Rattle.vkg_expr.specs.Expr as expr
 use Rattle.vkg_expr.specs.Logic.{and_of, or_of, truth_const}
 use Rattle.vkg_expr.specs.Typing.{are_all, is_one, kind_of, lexical_kind}
-use Rattle.vkg_plan.specs.Kinds.{Kinds, Tables, beside_all, checked, side_by_side, kinds_of_each, plan_kinds}
-use Rattle.vkg_plan.specs.Plan.{Plan, Select, Project, Join, Left, plans, Distinct}
+use Rattle.vkg_plan.specs.Kinds.{Kinds, Tables, beside_all, checked, first_checked, side_by_side, kinds_of_each, plan_kinds}
+use Rattle.vkg_plan.specs.Plan.{Plan, Unit, Select, Project, Join, Left, AntiJoin, plans, Distinct}
 use Rattle.vkg_row_rules.specs.declared.row_rule.RowRule.{RowRule}
 use Rattle.vkg_unfolded.specs.declared.mode.Mode.{Mode}
 use Rattle.vkg_unfolded.specs.declared.mode.Mode.TheVariants.{Default, InGraph, Each}
 use Rattle.vkg_unfolded.specs.Conditions.{condition_of, expr_of, gives_truth, to_term, to_truth, truth_expr, value_expr}
 use Rattle.vkg_unfolded.specs.FittingRules.{AreFitting, HasTermColumns, HasAnswerColumns}
-use Rattle.vkg_unfolded.specs.Unfolded.{Name, Named, after, agreement, answer_columns, answer_width, bgp_plan, column, columns_in, each_graph, exists_plan, graph_column, if_each, in_its_graph, in_mode, is_pattern, join_plan, left_column, left_plan, merged, merged_columns, name_eq, named_graph, names_plan, node_names, null_term, numbered, or_null, pattern_names, pattern_plan, patterns_plan, repeats, right_column, union_member, union_plan, unfolded, visible_column, key_column}
-use Rattle.vkg_unfolded.proofs.TermKinds.{IsTerm, IsTruth, and_truth, first_term, not_truth, null_truth, or_truth, same_truth, term_at}
+use Rattle.vkg_unfolded.specs.Unfolded.{Name, Named, after, agreement, answer_columns, answer_width, bgp_plan, both_there, column, columns_in, each_graph, exists_plan, extend_column, extend_plan, graph_column, if_each, in_its_graph, in_mode, is_pattern, join_plan, key_column, left_column, left_plan, merged, merged_columns, minus_plan, name_eq, named_graph, names_plan, node_names, null_term, numbered, or_null, overlap, pattern_names, pattern_plan, patterns_plan, repeats, right_column, row_plan, row_term, table_plan, unfolded, union_member, union_plan, value_const, visible_column}
+use Rattle.vkg_unfolded.proofs.TermKinds.{IsTerm, IsTruth, and_truth, first_term, known_truth, not_truth, null_truth, or_truth, same_truth, term_at}
 use Rattle.vkg_unfolded.proofs.PlanColumns.{HasTermKinds, checked_truth, exists_plan_kinds, names_plan_kinds, pattern_plan_kinds, project_kinds, repeats_truth, union_kinds}
 use Rattle.vkg_algebra.specs.Translation.{algebra_of}
 use Rattle.vkg_algebra.specs.Answer.{selected_variables}
@@ -241,27 +242,49 @@ merged_terms mode vs ws =
     hidden (InGraph i) = tt
     hidden Each = (term_at (suc (length vs) + suc (length ws)) (length vs) (omega arith), tt)
 
-agreement_truth : (mode : Mode) (vs ws : List ℕ) → AllByRecursion (IsTruth (replicate (both mode vs ws) kind.Term)) (agreement mode vs ws)
-agreement_truth mode vs ws =
-    recursion_append (IsTruth ks) (map shared (filter (has ws) vs)) (if_each mode (Same (Col (length vs)) (Col (columns_in mode vs + length ws))))
-    (map_each (IsTruth ks) shared (filter (has ws) vs) (λ v c.
+abbrev shared : Mode → List ℕ → List ℕ → ℕ → Expr
+shared mode vs ws v = or_null (left_column vs v) (right_column mode vs ws v)
+
+shared_truth : (mode : Mode) (vs ws : List ℕ) → AllByRecursion (IsTruth (replicate (both mode vs ws) kind.Term)) (map (shared mode vs ws) (filter (has ws) vs))
+shared_truth mode vs ws =
+    map_each (IsTruth ks) (shared mode vs ws) (filter (has ws) vs) (λ v c.
     let w = Contains-from_filter (has ws) vs v c in
     let l = left_term mode vs ws v ((is_member-Decides nat_test.decides vs v).1 w.0) in
     let r = right_term mode vs ws v w.1 in
     or_truth ks (IsNull (left_column vs v) ∷ IsNull (right_column mode vs ws v) ∷ Same (left_column vs v) (right_column mode vs ws v) ∷ [])
-    (null_truth ks (left_column vs v) l, (null_truth ks (right_column mode vs ws v) r, (same_truth ks (left_column vs v) (right_column mode vs ws v) l r, tt)))))
-    (hidden mode)
+    (null_truth ks (left_column vs v) l, (null_truth ks (right_column mode vs ws v) r, (same_truth ks (left_column vs v) (right_column mode vs ws v) l r, tt))))
   where
     ks : Kinds
     ks = replicate (both mode vs ws) kind.Term
 
-    shared : ℕ → Expr
-    shared v = or_null (left_column vs v) (right_column mode vs ws v)
+graphs_truth : (mode : Mode) (vs ws : List ℕ) → AllByRecursion (IsTruth (replicate (both mode vs ws) kind.Term)) (if_each mode (Same (Col (length vs)) (Col (columns_in mode vs + length ws))))
+graphs_truth Default vs ws = tt
+graphs_truth (InGraph i) vs ws = tt
+graphs_truth Each vs ws = (same_truth (replicate (suc (length vs) + suc (length ws)) kind.Term) (Col (length vs)) (Col (suc (length vs) + length ws)) (term_at (suc (length vs) + suc (length ws)) (length vs) (omega arith)) (term_at (suc (length vs) + suc (length ws)) (suc (length vs) + length ws) (omega arith)), tt)
 
-    hidden : (m : Mode) → AllByRecursion (IsTruth (replicate (both m vs ws) kind.Term)) (if_each m (Same (Col (length vs)) (Col (columns_in m vs + length ws))))
-    hidden Default = tt
-    hidden (InGraph i) = tt
-    hidden Each = (same_truth (replicate (suc (length vs) + suc (length ws)) kind.Term) (Col (length vs)) (Col (suc (length vs) + length ws)) (term_at (suc (length vs) + suc (length ws)) (length vs) (omega arith)) (term_at (suc (length vs) + suc (length ws)) (suc (length vs) + length ws) (omega arith)), tt)
+agreement_truth : (mode : Mode) (vs ws : List ℕ) → AllByRecursion (IsTruth (replicate (both mode vs ws) kind.Term)) (agreement mode vs ws)
+agreement_truth mode vs ws =
+    recursion_append (IsTruth (replicate (both mode vs ws) kind.Term)) (map (shared mode vs ws) (filter (has ws) vs)) (if_each mode (Same (Col (length vs)) (Col (columns_in mode vs + length ws))))
+    (shared_truth mode vs ws) (graphs_truth mode vs ws)
+
+overlap_truth : (mode : Mode) (vs ws : List ℕ) → AllByRecursion (IsTruth (replicate (both mode vs ws) kind.Term)) (overlap mode vs ws)
+overlap_truth mode vs ws =
+    recursion_append (IsTruth ks) (if_each mode (Same (Col (length vs)) (Col (columns_in mode vs + length ws)))) (map (shared mode vs ws) (filter (has ws) vs) ++ some ∷ []) (graphs_truth mode vs ws)
+    (recursion_append (IsTruth ks) (map (shared mode vs ws) (filter (has ws) vs)) (some ∷ []) (shared_truth mode vs ws) (some_truth, tt))
+  where
+    ks : Kinds
+    ks = replicate (both mode vs ws) kind.Term
+
+    some : Expr
+    some = or_of (map (both_there mode vs ws) (filter (has ws) vs))
+
+    some_truth : IsTruth ks some
+    some_truth = or_truth ks (map (both_there mode vs ws) (filter (has ws) vs)) (map_each (IsTruth ks) (both_there mode vs ws) (filter (has ws) vs) (λ v c.
+        let w = Contains-from_filter (has ws) vs v c in
+        let l = left_term mode vs ws v ((is_member-Decides nat_test.decides vs v).1 w.0) in
+        let r = right_term mode vs ws v w.1 in
+        and_truth ks (expr.Not (IsNull (left_column vs v)) ∷ expr.Not (IsNull (right_column mode vs ws v)) ∷ [])
+        (known_truth ks (left_column vs v) l, (known_truth ks (right_column mode vs ws v) r, tt))))
 
 module _ (schema : Tables) where
   pair_kinds : (n m : ℕ) (p q : Plan) (c : Expr) → HasTermKinds schema n p → HasTermKinds schema m q → IsTruth (replicate (n + m) kind.Term) c → plan_kinds schema (Join (plans (p ∷ q ∷ [])) c) ≡ Some (replicate (n + m) kind.Term)
@@ -295,6 +318,40 @@ module _ (schema : Tables) where
       (merged_terms mode vs ws)
       ∙ ap (λ n. Some (replicate n kind.Term)) (with_graph_length mode (merged mode vs ws) (each_once (vs ++ ws)) (Col (length vs)))
 
+  anti_kinds : (n m : ℕ) (p q : Plan) (c : Expr) → HasTermKinds schema n p → HasTermKinds schema m q → IsTruth (replicate (n + m) kind.Term) c → HasTermKinds schema n (AntiJoin p q c)
+  anti_kinds n m p q c h k t =
+      (λ i. first_checked c (h i) (k i))
+      ∙ ap (λ l. option_and_then (λ (ks : Kinds). Some (replicate n kind.Term)) (checked c (Some l))) (replicate-append-replicate n m kind.Term)
+      ∙ ap (option_and_then (λ (ks : Kinds). Some (replicate n kind.Term))) (checked_truth c (replicate (n + m) kind.Term) t)
+
+  minus_plan_kinds : (mode : Mode) (vs ws : List ℕ) (p q : Plan) → HasTermKinds schema (columns_in mode vs) p → HasTermKinds schema (columns_in mode ws) q → HasTermKinds schema (columns_in mode vs) (minus_plan mode vs ws p q)
+  minus_plan_kinds mode vs ws p q h k = by (list_any (has ws) vs)
+    where
+      c : Expr
+      c = and_of (overlap mode vs ws)
+
+      by : (b : Bool) → HasTermKinds schema (columns_in mode vs) (if b then AntiJoin p q c else p)
+      by true = anti_kinds (columns_in mode vs) (columns_in mode ws) p q c h k (and_truth (replicate (both mode vs ws) kind.Term) (overlap mode vs ws) (overlap_truth mode vs ws))
+      by false = h
+
+  value_kind : (o : Option Term) → IsTerm [] (value_const o)
+  value_kind None = refl
+  value_kind (Some t) = refl
+
+  row_plan_kinds : (vs : List ℕ) (row : List (Option Term)) → HasTermKinds schema (length (each_once vs)) (row_plan vs row)
+  row_plan_kinds vs row =
+      project_kinds schema (map value (each_once vs)) Unit [] refl (map_each (IsTerm []) value (each_once vs) (λ v c. value_kind (row_term vs row v)))
+      ∙ ap (λ n. Some (replicate n kind.Term)) (length-map (each_once vs) value)
+    where
+      value : ℕ → Expr
+      value v = value_const (row_term vs row v)
+
+  table_plan_kinds : (vs : List ℕ) (rows : List (List (Option Term))) → HasTermKinds schema (length (each_once vs)) (table_plan vs rows)
+  table_plan_kinds vs [] = refl
+  table_plan_kinds vs (row ∷ rows) =
+      union_kinds schema (length (each_once vs)) (row_plan vs row) (map (row_plan vs) rows)
+      (map_each (HasTermKinds schema (length (each_once vs))) (row_plan vs) (row ∷ rows) (λ r c. row_plan_kinds vs r))
+
   visible_term : (n : ℕ) (vs : List ℕ) (v : ℕ) → length vs ≤ n → IsTerm (replicate n kind.Term) (visible_column vs v)
   visible_term n vs v m = by (has vs v) refl
     where
@@ -318,6 +375,25 @@ module _ (schema : Tables) where
   union_plan_kinds mode vs ws p q h k =
       let all = each_once (vs ++ ws) in
       union_kinds schema (columns_in mode all) (union_member mode all vs p) (union_member mode all ws q ∷ []) (union_member_kinds mode all vs p h, (union_member_kinds mode all ws q k, tt))
+
+  extend_plan_kinds : (mode : Mode) (vs : List ℕ) (v : ℕ) (c : Condition) (p : Plan) → HasTermKinds schema (columns_in mode vs) p → HasTermKinds schema (columns_in mode (each_once (vs ++ v ∷ []))) (extend_plan mode vs v c p)
+  extend_plan_kinds mode vs v c p h =
+      project_kinds schema (map (extend_column vs v c) all ++ if_each mode (Col (length vs))) p ks h
+      (recursion_append (IsTerm ks) (map (extend_column vs v c) all) (if_each mode (Col (length vs))) (map_each (IsTerm ks) (extend_column vs v c) all (λ w k. extend_term w (nat_eq v w))) (graph_term mode vs))
+      ∙ ap (λ n. Some (replicate n kind.Term)) (with_graph_length mode (extend_column vs v c) all (Col (length vs)))
+    where
+      all : List ℕ
+      all = each_once (vs ++ v ∷ [])
+
+      ks : Kinds
+      ks = replicate (columns_in mode vs) kind.Term
+
+      variable_is : (w : ℕ) → IsTerm ks (visible_column vs w)
+      variable_is w = visible_term (columns_in mode vs) vs w (columns_most mode vs)
+
+      extend_term : (w : ℕ) (b : Bool) → IsTerm ks (if b then value_expr (visible_column vs) c else visible_column vs w)
+      extend_term w true = value_term ks (visible_column vs) variable_is c
+      extend_term w false = variable_is w
 
   select_kinds : (n : ℕ) (p : Plan) (c : Expr) → HasTermKinds schema n p → IsTruth (replicate n kind.Term) c → HasTermKinds schema n (Select c p)
   select_kinds n p c h t = ap (checked c) h ∙ checked_truth c (replicate n kind.Term) t
@@ -396,6 +472,9 @@ module _ (schema : Tables) (rules : List RowRule) (fit : AreFitting schema rules
   unfolded_kinds (Filter c a) mode =
       select_kinds schema (columns_in mode (visible a)) (unfolded schema rules a mode) (truth_expr (visible_column (visible a)) c) (unfolded_kinds a mode)
       (filter_truth (replicate (columns_in mode (visible a)) kind.Term) (visible_column (visible a)) (λ v. visible_term schema (columns_in mode (visible a)) (visible a) v (columns_most mode (visible a))) c)
+  unfolded_kinds (Minus a b) mode = minus_plan_kinds schema mode (visible a) (visible b) (unfolded schema rules a mode) (unfolded schema rules b mode) (unfolded_kinds a mode) (unfolded_kinds b mode)
+  unfolded_kinds (Table vs rows) mode = in_mode_kinds mode (each_once vs) (table_plan vs rows) (table_plan_kinds schema vs rows)
+  unfolded_kinds (Extend a v c) mode = extend_plan_kinds schema mode (visible a) v c (unfolded schema rules a mode) (unfolded_kinds a mode)
   unfolded_kinds (Graph (name.Named i) a) mode =
       subst (λ vs. HasTermKinds schema (columns_in mode vs) (in_mode schema rules mode (visible a) (named_graph schema rules a i (unfolded schema rules a (InGraph i))))) (sym (visible_once a))
       (in_mode_kinds mode (visible a) (named_graph schema rules a i (unfolded schema rules a (InGraph i))) (named_graph_kinds a i (unfolded schema rules a (InGraph i)) (unfolded_kinds a (InGraph i))))

@@ -1,7 +1,7 @@
 -- The plan of an algebra over quad rules: a column for each visible variable, and in mode each the graph last.
 use Rattle.std.specs.Prelude.{ℕ, ◌+◌, Bool, true, false, List, [], ◌∷◌, ◌++◌, map, filter, flat_map, filter_map, length, replicate, Option, Some, None, nat_eq, if◌then◌else◌, find, suc}
 use Rattle.std.specs.Option.{option_eq}
-use Rattle.std.specs.List.{position_or_len}
+use Rattle.std.specs.List.{list_any, position_or_len}
 use Rattle.vkg_lists.specs.Sets.{distinct}
 use Rattle.vkg_terms.specs.declared.term.Term.TheVariants.{Iri}
 use Rattle.vkg_terms.specs.Vocabulary.{rr_default_graph}
@@ -14,7 +14,7 @@ use Rattle.vkg_sparql.specs.declared.pattern.Node.TheVariants.{Variable, Label, 
 use Rattle.vkg_sparql.specs.declared.pattern.GraphName.TheVariants as name
 use Rattle.vkg_sparql.specs.declared.pattern.TriplePattern.{TriplePattern}
 use Rattle.vkg_sparql.specs.Query.{Condition, Key, Query}
-use Rattle.vkg_algebra.specs.Algebra.{Algebra, Bgp, LeftJoin, Filter, Graph}
+use Rattle.vkg_algebra.specs.Algebra.{Algebra, Bgp, LeftJoin, Filter, Graph, Minus, Table, Extend}
 use Rattle.vkg_algebra.specs.Algebra as algebra
 use Rattle.vkg_algebra.specs.Visible.{each_once, has, visible}
 use Rattle.vkg_algebra.specs.Translation.{algebra_of}
@@ -24,7 +24,7 @@ use Rattle.vkg_expr.specs.declared.term_expr.TermExpr.TheVariants as term_form
 use Rattle.vkg_expr.specs.Expr.{Expr, Col, Const, Same, IsNull, Not, Coalesce, exprs}
 use Rattle.vkg_expr.specs.TermExprs.{term_expr, term_const}
 use Rattle.vkg_plan.specs.Kinds.{Tables}
-use Rattle.vkg_plan.specs.Plan.{Plan, Unit, Empty, Scan, Select, Project, Join, Left, UnionAll, Distinct, plans}
+use Rattle.vkg_plan.specs.Plan.{Plan, Unit, Empty, Scan, Select, Project, Join, Left, AntiJoin, UnionAll, Distinct, plans}
 use Rattle.vkg_match.specs.Verdict.{Verdict, Never, All, verdict_of}
 use Rattle.vkg_maps.specs.declared.quad_rule.Join.{Join as ParentJoin}
 use Rattle.vkg_row_rules.specs.declared.row_rule.RowRule.{RowRule}
@@ -247,6 +247,48 @@ abbrev pub left_plan : Mode → List ℕ → List ℕ → Option Condition → P
 left_plan mode vs ws c p q =
     Project (merged_columns mode vs ws) (Left p q (and_of (agreement mode vs ws ++ condition_of (merged mode vs ws) c)))
 
+-- a variable that both may have is bound in both
+abbrev pub both_there : Mode → List ℕ → List ℕ → ℕ → Expr
+both_there mode vs ws v = and_of (Not (IsNull (left_column vs v)) ∷ Not (IsNull (right_column mode vs ws v)) ∷ [])
+
+-- the graphs agree, and shared variables, and one of these is bound in both
+abbrev pub overlap : Mode → List ℕ → List ℕ → List Expr
+overlap mode vs ws =
+    if_each mode (Same (Col (length vs)) (Col (columns_in mode vs + length ws)))
+    ++ map (λ v. or_null (left_column vs v) (right_column mode vs ws v)) (filter (has ws) vs)
+    ++ or_of (map (both_there mode vs ws) (filter (has ws) vs)) ∷ []
+
+-- SPARQL 1.1, 18.5, Minus: the rows of the left for which none of the right agrees and has a variable in common
+abbrev pub minus_plan : Mode → List ℕ → List ℕ → Plan → Plan → Plan
+minus_plan mode vs ws p q = if list_any (has ws) vs then AntiJoin p q (and_of (overlap mode vs ws)) else p
+
+-- SPARQL 1.1, 18.2.2.6, the data of VALUES: a row of constants for each of its rows, in which UNDEF is NULL
+abbrev pub value_const : Option Term → Expr
+value_const None = null_term
+value_const (Some t) = term_const t
+
+-- the value of a variable in a row, at its first place
+abbrev pub row_term : List ℕ → List (Option Term) → ℕ → Option Term
+row_term (v ∷ vs) (t ∷ ts) w = if nat_eq v w then t else row_term vs ts w
+row_term vs ts w = None
+
+abbrev pub row_plan : List ℕ → List (Option Term) → Plan
+row_plan vs row = Project (map (λ v. value_const (row_term vs row v)) (each_once vs)) Unit
+
+abbrev pub all_plan : ℕ → List Plan → Plan
+all_plan n [] = Empty (replicate n kind.Term)
+all_plan n (p ∷ ps) = UnionAll (plans (p ∷ ps))
+
+abbrev pub table_plan : List ℕ → List (List (Option Term)) → Plan
+table_plan vs rows = all_plan (length (each_once vs)) (map (row_plan vs) rows)
+
+-- SPARQL 1.1, 18.5, Extend: the variable has the value; NULL where that is an error
+abbrev pub extend_column : List ℕ → ℕ → Condition → ℕ → Expr
+extend_column vs v c w = if nat_eq v w then value_expr (visible_column vs) c else visible_column vs w
+
+abbrev pub extend_plan : Mode → List ℕ → ℕ → Condition → Plan → Plan
+extend_plan mode vs v c p = Project (map (extend_column vs v c) (each_once (vs ++ v ∷ [])) ++ if_each mode (Col (length vs))) p
+
 -- SPARQL 1.1, 18.5, Union: the rows of both over the variables of both
 abbrev pub union_member : Mode → List ℕ → List ℕ → Plan → Plan
 union_member mode all vs p = Project (map (visible_column vs) all ++ if_each mode (Col (length vs))) p
@@ -294,6 +336,9 @@ module _ (schema : Tables) (rules : List RowRule) where
   unfolded (LeftJoin a b c) mode = left_plan mode (visible a) (visible b) c (unfolded a mode) (unfolded b mode)
   unfolded (algebra.Union a b) mode = union_plan mode (visible a) (visible b) (unfolded a mode) (unfolded b mode)
   unfolded (Filter c a) mode = Select (truth_expr (visible_column (visible a)) c) (unfolded a mode)
+  unfolded (Minus a b) mode = minus_plan mode (visible a) (visible b) (unfolded a mode) (unfolded b mode)
+  unfolded (Table vs rows) mode = in_mode mode (each_once vs) (table_plan vs rows)
+  unfolded (Extend a v c) mode = extend_plan mode (visible a) v c (unfolded a mode)
   unfolded (Graph (name.Named i) a) mode = in_mode mode (visible a) (named_graph a i (unfolded a (InGraph i)))
   unfolded (Graph (name.Each v) a) mode = in_mode mode (each_once (v ∷ visible a)) (each_graph (visible a) v (unfolded a Each))
 

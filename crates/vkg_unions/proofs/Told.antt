@@ -8,7 +8,7 @@ use Rattle.vkg_lists.proofs.Onto.{map_lacking}
 use Rattle.vkg_expr.specs.Expr.{Expr}
 use Rattle.vkg_plan.specs.declared.plan.Plan.{Plan as PlanValue}
 use Rattle.vkg_plan.specs.Kinds.{Tables}
-use Rattle.vkg_plan.specs.Plan.{Plan, Plans, Unit as UnitPlan, Empty, Scan, Select, Project, Join, Left, UnionAll, Distinct, Nil, More, each}
+use Rattle.vkg_plan.specs.Plan.{Plan, Plans, Unit as UnitPlan, Empty, Scan, Select, Project, Join, Left, AntiJoin, UnionAll, Distinct, Nil, More, each}
 use Rattle.vkg_plan.specs.Seen.{plan_seen}
 use Rattle.vkg_rules.proofs.Outcomes.{neither}
 use Rattle.vkg_rules.specs.Everywhere.{among, around, everywhere, first_of_list, in_members, later_in_list}
@@ -62,6 +62,15 @@ sides-together : (p q : Plan) (c : Expr) → below p ≡ None → below q ≡ No
 sides-together p q c e h =
     ap (λ o. option_or (option_map (around (λ x. Left x q c)) o) (option_map (around (λ x. Left p x c)) (below q))) e ∙ ap (option_map (around (λ x. Left p x c))) h
 
+halves-apart : (p q : Plan) (c : Expr) → below (AntiJoin p q c) ≡ None → (below p ≡ None) × (below q ≡ None)
+halves-apart p q c e =
+    let n = neither (option_map (around (λ x. AntiJoin x q c)) (below p)) (option_map (around (λ x. AntiJoin p x c)) (below q)) e in
+    (map_lacking (around (λ x. AntiJoin x q c)) (below p) n.0, map_lacking (around (λ x. AntiJoin p x c)) (below q) n.1)
+
+halves-together : (p q : Plan) (c : Expr) → below p ≡ None → below q ≡ None → below (AntiJoin p q c) ≡ None
+halves-together p q c e h =
+    ap (λ o. option_or (option_map (around (λ x. AntiJoin x q c)) o) (option_map (around (λ x. AntiJoin p x c)) (below q))) e ∙ ap (option_map (around (λ x. AntiJoin p x c))) h
+
 mutual
   none-there : (path : List ℕ) (y : Others) (p : Plan) → none_at path p ≡ true → below (with_at path y p) ≡ None → below p ≡ None
   none-there [] y p h e = none-is (below p) h
@@ -78,6 +87,10 @@ mutual
   none-there (zero ∷ n ∷ path) y (Left p q c) h e = let s = sides-apart (with_at (n ∷ path) y p) q c e in sides-together p q c (none-there (n ∷ path) y p h s.0) s.1
   none-there (suc at ∷ []) y (Left p q c) h e = sides-together p q c (sides-apart p y.0 c e).0 (none-is (below q) h)
   none-there (suc at ∷ n ∷ path) y (Left p q c) h e = let s = sides-apart p (with_at (n ∷ path) y q) c e in sides-together p q c s.0 (none-there (n ∷ path) y q h s.1)
+  none-there (zero ∷ []) y (AntiJoin p q c) h e = halves-together p q c (none-is (below p) h) (halves-apart y.0 q c e).1
+  none-there (zero ∷ n ∷ path) y (AntiJoin p q c) h e = let s = halves-apart (with_at (n ∷ path) y p) q c e in halves-together p q c (none-there (n ∷ path) y p h s.0) s.1
+  none-there (suc at ∷ []) y (AntiJoin p q c) h e = halves-together p q c (halves-apart p y.0 c e).0 (none-is (below q) h)
+  none-there (suc at ∷ n ∷ path) y (AntiJoin p q c) h e = let s = halves-apart p (with_at (n ∷ path) y q) c e in halves-together p q c s.0 (none-there (n ∷ path) y q h s.1)
   none-there (at ∷ path) y (UnionAll ps) h e =
       none-map (among UnionAll) (in_all ps) (none-within at path y ps h (map_lacking (among UnionAll) (in_all (with_member at path y ps)) e))
   none-there (at ∷ path) y (Distinct p) h e = cc
@@ -101,6 +114,14 @@ left-turn (suc at) path p q c e = absurd (omega (arith, e))
 pub right-turn : (at : ℕ) (path : List ℕ) (p q : Plan) (c : Expr) → 0 < at → none_at path q ≡ none_at (at ∷ path) (Left p q c)
 right-turn zero path p q c e = absurd (omega (arith, e))
 right-turn (suc at) path p q c e = refl
+
+pub alone-turn : (at : ℕ) (path : List ℕ) (p q : Plan) (c : Expr) → at ≡ 0 → none_at path p ≡ none_at (at ∷ path) (AntiJoin p q c)
+alone-turn zero path p q c e = refl
+alone-turn (suc at) path p q c e = absurd (omega (arith, e))
+
+pub against-turn : (at : ℕ) (path : List ℕ) (p q : Plan) (c : Expr) → 0 < at → none_at path q ≡ none_at (at ∷ path) (AntiJoin p q c)
+against-turn zero path p q c e = absurd (omega (arith, e))
+against-turn (suc at) path p q c e = refl
 
 pub none-past : (ps : List PlanValue) (at : ℕ) (path : List ℕ) → length ps ≤ at → true ≡ none_in at path (plans_seen ps)
 none-past [] at path h = refl

@@ -1,6 +1,6 @@
 -- SQL-92, 7.9, DISTINCT: repeated rows are eliminated, so that another Distinct anywhere below adds nothing; the first, in preorder, is dropped.
 use Rattle.std.specs.Prelude.{ℕ, zero, suc, List, [], ◌∷◌, Bool, true, false, is_none, Option, Some, None, option_map}
-use Rattle.vkg_plan.specs.Plan.{Plan, Plans, Unit, Empty, Scan, Select, Project, Join, Left, UnionAll, Distinct, Nil, More}
+use Rattle.vkg_plan.specs.Plan.{Plan, Plans, Unit, Empty, Scan, Select, Project, Join, Left, AntiJoin, UnionAll, Distinct, Nil, More}
 use Rattle.vkg_rules.specs.declared.rewrite.Fell.TheVariants as fell
 use Rattle.vkg_rules.specs.Everywhere.{around, everywhere}
 use Rattle.vkg_rules.specs.Steps.{Rule, Step}
@@ -27,6 +27,8 @@ abbrev mutual
   none_at (at ∷ path) (Join ps c) = none_in at path ps
   none_at (zero ∷ path) (Left p q c) = none_at path p
   none_at (suc at ∷ path) (Left p q c) = none_at path q
+  none_at (zero ∷ path) (AntiJoin p q c) = none_at path p
+  none_at (suc at ∷ path) (AntiJoin p q c) = none_at path q
   none_at (at ∷ path) (UnionAll ps) = none_in at path ps
   none_at (at ∷ path) (Distinct p) = false
 

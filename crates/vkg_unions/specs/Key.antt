@@ -8,7 +8,7 @@ use Rattle.vkg_expr.specs.Expr.{Expr, Exprs, Col, Const, MakeIri, IriOf, MakeBla
 use Rattle.vkg_expr.specs.Expr as expr
 use Rattle.vkg_plan.specs.declared.plan.Plan.{Plan as PlanValue}
 use Rattle.vkg_plan.specs.Seen.{plan_seen}
-use Rattle.vkg_plan.specs.Plan.{Plan, Plans, Unit, Empty, Scan, Select, Project, Join, Left, UnionAll, Distinct, Nil, More}
+use Rattle.vkg_plan.specs.Plan.{Plan, Plans, Unit, Empty, Scan, Select, Project, Join, Left, AntiJoin, UnionAll, Distinct, Nil, More}
 
 abbrev pub mixed : ℕ → ℕ → ℕ
 mixed key n = (bit_xor key n * 1099511628211) % 2 ^ 64
@@ -59,6 +59,7 @@ abbrev mutual
   plan_key key (Project es p) = plan_key (exprs_key key (exprs es)) p
   plan_key key (Join ps c) = expr_key (plans_key key ps) c
   plan_key key (Left p q c) = expr_key (plan_key (plan_key key p) q) c
+  plan_key key (AntiJoin p q c) = expr_key (plan_key (plan_key key p) q) c
   plan_key key (UnionAll ps) = plans_key key ps
   plan_key key (Distinct p) = plan_key key p
 

@@ -3,7 +3,7 @@ use Rattle.std.specs.Prelude.{Bool, true, false, ◌&&◌, ◌==◌}
 use Rattle.std.specs.Cmp.Lexicographic.{pointwise}
 use Rattle.vkg_expr.specs.Expr.{exprs}
 use Rattle.vkg_expr.specs.Typing.{same_kind}
-use Rattle.vkg_plan.specs.Plan.{Plan, Plans, Unit, Empty, Scan, Select, Project, Join, Left, UnionAll, Distinct, Nil, More}
+use Rattle.vkg_plan.specs.Plan.{Plan, Plans, Unit, Empty, Scan, Select, Project, Join, Left, AntiJoin, UnionAll, Distinct, Nil, More}
 use Rattle.vkg_same.specs.SameExpr.{same_expr, same_exprs}
 
 abbrev mutual
@@ -15,6 +15,7 @@ abbrev mutual
   same_plan (Project es p) (Project fs q) = same_plan p q && same_exprs (exprs es) (exprs fs)
   same_plan (Join ps c) (Join qs d) = same_plans ps qs && same_expr c d
   same_plan (Left p q c) (Left r t d) = same_plan p r && same_plan q t && same_expr c d
+  same_plan (AntiJoin p q c) (AntiJoin r t d) = same_plan p r && same_plan q t && same_expr c d
   same_plan (UnionAll ps) (UnionAll qs) = same_plans ps qs
   same_plan (Distinct p) (Distinct q) = same_plan p q
   same_plan p q = false

@@ -7,7 +7,7 @@ use Rattle.vkg_lists.proofs.Tests.{list_test, nat_test}
 use Rattle.vkg_expr.specs.Expr.{Expr, Exprs, exprs}
 use Rattle.vkg_expr.specs.Expr as expr
 use Rattle.vkg_expr.proofs.ValueFits.{kinds_apart}
-use Rattle.vkg_plan.specs.Plan.{Plan, Plans, Unit, Empty, Scan, Select, Project, Join, Left, UnionAll, Distinct, Nil, More}
+use Rattle.vkg_plan.specs.Plan.{Plan, Plans, Unit, Empty, Scan, Select, Project, Join, Left, AntiJoin, UnionAll, Distinct, Nil, More}
 use Rattle.vkg_same.specs.SameExpr.{same_expr, same_exprs}
 use Rattle.vkg_same.specs.SameExprLaw.{same_expr-is, same_exprs-is}
 use Rattle.vkg_same.specs.SameItself.{same_expr-itself, same_exprs-itself}
@@ -45,6 +45,10 @@ mutual
       let b = and_parts (same_plan p r && same_plan q t) (same_expr c d) h in
       let a = and_parts (same_plan p r) (same_plan q t) b.0 in
       let l = same_plan-is p r a.0 in let m = same_plan-is q t a.1 in let k = same_expr-is c d b.1 in λ i. Left (l i) (m i) (k i)
+  same_plan-is (AntiJoin p q c) (AntiJoin r t d) h =
+      let b = and_parts (same_plan p r && same_plan q t) (same_expr c d) h in
+      let a = and_parts (same_plan p r) (same_plan q t) b.0 in
+      let l = same_plan-is p r a.0 in let m = same_plan-is q t a.1 in let k = same_expr-is c d b.1 in λ i. AntiJoin (l i) (m i) (k i)
   same_plan-is (UnionAll ps) (UnionAll qs) h = ap UnionAll (same_plans-is ps qs h)
   same_plan-is (Distinct p) (Distinct q) h = ap Distinct (same_plan-is p q h)
   same_plan-is _ _ h = cc
@@ -65,6 +69,7 @@ mutual
   same_plan-itself (Project es p) = and_true (same_plan p p) (same_exprs (exprs es) (exprs es)) (same_plan-itself p) (same_exprs-itself (exprs es))
   same_plan-itself (Join ps c) = and_true (same_plans ps ps) (same_expr c c) (same_plans-itself ps) (same_expr-itself c)
   same_plan-itself (Left p q c) = and_true (same_plan p p && same_plan q q) (same_expr c c) (and_true (same_plan p p) (same_plan q q) (same_plan-itself p) (same_plan-itself q)) (same_expr-itself c)
+  same_plan-itself (AntiJoin p q c) = and_true (same_plan p p && same_plan q q) (same_expr c c) (and_true (same_plan p p) (same_plan q q) (same_plan-itself p) (same_plan-itself q)) (same_expr-itself c)
   same_plan-itself (UnionAll ps) = same_plans-itself ps
   same_plan-itself (Distinct p) = same_plan-itself p
 

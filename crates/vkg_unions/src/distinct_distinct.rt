@@ -10,7 +10,8 @@ use std::mem;
 use vkg_base::{Box, Items, Memory};
 use vkg_plan::Plan;
 use vkg_rules::nodes::{
-    each_once, projected, rejoined, replaced, reunited, selected, with_left, with_right,
+    each_once, projected, rejoined, replaced, reunited, selected, with_against, with_alone,
+    with_left, with_right,
 };
 use vkg_rules::{Answer, Fell, Rewrite, answered, last_turn, unchanged};
 use vkg_schema::Schema;
@@ -94,6 +95,13 @@ fn has_none_below(alloc: Global, plan: &Plan, at: usize, below: &[usize]) -> Res
                 has_none_at(alloc, q, below)
             }
         }
+        Plan::AntiJoin(p, q, _) => {
+            if at == 0 {
+                has_none_at(alloc, p, below)
+            } else {
+                has_none_at(alloc, q, below)
+            }
+        }
         Plan::UnionAll(ps) => member_has_none(alloc, ps.as_slice(), at, below),
         Plan::Distinct(_) => Ok(false),
     }
@@ -135,6 +143,10 @@ fn first_dropped(alloc: Global, plan: &Plan) -> Result<Option<(Plan, Fell)>, Mem
         Plan::Left(p, q, c) => match with_left(alloc, first_dropped(alloc, p)?, q, c)? {
             Some(x) => Ok(Some(x)),
             None => with_right(alloc, p, first_dropped(alloc, q)?, c),
+        },
+        Plan::AntiJoin(p, q, c) => match with_alone(alloc, first_dropped(alloc, p)?, q, c)? {
+            Some(x) => Ok(Some(x)),
+            None => with_against(alloc, p, first_dropped(alloc, q)?, c),
         },
         Plan::UnionAll(ps) => Ok(reunited(dropped_in_list(alloc, ps.as_slice())?)),
         Plan::Distinct(p) => Ok(Some((p.copy(alloc)?, Fell::Weight))),

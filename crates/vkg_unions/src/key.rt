@@ -37,6 +37,7 @@ fn plan_key(key: u64, plan: &Plan) -> u64
         Plan::Project(es, p) => plan_key(exprs_key(key, es.as_slice()), p),
         Plan::Join(ps, c) => expr_key(plans_key(key, ps.as_slice()), c),
         Plan::Left(p, q, c) => expr_key(plan_key(plan_key(key, p), q), c),
+        Plan::AntiJoin(p, q, c) => expr_key(plan_key(plan_key(key, p), q), c),
         Plan::UnionAll(ps) => plans_key(key, ps.as_slice()),
         Plan::Distinct(p) => plan_key(key, p),
     }

@@ -29,6 +29,9 @@ pub fn same_plan(a: &Plan, b: &Plan) -> bool
         (Plan::Left(p, q, c), Plan::Left(r, t, d)) => {
             same_plan(p, r) && same_plan(q, t) && same_expr(c, d)
         }
+        (Plan::AntiJoin(p, q, c), Plan::AntiJoin(r, t, d)) => {
+            same_plan(p, r) && same_plan(q, t) && same_expr(c, d)
+        }
         (Plan::UnionAll(ps), Plan::UnionAll(qs)) => same_plans(ps.as_slice(), qs.as_slice()),
         (Plan::Distinct(p), Plan::Distinct(q)) => same_plan(p, q),
         _ => false,

@@ -3,7 +3,7 @@ use Rattle.std.proofs.Common.{◌≡◌, ◌∙◌, Bool, true, false, ◌&&◌,
 use Rattle.std.proofs.Math.Bool.{and-false}
 use Rattle.vkg_expr.specs.Expr.{Expr}
 use Rattle.vkg_plan.specs.Kinds.{Tables, width}
-use Rattle.vkg_plan.specs.Plan.{Plan, Plans, Unit, Empty, Scan, Select, Project, Join, Left, UnionAll, Distinct, Nil, More}
+use Rattle.vkg_plan.specs.Plan.{Plan, Plans, Unit, Empty, Scan, Select, Project, Join, Left, AntiJoin, UnionAll, Distinct, Nil, More}
 use Rattle.vkg_unique.specs.Recovered.{are_keys_given, are_keys_given_in, is_recovered, recovered}
 use Rattle.vkg_unique.specs.Scans.{has_scans_alone, have_scans_alone}
 
@@ -17,6 +17,7 @@ module _ (s : Tables) where
     no_keys (Project es p) flags h = refl
     no_keys (Join ps c) flags h = no_keys_in ps flags h
     no_keys (Left p q c) flags h = refl
+    no_keys (AntiJoin p q c) flags h = refl
     no_keys (UnionAll ps) flags h = refl
     no_keys (Distinct p) flags h = refl
 

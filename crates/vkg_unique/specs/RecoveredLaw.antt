@@ -29,7 +29,7 @@ use Rattle.vkg_match.specs.Cut.{is_separable}
 use Rattle.vkg_match.proofs.Forms.{Proper}
 use Rattle.vkg_match.proofs.Holes.{Held, held}
 use Rattle.vkg_plan.specs.Kinds.{Kinds, Tables, beside_all, kinds_of_each, plan_kinds, width}
-use Rattle.vkg_plan.specs.Plan.{Plan, Plans, Unit as UnitPlan, Empty, Scan, Select, Project, Join, Left, UnionAll, Distinct, Nil, More}
+use Rattle.vkg_plan.specs.Plan.{Plan, Plans, Unit as UnitPlan, Empty, Scan, Select, Project, Join, Left, AntiJoin, UnionAll, Distinct, Nil, More}
 use Rattle.vkg_plan.specs.Rows.{product, rows_of, rows_of_each}
 use Rattle.vkg_plan.proofs.RowsFit.{beside_is}
 use Rattle.vkg_rules.specs.Measure.{kinds_or_none, or_no_kinds}
@@ -171,6 +171,7 @@ module _ (s : Tables) (db : Database) (meets : MeetsSchema s db) where
         let rows = product (rows_of_each s ps db) in
         one_in_product ps a.0 flags a.1 h z w (Contains-from_filter (holds c) rows z cz).0 (Contains-from_filter (holds c) rows w cw).0 same
     one_by_keys (Left p q c) ks flags e h z w cz cw same = absurd (true≢false (sym h))
+    one_by_keys (AntiJoin p q c) ks flags e h z w cz cw same = absurd (true≢false (sym h))
     one_by_keys (UnionAll ps) ks flags e h z w cz cw same = absurd (true≢false (sym h))
     one_by_keys (Distinct p) ks flags e h z w cz cw same = absurd (true≢false (sym h))
 

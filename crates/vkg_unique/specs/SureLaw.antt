@@ -26,7 +26,7 @@ use Rattle.vkg_expr.specs.Value.{holds, truth_cell, truth_of, value_of}
 use Rattle.vkg_expr.proofs.TypedParts.{fits_row, one_is}
 use Rattle.vkg_columns.proofs.Conjuncts.{AreTruths, IsTruth, conjuncts-kind, holds-conjuncts}
 use Rattle.vkg_plan.specs.Kinds.{Kinds, Tables, beside_all, checked, kinds_of_each, plan_kinds}
-use Rattle.vkg_plan.specs.Plan.{Plan, Plans, Unit as UnitPlan, Empty, Scan, Select, Project, Join, Left, UnionAll, Distinct, Nil, More}
+use Rattle.vkg_plan.specs.Plan.{Plan, Plans, Unit as UnitPlan, Empty, Scan, Select, Project, Join, Left, AntiJoin, UnionAll, Distinct, Nil, More}
 use Rattle.vkg_plan.specs.Rows.{product, rows_of, rows_of_each}
 use Rattle.vkg_plan.proofs.RowsFit.{beside_is, checked_parts, rows-fit}
 use Rattle.vkg_rules.specs.Measure.{kinds_or_none, or_no_kinds}
@@ -151,6 +151,7 @@ module _ (s : Tables) (db : Database) (m : MeetsSchema s db) where
         let b = Contains-from_filter (holds c) (product (rows_of_each s ps db)) r d in
         known-condition ks r (fits_row ks r (of_kinds (Join ps c) ks e r d)) (sure_beside s ps) c a.1 b.1 (product-sure ps g.0 g.1 r b.0)
     sure (Left p q c) ks e r d = unset-known (Left p q c) ks e r d
+    sure (AntiJoin p q c) ks e r d = unset-known (AntiJoin p q c) ks e r d
     sure (UnionAll ps) ks e r d = unset-known (UnionAll ps) ks e r d
     sure (Distinct p) ks e r d = unset-known (Distinct p) ks e r d
 

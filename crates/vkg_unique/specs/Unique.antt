@@ -3,7 +3,7 @@ use Rattle.std.specs.Prelude.{ℕ, Bool, true, false, ◌&&◌, slice_get}
 use Rattle.std.specs.List.{list_any}
 use Rattle.std.specs.Option.{option_map_or}
 use Rattle.vkg_plan.specs.Kinds.{Tables}
-use Rattle.vkg_plan.specs.Plan.{Plan, Plans, Unit, Empty, Scan, Select, Project, Join, Left, UnionAll, Distinct, Nil, More}
+use Rattle.vkg_plan.specs.Plan.{Plan, Plans, Unit, Empty, Scan, Select, Project, Join, Left, AntiJoin, UnionAll, Distinct, Nil, More}
 use Rattle.vkg_keys.specs.Keys.{is_full}
 use Rattle.vkg_unique.specs.Apart.{are_apart}
 use Rattle.vkg_unique.specs.Recovered.{is_recovered}
@@ -31,6 +31,7 @@ abbrev mutual
   is_unique schema (Project es p) = is_recovered schema es p
   is_unique schema (Join ps c) = are_unique schema ps
   is_unique schema (Left p q c) = is_unique schema p && is_unique schema q
+  is_unique schema (AntiJoin p q c) = is_unique schema p
   is_unique schema (UnionAll ps) = are_unique schema ps && are_all_apart schema ps
   is_unique schema (Distinct p) = true
 

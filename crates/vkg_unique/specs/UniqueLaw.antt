@@ -17,10 +17,10 @@ use Rattle.vkg_expr.specs.Expr.{exprs}
 use Rattle.vkg_expr.specs.Typing.{kinds_of}
 use Rattle.vkg_expr.specs.Value.{holds, values_of}
 use Rattle.vkg_plan.specs.Kinds.{Kinds, Tables, beside_all, kinds_of_each, plan_kinds, width}
-use Rattle.vkg_plan.specs.Plan.{Plan, Plans, Unit as UnitPlan, Empty, Scan, Select, Project, Join, Left, UnionAll, Distinct, Nil, More}
-use Rattle.vkg_plan.specs.Rows.{one_row, product, rows_of, rows_of_each}
+use Rattle.vkg_plan.specs.Plan.{Plan, Plans, Unit as UnitPlan, Empty, Scan, Select, Project, Join, Left, AntiJoin, UnionAll, Distinct, Nil, More}
+use Rattle.vkg_plan.specs.Rows.{is_alone, one_row, product, rows_of, rows_of_each}
 use Rattle.vkg_plan.proofs.CellLemmas.{rows_apart}
-use Rattle.vkg_plan.proofs.RowsFit.{beside_is}
+use Rattle.vkg_plan.proofs.RowsFit.{beside_is, first_checked-parts}
 use Rattle.vkg_shapes.specs.UnionKinds.{AllKinds, given-union}
 use Rattle.vkg_equalities.specs.TableColumns.{flag_at}
 use Rattle.vkg_keys.specs.Keys.{is_full}
@@ -51,6 +51,7 @@ module _ (s : Tables) where
     given-unique (Project es p) flags h = cc
     given-unique (Join ps c) flags h = given-unique_each ps flags h
     given-unique (Left p q c) flags h = cc
+    given-unique (AntiJoin p q c) flags h = cc
     given-unique (UnionAll ps) flags h = cc
     given-unique (Distinct p) flags h = refl
 
@@ -96,6 +97,7 @@ module _ (s : Tables) (db : Database) (form : IsWellFormed s) (meets : MeetsSche
         let a = both_given (plan_kinds s p) (plan_kinds s q) ks (checked-given c (joined (plan_kinds s p) (plan_kinds s q)) ks e).0 in
         let b = and_parts (is_unique s p) (is_unique s q) u in
         distinct-left_pairs (length a.0) (rows_of s p db) (rows_of s q db) (wide-plan s db meets p a.0 a.1) (holds c) (width s q) (unique-rows p a.0 a.1 b.0) (unique-rows q a.2.0 a.2.1 b.1)
+    unique-rows (AntiJoin p q c) ks e u = IsDistinct-filter one_row (is_alone (holds c) (rows_of s q db)) (rows_of s p db) (unique-rows p ks (first_checked-parts c (plan_kinds s p) (plan_kinds s q) ks e).first u)
     unique-rows (UnionAll ps) ks e u =
         let b = and_parts (are_unique s ps) (are_all_apart s ps) u in
         distinct-union (rows_of_each s ps db) (unique-members ps ks (given-union s ks ps e) b.0 b.1)

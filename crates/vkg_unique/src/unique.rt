@@ -34,6 +34,7 @@ pub fn is_unique(alloc: Global, schema: &Schema, plan: &Plan) -> Result<bool, Me
             }
             is_unique(alloc, schema, q)
         }
+        Plan::AntiJoin(p, _, _) => is_unique(alloc, schema, p),
         Plan::UnionAll(ps) => are_unique_apart(alloc, schema, ps.as_slice()),
         Plan::Distinct(_) => Ok(true),
     }

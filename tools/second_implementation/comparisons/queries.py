@@ -45,7 +45,8 @@ def compare_query(comparison, case, query, folder):
     ours, theirs = comparison.call(words, folder), expected(words, folder)
     comparison.check("answer, by files", words, folder, ours, theirs)
     comparison.count("answers with solutions" if theirs.output.count("\n") > 1 else "answers without a solution")
-    query.visible = read_query(case.files["query.rq"].encode(), case.base).visible
+    read = read_query(case.files["query.rq"].encode(), case.base)
+    query.visible, query.template, query.nodes = read.visible, read.template, read.nodes
     by_values = Ending(0, lines_text(answer_lines(query, dataset_of(case.quads()))))
     comparison.check("answer, by values", words, folder, ours, by_values)
     compare_rows(comparison, case, folder, comparison.call(case.words("sql"), folder), theirs)

@@ -2,7 +2,7 @@
 from math import prod
 
 from random_inputs.tables import VALUES
-from reference.plan_nodes import (FALSE, TRUE, Call, Column, Constant, Distinct, Empty, Join, Left, Project, Scan, Select, Unit,
+from reference.plan_nodes import (FALSE, TRUE, Anti, Call, Column, Constant, Distinct, Empty, Join, Left, Project, Scan, Select, Unit,
                                   UnionAll, call, conjunction, kinds_of, null, subplans, term_constant, text_constant)
 from reference.rdf import iri, literal
 from reference.tables import family
@@ -117,7 +117,7 @@ class PlanMaker:
             return self.over_keys() if self.chance.happens(0.25) else self.leaf()
         inner = self.plan(depth - 1)
         kinds = kinds_of(inner, self.tables)
-        node = self.chance.choice([Select, Project, Join, Join, Join, Left, UnionAll, UnionAll, Distinct])
+        node = self.chance.choice([Select, Project, Join, Join, Join, Left, Anti, UnionAll, UnionAll, Distinct])
         if node is Select:
             return Select(self.condition(kinds), inner)
         if node is Project:
@@ -132,9 +132,9 @@ class PlanMaker:
         return self.pairs(node, inner, depth)
 
     def pairs(self, node, inner, depth):
-        """A join, or a left join."""
-        count = 1 if node is Left else self.chance.choice([0, 1, 1, 2])
+        """A join, a left join or an anti join."""
+        count = 1 if node in (Left, Anti) else self.chance.choice([0, 1, 1, 2])
         others = [self.plan(self.chance.randint(0, depth - 1)) for _ in range(count)]
         plans = self.chance.sample([inner, *others], 1 + len(others))
         condition = self.condition(sum((kinds_of(one, self.tables) for one in plans), ()))
-        return Left(*plans, condition) if node is Left else Join(tuple(plans), condition)
+        return node(*plans, condition) if node in (Left, Anti) else Join(tuple(plans), condition)

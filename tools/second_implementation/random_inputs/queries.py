@@ -5,8 +5,9 @@ answers have solutions.
 """
 from random_inputs.terms import IRIS, LITERALS, can_be_written
 from reference.evaluation import extension
-from reference.queries import (ACCESSORS, COMPARISONS, STRING_TESTS, TESTS, Call, FilterElement, GraphElement, Key, Modifiers,
-                               OptionalElement, Query, TriplesBlock, UnionElement, Var)
+from reference.queries import (ACCESSORS, COMPARISONS, STRING_TESTS, TESTS, BindElement, Call, FilterElement, GraphElement, Key,
+                               MinusElement, Modifiers, OptionalElement, Query, TriplesBlock, UnionElement, ValuesElement, Var,
+                               visible_of)
 from reference.rdf import DEFAULT_GRAPH, RDF_TYPE, XSD, Term, dataset_of, iri, literal
 
 NAMES = ["s", "p", "o", "x", "y", "é", "n_1", "1", "Name", "g"]
@@ -177,10 +178,36 @@ class QueryMaker:
             self.size *= max(1, len(self.graphs))
         return GraphElement(name, self.group(depth - 1, graph))
 
-    def element(self, depth, graph):
+    def values(self):
+        """A table of a few values: terms of the dataset as a rule, for variables of the query or new ones."""
+        known = self.chance.sample(self.names, min(len(self.names), self.chance.choice([0, 1, 1, 1, 2])))
+        names = known or [self.new_name()] if self.chance.happens(0.95) else []
+        rows = [tuple(None if self.chance.happens(0.2) else self.constant() for _ in names) for _ in range(self.chance.choice([0, 1, 2, 2, 3]))]
+        self.size *= max(1, len(rows))
+        return ValuesElement(tuple(names), tuple(rows))
+
+    def new_name(self):
+        """A name of a variable that is nowhere yet."""
+        self.fresh += 1
+        self.names.append(f"v{self.fresh}")
+        return self.names[-1]
+
+    def bind(self, before):
+        """BIND of an expression to a variable that is not visible in what the group holds before it."""
+        free = [name for name in self.names if name not in visible_of(before)]
+        expression = self.operand(2) if self.chance.happens(0.6) else self.expression(1)
+        return BindElement(expression, self.chance.choice(free) if free and self.chance.happens(0.3) else self.new_name())
+
+    def element(self, depth, graph, before):
         """An element of a group that is no triples and no filter."""
         roll = self.chance.random()
-        if roll < 0.45:
+        if roll < 0.08:
+            return MinusElement(self.group(depth - 1, graph))
+        if roll < 0.15:
+            return self.values()
+        if roll < 0.22:
+            return self.bind(before)
+        if roll < 0.5:
             inner = self.group(depth - 1, graph)
             return OptionalElement([UnionElement([inner])] if self.chance.happens(0.12) else inner)
         if roll < 0.65:
@@ -194,13 +221,13 @@ class QueryMaker:
             patterns = self.block(graph, labels)
             elements += [TriplesBlock(patterns)] if patterns else []
             while depth > 0 and self.spends("element", 0.6):
-                elements.append(self.element(depth, graph))
+                elements.append(self.element(depth, graph, elements))
                 labels = {}
         while (self.names or self.chance.happens(0.2)) and self.spends("filter", 0.35):
             elements.insert(self.chance.randint(0, len(elements)), FilterElement(self.expression(2)))
         return elements
 
-    # ---- modifiers (15) ----
+    # ---- forms and modifiers (15 and 16) ----
 
     def modifiers(self):
         """Keys of an order, and a slice, for a part of the queries."""
@@ -214,6 +241,16 @@ class QueryMaker:
             found.offset = self.chance.choice([0, 1, 1, 2, 2**32 - 1])
         return found
 
+    def template(self):
+        """Triples of a template: variables of the query, terms, and blank nodes, also where no triple can be made of them."""
+        nodes = [Term("blank", f"t{number}") for number in range(2)]
+        places = [lambda: self.some_variable(), lambda: self.chance.choice(nodes), lambda: self.chance.choice(IRIS), self.constant]
+        found = []
+        for _ in range(self.chance.choice([0, 1, 1, 2, 3])):
+            subject, value = (self.chance.choice(places)() for _ in range(2))
+            found.append((subject, self.some_variable() if self.chance.happens(0.3) else self.chance.choice(IRIS), value))
+        return [triple for triple in found if all(isinstance(one, Var) or one.kind == "blank" or can_be_written(one) for one in triple)]
+
     def query(self):
         """A query; most groups ask the default graph."""
         graph = self.chance.choice(self.graphs) if self.graphs and self.chance.happens(0.25) else None
@@ -222,4 +259,9 @@ class QueryMaker:
             names = [*self.names, "nope"] if not self.names or self.chance.happens(0.1) else self.names
             selected = self.chance.sample(names, self.chance.randint(1, min(len(names), 4)))
             selected += selected[:1] if self.chance.happens(0.03) else []
-        return Query(selected, self.chance.happens(0.3), group, [], self.modifiers())
+        roll = self.chance.random()
+        if roll < 0.06:
+            return Query([], False, group, [], "ASK")
+        if roll < 0.18:
+            return Query(None, False, group, [], "CONSTRUCT", self.template(), [], self.modifiers())
+        return Query(selected, self.chance.happens(0.3), group, [], modifiers=self.modifiers())

@@ -2,8 +2,8 @@
 from collections import Counter
 
 from random_inputs.spelling import TermWriter, joined
-from reference.queries import (ACCESSORS, COMPARISONS, STRING_TESTS, TESTS, Call, FilterElement, GraphElement, OptionalElement,
-                               TriplesBlock, UnionElement, Var)
+from reference.queries import (ACCESSORS, COMPARISONS, STRING_TESTS, TESTS, BindElement, Call, FilterElement, GraphElement,
+                               MinusElement, OptionalElement, TriplesBlock, UnionElement, ValuesElement, Var)
 from reference.rdf import RDF, RDF_TYPE, XSD
 
 BASES = [None, None, None, "http://e/", "http://other.org/a/b?c"]
@@ -21,7 +21,7 @@ def blank_nodes(group):
                 yield from (term for term in terms if term.kind == "blank")
             case UnionElement(groups):
                 yield from (node for inner in groups for node in blank_nodes(inner))
-            case OptionalElement(inner) | GraphElement(_, inner):
+            case OptionalElement(inner) | GraphElement(_, inner) | MinusElement(inner):
                 yield from blank_nodes(inner)
 
 
@@ -44,13 +44,24 @@ class QueryWriter:
         return joined(self.chance, tokens + self.group(self.query.group) + self.modifiers(), self.escapes == 0)
 
     def head(self):
-        """The tokens before the group: SELECT, what is to come once, and the variables."""
-        tokens = [self.word("SELECT")]
+        """The tokens of the form of the query."""
+        tokens = [self.word(self.query.form)]
+        if self.query.form == "CONSTRUCT":
+            return tokens + self.template()
+        if self.query.form == "ASK":
+            return tokens
         if self.query.is_distinct:
             tokens.append(self.word("DISTINCT"))
         elif self.escapes and self.chance.happens(0.05):
             tokens.append(self.word("REDUCED"))
         return tokens + (["*"] if self.query.selected is None else [self.variable(name) for name in self.query.selected])
+
+    def template(self):
+        """The tokens of a template; its blank nodes are apart from those of the group."""
+        of_group, self.blanks = self.blanks, Counter(blank_nodes([TriplesBlock(self.query.template)]))
+        tokens = ["{", *self.block(self.query.template), "}"]
+        self.blanks = of_group
+        return tokens
 
     def modifiers(self):
         """The tokens of the order and of the slice, whose parts may stand in either order."""
@@ -112,8 +123,24 @@ class QueryWriter:
                 return [self.word("OPTIONAL"), *self.group(inner)]
             case GraphElement(name, inner):
                 return [self.word("GRAPH"), *self.term(name), *self.group(inner)]
+            case MinusElement(inner):
+                return [self.word("MINUS"), *self.group(inner)]
+            case ValuesElement(names, rows):
+                return [self.word("VALUES"), *self.values(names, rows)]
+            case BindElement(expression, name):
+                return [self.word("BIND"), "(", *self.expression(expression), self.word("AS"), self.variable(name), ")"]
             case UnionElement([first, *rest]):
                 return self.group(first) + [token for group in rest for token in [self.word("UNION"), *self.group(group)]]
+
+    def values(self, names, rows):
+        """The tokens of a table of values: one variable may stand without brackets."""
+        cells = [[[self.word("UNDEF")] if term is None else self.term(term) for term in row] for row in rows]
+        if len(names) == 1 and self.chance.happens(0.6):
+            return [self.variable(names[0]), "{", *[token for [cell] in cells for token in cell], "}"]
+        tokens = ["(", *map(self.variable, names), ")", "{"]
+        for row in cells:
+            tokens += ["(", *[token for cell in row for token in cell], ")"]
+        return tokens + ["}"]
 
     # ---- triples (4.1 and 4.2) ----
 

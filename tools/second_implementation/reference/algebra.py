@@ -2,7 +2,8 @@
 from collections import namedtuple
 from functools import reduce
 
-from reference.queries import Call, FilterElement, GraphElement, OptionalElement, TriplesBlock, UnionElement
+from reference.queries import (BindElement, Call, FilterElement, GraphElement, MinusElement, OptionalElement, TriplesBlock, UnionElement,
+                               ValuesElement)
 
 # The symbols of 18.2. The condition of a left join is None where it is true.
 BasicGraphPattern = namedtuple("BasicGraphPattern", "patterns")
@@ -11,6 +12,9 @@ LeftJoin = namedtuple("LeftJoin", "left right condition")
 Filter = namedtuple("Filter", "condition inner")
 Union = namedtuple("Union", "left right")
 Graph = namedtuple("Graph", "name inner")
+Minus = namedtuple("Minus", "left right")
+Table = namedtuple("Table", "names rows")
+Extend = namedtuple("Extend", "inner name expression")
 
 UNIT = BasicGraphPattern(())
 
@@ -53,6 +57,12 @@ def extended(found, element):
             return Join(found, Graph(name, translated(group)))
         case UnionElement(groups):
             return Join(found, reduce(Union, map(translated, groups)))
+        case MinusElement(group):
+            return Minus(found, translated(group))
+        case ValuesElement(names, rows):
+            return Join(found, Table(names, rows))
+        case BindElement(expression, name):
+            return Extend(found, name, expression)
 
 
 def simplified(algebra):
@@ -71,4 +81,8 @@ def simplified(algebra):
             return Filter(condition, simplified(inner))
         case Graph(name, inner):
             return Graph(name, simplified(inner))
+        case Minus(left, right):
+            return Minus(simplified(left), simplified(right))
+        case Extend(inner, name, expression):
+            return Extend(simplified(inner), name, expression)
     return algebra

@@ -4,8 +4,8 @@ KnownMember: what a node's rows say of NULL, or a condition, decides tests for N
 A case is a function that gives what an expression becomes, or None. Of a rule the first case that changes any of a node's own
 expressions does, at the first place in the order of the text.
 """
-from reference.plan_nodes import (FALSE, TRUE, Call, Column, Constant, Distinct, Empty, Join, Left, Project, Scan, Select, UnionAll, call,
-                                  columns_in, conjunction, conjuncts, disjunction, first_changed, in_conjuncts, kinds_of, null,
+from reference.plan_nodes import (FALSE, TRUE, Anti, Call, Column, Constant, Distinct, Empty, Join, Left, Project, Scan, Select, UnionAll,
+                                  call, columns_in, conjunction, conjuncts, disjunction, first_changed, in_conjuncts, kinds_of, null,
                                   own_expressions, subplans, width, with_expressions)
 
 # The functions that make texts and terms: NULL exactly where a part is.
@@ -174,7 +174,7 @@ def of_strict(expression):
 
 def simplify_null(plan, tables):
     """SimplifyNull: tests for NULL become those of single columns that may be NULL."""
-    if not isinstance(plan, (Select, Project, Join, Left)):
+    if not isinstance(plan, (Select, Project, Join, Left, Anti)):
         return None
     flags = sum((never_null(one, tables) for one in subplans(plan)), [])
     return by_cases([known_column(flags), of_constant, of_strict], plan)
@@ -215,6 +215,8 @@ def surely_known(plan, tables):
             return with_told(below(plan, tables), condition)
         case Left(left, right, _):
             return surely_known(left, tables) + [False] * width([right], tables)
+        case Anti(left, _, _):
+            return surely_known(left, tables)
         case UnionAll(members):
             return [all(each) for each in zip(*(surely_known(one, tables) for one in members))]
         case Distinct(inner):
@@ -229,7 +231,7 @@ def below(plan, tables):
 
 def sure_null(plan, tables):
     """SureNull: the test for NULL of a column that is NULL in no row is false."""
-    if not isinstance(plan, (Select, Project, Join, Left)):
+    if not isinstance(plan, (Select, Project, Join, Left, Anti)):
         return None
     return by_cases([known_column(below(plan, tables))], plan)
 
@@ -312,6 +314,6 @@ def first_known_member(flags):
 
 def first_known(plan, tables):
     """FirstKnown: the members of a COALESCE that are never its value go."""
-    if not isinstance(plan, (Select, Project, Join, Left)):
+    if not isinstance(plan, (Select, Project, Join, Left, Anti)):
         return None
     return by_cases([first_known_member(below(plan, tables))], plan)

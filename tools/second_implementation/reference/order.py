@@ -9,10 +9,11 @@ SORTS = ["number", "string", "boolean", "dateTime", "date"]
 
 
 class Offer(NamedTuple):
-    """A solution as its line, with the terms of its keys, None for those without a value."""
+    """A solution, its line, and the terms of its keys, None for those without a value."""
 
     keys: list[Term | None]
     line: str
+    solution: dict[str, Term] | None = None
 
 
 def rank(term):

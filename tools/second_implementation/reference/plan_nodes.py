@@ -169,6 +169,15 @@ class Left:
 
 
 @dataclass(frozen=True)
+class Anti:
+    """The rows of the left for which no row of the right makes a condition true."""
+
+    left: object
+    right: object
+    condition: object
+
+
+@dataclass(frozen=True)
 class UnionAll:
     """The rows of all members, which have columns of the same kinds."""
 
@@ -189,7 +198,7 @@ def subplans(plan):
             return [inner]
         case Join(members, _) | UnionAll(members):
             return list(members)
-        case Left(left, right, _):
+        case Left(left, right, _) | Anti(left, right, _):
             return [left, right]
     return []
 
@@ -209,13 +218,15 @@ def with_subplans(plan, plans):
             return UnionAll(tuple(plans))
         case Left(_, _, condition):
             return Left(*plans, condition)
+        case Anti(_, _, condition):
+            return Anti(*plans, condition)
     return plan
 
 
 def own_expressions(plan):
     """The expressions of a node itself: its condition, or what it projects."""
     match plan:
-        case Select(condition, _) | Join(_, condition) | Left(_, _, condition):
+        case Select(condition, _) | Join(_, condition) | Left(_, _, condition) | Anti(_, _, condition):
             return [condition]
         case Project(expressions, _):
             return list(expressions)
@@ -231,6 +242,8 @@ def with_expressions(plan, expressions):
             return Join(members, *expressions)
         case Left(left, right, _):
             return Left(left, right, *expressions)
+        case Anti(left, right, _):
+            return Anti(left, right, *expressions)
         case Project(_, inner):
             return Project(tuple(expressions), inner)
     return plan
@@ -247,7 +260,7 @@ def first_changed(change, parts):
 
 def in_conjuncts(change, plan):
     """A node with the first conjunct of its condition changed that a function changes, or None."""
-    if not isinstance(plan, (Select, Join, Left)):
+    if not isinstance(plan, (Select, Join, Left, Anti)):
         return None
     found = first_changed(change, conjuncts(plan.condition))
     return None if found is None else with_expressions(plan, [conjunction(found)])
@@ -283,6 +296,8 @@ def kinds_of(plan, tables):
             return tuple(expression_kind(one, kinds) for one in expressions)
         case UnionAll(members):
             return kinds_of(members[0], tables)
+        case Anti(left, _, _):
+            return kinds_of(left, tables)
     return sum((kinds_of(one, tables) for one in subplans(plan)), ())
 
 
@@ -344,6 +359,8 @@ def plan_text(plan, tables):
             return f"SELECT * FROM {named(texts, ' CROSS JOIN ')} WHERE {expression_text(condition)}"
         case Left(_, _, condition):
             return f"SELECT * FROM {named(texts, ' LEFT JOIN ')} ON {expression_text(condition)}"
+        case Anti(_, _, condition):
+            return f"SELECT * FROM {named(texts, ' ANTI JOIN ')} ON {expression_text(condition)}"
         case UnionAll(_):
             return " UNION ALL ".join(f"({text})" for text in texts)
         case Distinct(_):

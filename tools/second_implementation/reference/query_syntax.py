@@ -1,10 +1,11 @@
-"""Reads queries by the grammar of SPARQL 1.1 Query, 19.8, or tells their first fault Q01 to Q08 or Q12 (docs/DIAGNOSTICS.md).
+"""Reads queries by the grammar of SPARQL 1.1 Query, 19.8, or tells their first fault Q01 to Q08 or Q10 to Q12 (docs/DIAGNOSTICS.md).
 
 The limits of Q09 are not looked at: no random query comes near them.
 """
 from reference.datatypes import is_wide_number
-from reference.queries import (ACCESSORS, COMPARISONS, STRING_TESTS, TESTS, Call, FilterElement, GraphElement, Key, Modifiers,
-                               OptionalElement, Query, TriplesBlock, UnionElement, Var)
+from reference.queries import (ACCESSORS, COMPARISONS, STRING_TESTS, TESTS, BindElement, Call, FilterElement, GraphElement, Key,
+                               MinusElement, Modifiers, OptionalElement, Query, TriplesBlock, UnionElement, ValuesElement, Var,
+                               visible_of)
 from reference.rdf import RDF_TYPE, XSD, Term
 from reference.refusal import Refused, refuse_first
 from reference.tokens import Token, check_depth, cut_bytes
@@ -14,13 +15,13 @@ SIGNS = [
     ("SIGN", r"\^\^|!=|<=|>=|&&|\|\||[{}()\[\].;,=<>!*/|^+?-]"),
     ("VAR", f"[?$][{BASE_CHARS}_0-9][{BASE_CHARS}_0-9\u00b7\u0300-\u036f\u203f-\u2040]*"),
 ]
-WORDS = [*"BASE PREFIX SELECT DISTINCT REDUCED WHERE OPTIONAL GRAPH FILTER UNION".split(),
+WORDS = [*"BASE PREFIX SELECT ASK CONSTRUCT DISTINCT REDUCED WHERE OPTIONAL GRAPH FILTER UNION MINUS VALUES UNDEF BIND AS".split(),
          *"ORDER BY ASC DESC LIMIT OFFSET BOUND SAMETERM".split(), *TESTS, *ACCESSORS,
          *STRING_TESTS]
 
 # The words and signs of Q07; some (SELECT, `*`, `(`) are outside the profile in other places than those where they are taken.
 OUTSIDE_WORDS = (
-    "ASK CONSTRUCT DESCRIBE SELECT FROM SERVICE MINUS VALUES BIND AS GROUP HAVING COUNT SUM MIN MAX AVG "
+    "DESCRIBE SELECT FROM SERVICE VALUES GROUP HAVING COUNT SUM MIN MAX AVG "
     "SAMPLE GROUP_CONCAT EXISTS NOT IN REGEX IF COALESCE LANGMATCHES INSERT DELETE LOAD CLEAR"
 ).split()
 OUTSIDE_SIGNS = "( / | ^ * + - ?".split()
@@ -48,7 +49,7 @@ class QueryCursor(TriplesCursor):
 
     def __init__(self, tokens, base):
         super().__init__(tokens, "Q", base)
-        self.visible, self.braces, self.labels = [], 0, {}
+        self.visible, self.braces, self.labels, self.nodes = [], 0, {}, []
 
     def refuse(self):
         """Refuses the next token, as outside the profile where it is one that SPARQL has and the profile has not."""
@@ -61,13 +62,14 @@ class QueryCursor(TriplesCursor):
         """Reads the whole query (rules 1 to 9 and 17)."""
         while self.sees("BASE", "PREFIX"):
             self.declaration(self.expect("BASE", "PREFIX").text == "PREFIX")
-        self.expect("SELECT")
-        selected, is_distinct = self.head()
+        form = self.expect("SELECT", "ASK", "CONSTRUCT").text
+        selected, is_distinct = ([], False) if form == "ASK" else self.head() if form == "SELECT" else (None, False)
+        template, nodes = self.template() if form == "CONSTRUCT" else ([], [])
         self.takes("WHERE")
         group = self.group()
-        modifiers = self.modifiers()
+        modifiers = Modifiers() if form == "ASK" else self.modifiers()
         self.take("END")
-        return Query(selected, is_distinct, group, self.visible, modifiers)
+        return Query(selected, is_distinct, group, self.visible, form, template, nodes, modifiers)
 
     def head(self):
         """Reads what stands behind SELECT (rule 9)."""
@@ -82,6 +84,16 @@ class QueryCursor(TriplesCursor):
         while self.sees_kind("VAR"):
             names.append(self.take("VAR").text[1:])
         return names
+
+    def template(self):
+        """Reads the template of CONSTRUCT, and its blank nodes by first appearance; neither is seen in the group (rule 73; 16.2)."""
+        elements = []
+        self.expect("{")
+        self.block(elements)
+        self.expect("}")
+        nodes = list(dict.fromkeys(self.nodes))
+        self.visible, self.labels = [], {}
+        return [pattern for block in elements for pattern in block.patterns], nodes
 
     # ---- order and slice (rules 18 to 27) ----
 
@@ -125,7 +137,7 @@ class QueryCursor(TriplesCursor):
         self.brace("{")
         self.block(elements)
         while not self.sees("}"):
-            elements.append(self.element())
+            elements.append(self.element(elements))
             self.takes(".")
             self.block(elements)
         self.brace("}")
@@ -136,8 +148,8 @@ class QueryCursor(TriplesCursor):
         self.expect(sign)
         self.braces += 1
 
-    def element(self):
-        """Reads OPTIONAL, GRAPH, FILTER, or groups with UNION between them."""
+    def element(self, before):
+        """Reads what stands behind elements of a group and is no block of triples."""
         if self.takes("OPTIONAL"):
             return OptionalElement(self.group())
         if self.takes("GRAPH"):
@@ -145,10 +157,71 @@ class QueryCursor(TriplesCursor):
             return GraphElement(name, self.group())
         if self.takes("FILTER"):
             return FilterElement(self.bracketed() if self.sees("(") else self.call())
+        if self.takes("MINUS"):
+            outside = list(self.visible)
+            inner = self.group()
+            self.visible = outside
+            return MinusElement(inner)
+        if self.takes("VALUES"):
+            return self.values()
+        if self.takes("BIND"):
+            return self.bind(visible_of(before))
         groups = [self.group()]
         while self.takes("UNION"):
             groups.append(self.group())
         return UnionElement(groups)
+
+    def values(self):
+        """Reads a table of values (rules 61 to 65); Q10 is a row of another width, or a variable listed twice."""
+        self.braces += 1
+        is_list = self.takes("(")
+        names = []
+        while self.sees_kind("VAR") if is_list else not names:
+            at = self.next.at
+            name = self.variable().name
+            if name in names:
+                self.faults.append(("Q10", at))
+            names.append(name)
+        if is_list:
+            self.expect(")")
+        self.expect("{")
+        rows = []
+        while not self.sees("}"):
+            at = self.next.at
+            row = self.row() if is_list else [self.value()]
+            if len(row) != len(names):
+                self.faults.append(("Q10", at))
+            rows.append(tuple(row))
+        self.expect("}")
+        return ValuesElement(tuple(names), tuple(rows))
+
+    def row(self):
+        """Reads a row of values in brackets."""
+        self.expect("(")
+        found = []
+        while not self.sees(")"):
+            found.append(self.value())
+        self.expect(")")
+        return found
+
+    def value(self):
+        """Reads a value of a table; UNDEF is none."""
+        if self.takes("UNDEF"):
+            return None
+        return self.iri() if self.sees_iri() else self.literal()
+
+    def bind(self, before):
+        """Reads BIND (rule 60); Q11 is a variable that is visible in what the group holds before it (18.2.1)."""
+        self.braces += 1
+        self.expect("(")
+        expression = self.expression()
+        self.expect("AS")
+        at = self.next.at
+        name = self.variable().name
+        if name in before:
+            self.faults.append(("Q11", at))
+        self.expect(")")
+        return BindElement(expression, name)
 
     def block(self, elements):
         """Reads triples, if there are any (rule 55)."""
@@ -198,7 +271,13 @@ class QueryCursor(TriplesCursor):
         token = self.take("BLANK")
         if self.labels.setdefault(token.text, self.braces) != self.braces:
             self.faults.append(("Q06", token.at))
-        return Term("blank", token.text)
+        self.nodes.append(Term("blank", token.text))
+        return self.nodes[-1]
+
+    def bracket(self):
+        """Reads an opening bracket; gives the blank node that it stands for."""
+        self.nodes.append(super().bracket())
+        return self.nodes[-1]
 
     def literal(self):
         """Reads a literal; one of a type that the profile does not know and a number that is too wide are faults."""

@@ -8,8 +8,8 @@ import math
 from reference.conditions import MAKERS, first_known, is_strict, known_member, simplify_condition, simplify_null, sure_null
 from reference.key_joins import parent_join, self_join
 from reference.key_lefts import parent_left, reference_left, self_left, self_left_member
-from reference.plan_nodes import (FALSE, TRUE, Call, Column, Distinct, Empty, Join, Left, Project, Scan, Select, Unit, UnionAll, columns_in,
-                                  conjunction, conjuncts, first_changed, kinds_of, moved, null, put_in, subplans, width, with_subplans)
+from reference.plan_nodes import (FALSE, TRUE, Anti, Call, Column, Distinct, Empty, Join, Left, Project, Scan, Select, Unit, UnionAll,
+                                  columns_in, conjunction, conjuncts, first_changed, kinds_of, moved, null, put_in, subplans, width, with_subplans)
 from reference.term_equalities import term_comparison, term_equality
 from reference.uniqueness import is_unique
 
@@ -135,6 +135,8 @@ def propagate_empty(plan, tables):
     """PropagateEmpty: a plan without rows under a node."""
     place = first_of(Empty, subplans(plan))
     if place is None:
+        return None
+    if isinstance(plan, Anti):
         return None
     if isinstance(plan, Left) and place == 1:
         return with_nulls(plan.left, plan.right, tables)
@@ -278,10 +280,34 @@ def unused_left(plan, tables):
     return Project(plan.expressions, left.left)
 
 
+def anti_nothing(plan, tables):
+    """AntiNothing: nothing is taken away where a condition is false or NULL, or by an empty side; an empty plan stays empty."""
+    if not isinstance(plan, Anti):
+        return None
+    if plan.condition in (FALSE, null("boolean")) or isinstance(plan.right, Empty):
+        return plan.left
+    return empty(plan, tables) if isinstance(plan.left, Empty) else None
+
+
+def anti_right(plan, tables):
+    """AntiRight: a selection, a projection or a distinct on the right side of an anti join goes, into the condition what it says."""
+    if not isinstance(plan, Anti):
+        return None
+    left, right, condition = plan.left, plan.right, plan.condition
+    match right:
+        case Select(own, inner):
+            return Anti(left, inner, both(moved(own, width([left], tables)), condition))
+        case Project(_, inner):
+            return Anti(left, inner, put_in(condition, in_between([left], right, [], tables)))
+        case Distinct(inner):
+            return Anti(left, inner, condition)
+    return None
+
+
 # The program's rules: of two that change a plan the first one does. These are taken to their end first.
 FIRST = [select_true, false_condition, merge_selects, merge_projects, lift_projects, propagate_empty, flatten, distribute_union,
          distinct_unique, distinct_distinct, self_join, parent_join, left_to_join, equal_members, unused_left, term_equality,
-         simplify_condition, simplify_null]
+         simplify_condition, simplify_null, anti_nothing, anti_right]
 
 # Rules of its own, behind these, once none of them changes anything.
 OWN = [sure_null, first_known, known_member, term_comparison, self_left, self_left_member, parent_left, reference_left]

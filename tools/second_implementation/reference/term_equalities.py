@@ -8,7 +8,7 @@ from urllib.parse import unquote_to_bytes
 
 from reference.datatypes import BadField, lexical_form
 from reference.iris import iri_safe, is_unreserved
-from reference.plan_nodes import (FALSE, Call, Column, Constant, Empty, Project, Scan, UnionAll, call, columns_in, conjunction,
+from reference.plan_nodes import (FALSE, Anti, Call, Column, Constant, Empty, Project, Scan, UnionAll, call, columns_in, conjunction,
                                   in_conjuncts, kinds_of, subplans, text_constant)
 from reference.rdf import blank
 from reference.tables import family
@@ -199,6 +199,8 @@ def table_columns(plan, tables):
                     for one in expressions]
         case UnionAll(_):
             return [all(flags) for flags in zip(*below)]
+        case Anti(_, _, _):
+            return below[0]
     return sum(below, [])
 
 

@@ -5,8 +5,8 @@ The rows are those of 18.3 to 18.6 with one graph as the active one: the default
 turn, where the graph's name is the last column. These are the modes DEFAULT, a term, and EACH.
 """
 from reference import plan_nodes
-from reference.algebra import BasicGraphPattern, Filter, Graph, Join, LeftJoin, Union, algebra_of
-from reference.plan_nodes import (TRUE, Column, Distinct, Empty, Left, Project, Scan, Select, Unit, UnionAll, call, conjunction,
+from reference.algebra import BasicGraphPattern, Extend, Filter, Graph, Join, LeftJoin, Minus, Table, Union, algebra_of
+from reference.plan_nodes import (TRUE, Anti, Column, Distinct, Empty, Left, Project, Scan, Select, Unit, UnionAll, call, conjunction,
                                   disjunction, null, term_constant, text_constant)
 from reference.queries import ACCESSORS, STRING_TESTS, Call, Var
 from reference.rdf import DEFAULT_GRAPH, XSD, Term
@@ -81,6 +81,12 @@ def visible(algebra):
             return visible(inner)
         case Join(left, right) | LeftJoin(left, right, _) | Union(left, right):
             return each_once(visible(left) + visible(right))
+        case Minus(left, _):
+            return visible(left)
+        case Table(names, _):
+            return each_once(names)
+        case Extend(inner, name, _):
+            return visible(inner) + [name]
 
 
 def column(names, name, first=0):
@@ -194,6 +200,16 @@ class Unfolder:
             case Filter(condition, inner):
                 names = visible(inner)
                 return Select(as_truth(condition, lambda name: column_or_null(names, name)), self.plan(inner, mode))
+            case Minus(left, right):
+                return self.difference(left, right, mode)
+            case Table(names, rows):
+                members = [Project(tuple(map(value_constant, row)), Unit()) for row in rows]
+                plan = UnionAll(tuple(members)) if members else Empty(len(names) * ("term",))
+                return self.after(self.graph_names(), 1, list(names), plan) if mode == EACH else plan
+            case Extend(inner, _, expression):
+                names = visible(inner)
+                columns = [column(names, name) for name in names] + [as_term(expression, lambda name: column_or_null(names, name))]
+                return Project(tuple(columns + in_mode_each(mode, Column(len(names)))), self.plan(inner, mode))
             case Graph(name, inner):
                 plan = self.each_graph(name.name, inner) if isinstance(name, Var) else self.one_graph(name, inner)
                 return self.after(self.graph_names(), 1, visible(algebra), plan) if mode == EACH else plan
@@ -224,6 +240,18 @@ class Unfolder:
         columns = [at(name) for name in each_once(names + others)] + in_mode_each(mode, Column(len(names)))
         pairs = node(self.plan(left, mode), self.plan(right, mode), conjunction(agree + conditions))
         return Project(tuple(columns), pairs)
+
+    def difference(self, left, right, mode):
+        """The rows of an algebra for which another one has none that agrees and shares a bound variable (18.5, Minus)."""
+        names, others = visible(left), visible(right)
+        shared, first = [name for name in names if name in others], len(names) + (mode == EACH)
+        if not shared:
+            return self.plan(left, mode)
+        pairs = [(column(names, name), column(others, name, first)) for name in shared]
+        agree = in_mode_each(mode, call("SAME", Column(len(names)), Column(first + len(others))))
+        agree += [disjunction([call("IS_NULL", one), call("IS_NULL", other), call("SAME", one, other)]) for one, other in pairs]
+        both = [conjunction([call("NOT", call("IS_NULL", one)), call("NOT", call("IS_NULL", other))]) for one, other in pairs]
+        return Anti(self.plan(left, mode), self.plan(right, mode), conjunction(agree + [disjunction(both)]))
 
     def united(self, left, right, mode):
         """The rows of two algebras over the variables of both."""
@@ -257,6 +285,11 @@ class Unfolder:
             plan = Select(disjunction([call("IS_NULL", own), call("SAME", own, graph)]), plan)
         wanted = each_once([name] + names)
         return Project(tuple(graph if one == name else column(names, one) for one in wanted), plan)
+
+
+def value_constant(term):
+    """The constant of a value of a table; UNDEF is NULL."""
+    return null("term") if term is None else term_constant(term)
 
 
 def merged(names, others, mode):

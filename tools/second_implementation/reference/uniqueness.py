@@ -2,7 +2,7 @@
 from itertools import combinations
 
 from reference.conditions import is_strict
-from reference.plan_nodes import (FALSE, Call, Column, Distinct, Empty, Join, Project, Scan, Select, Unit, UnionAll, call, columns_in, conjuncts,
+from reference.plan_nodes import (FALSE, Anti, Call, Column, Distinct, Empty, Join, Project, Scan, Select, Unit, UnionAll, call, columns_in, conjuncts,
                                   kinds_of, moved, subplans)
 from reference.term_equalities import Hole, cut, decided, recognised, table_columns
 
@@ -119,6 +119,8 @@ def is_unique(plan, tables):
             return bool(full_keys(tables[table]))
         case Project(expressions, inner):
             return is_recovered(expressions, inner, tables)
+        case Anti(left, _, _):
+            return is_unique(left, tables)
     if not all(is_unique(one, tables) for one in subplans(plan)):
         return False
     return not isinstance(plan, UnionAll) or all(are_apart(*pair, tables) for pair in combinations(plan.members, 2))

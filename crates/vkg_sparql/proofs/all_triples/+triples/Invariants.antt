@@ -15,6 +15,12 @@ decreases-read_part l = l.at
 abbrev pub decreases-read_other : goal.decreases-read_other
 decreases-read_other l = l.at
 
+abbrev pub decreases-read_later : goal.decreases-read_later
+decreases-read_later l = l.at
+
+abbrev pub decreases-read_last : goal.decreases-read_last
+decreases-read_last l = l.at
+
 abbrev pub decreases-read_graph : goal.decreases-read_graph
 decreases-read_graph l = l.at
 

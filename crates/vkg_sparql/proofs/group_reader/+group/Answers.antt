@@ -24,7 +24,10 @@ pub read_graph-returns : goal.read_graph-returns
 read_graph-returns t c = rw (c.in-Pair.ensures.made, c.in-Pair-node.ensures.made, c.in_ok-parts.ensures, c.in_ok-name_of.ensures, c.first_token-token.ensures)
 
 pub read_other-returns-in-Second-node : goal.read_other-returns-in-Second-node
-read_other-returns-in-Second-node t c = rw (c.in-Second.ensures.made, c.in-Second-node.ensures.made) c.read_groups.ensures
+read_other-returns-in-Second-node t c = rw (c.in-Second.ensures.made, c.in-Second-node.ensures.made) c.read_later.ensures
 
 pub read_part-returns-in_ok-read_group-in-Pair : goal.read_part-returns-in_ok-read_group-in-Pair
 read_part-returns-in_ok-read_group-in-Pair t c = rw (c.in-First.ensures.made, c.in-Pair.ensures.made, c.in_ok-read_group-in-Pair.ensures)
+
+pub read_last-returns-in_ok-read_group-in-Pair : goal.read_last-returns-in_ok-read_group-in-Pair
+read_last-returns-in_ok-read_group-in-Pair t c = rw (c.in-First.ensures.made, c.in-Pair.ensures.made, c.in_ok-read_group-in-Pair.ensures)

@@ -1,6 +1,6 @@
 use Rattle.std.proofs.Common.{◌≡◌, ◌<◌, ◌++◌}
 use Rattle.vkg_grammar.specs.Forest.{tree, node_count}
-use Rattle.vkg_sparql.specs.Groups.{numbers_value}
+use Rattle.vkg_sparql.specs.Meanings.{numbers_value}
 use Rattle.vkg_sparql.proofs.query_reader.read_numbers.Given as goal
 
 abbrev pub invariant-loop-variable : goal.invariant-loop-variable

@@ -7,7 +7,7 @@ use Rattle.std.proofs.lemmas.Result.{IfOk-weaker}
 use Rattle.vkg_plan.proofs.SeenParts.{seen-Project, seen-Select}
 use Rattle.vkg_plan.specs.Seen.{plan_seen}
 use Rattle.vkg_expr.specs.Seen.{expr_seen}
-use Rattle.vkg_plan.specs.Plan.{Plan, Select, Project, Distinct, Left, plans}
+use Rattle.vkg_plan.specs.Plan.{Plan, Select, Project, Distinct, Left, AntiJoin, plans}
 use Rattle.vkg_rules.specs.declared.rewrite.Fell.{Fell}
 use Rattle.vkg_rules.specs.Everywhere.{everywhere}
 use Rattle.vkg_rules.specs.StepSeen.{plans_seen}
@@ -16,7 +16,7 @@ use Rattle.vkg_rules.proofs.Seen.{seen-Distinct}
 use Rattle.vkg_steps.specs.Outcomes.{IsInside, IsListStep, IsNext, IsStep}
 use Rattle.vkg_steps.proofs.MemberLemmas.{fewer_nodes}
 use Rattle.vkg_rules.proofs.Outcomes.{outcome-none, outcome-some}
-use Rattle.vkg_steps.proofs.OutcomeLemmas.{at_root, first_behind, in_distinct, in_left, in_list, in_none, in_project, in_right, in_select, member_at, member_behind, next_behind, told, told_next, typed_at}
+use Rattle.vkg_steps.proofs.OutcomeLemmas.{at_root, first_behind, in_against, in_alone, in_distinct, in_left, in_list, in_none, in_project, in_right, in_select, member_at, member_behind, next_behind, told, told_next, typed_at}
 use Rattle.vkg_steps.proofs.PlaceLemmas.{nothing_behind}
 use Rattle.vkg_steps.proofs.in_place.+in_place.Goals as goal
 
@@ -173,3 +173,43 @@ step_sides-returns-in-Some g t c =
     told (λ z k n. IsInside r (Left p q d) z k n) (λ y. plan_seen y.plan) (λ y. y.fell) (λ y. y.place) (Left (plan_seen x.plan) q d) (Some f) (x.place ++ 0 ∷ []) c.on_left.result
     c.on_left.ensures.plan (subst (λ (o : Option Fell). IfOk c.on_left.result (λ y. y.fell ≡ o)) c.in-Some.is c.on_left.ensures.fell) c.on_left.ensures.place
     (in_left r p q (plan_seen x.plan) d f x.place c.requires.none (subst (λ (o : Option Fell). IsStep r p (plan_seen x.plan) o x.place) c.in-Some.is c.in-Ok.ensures))
+
+-- ---- the same at an anti join
+
+pub step_anti-step_anti_sides-requires : goal.step_anti-step_anti_sides-requires
+step_anti-step_anti_sides-requires g t c κs within =
+    let r = g.R.Rewrite.becomes c.args.rule.now c.args.schema.now in
+    (omega arith, (within, (c.requires.p, (c.requires.q, (c.requires.none, nothing_behind r (plan_seen c.args.p))))))
+
+pub step_anti_sides-step_anti_right-requires : goal.step_anti_sides-step_anti_right-requires
+step_anti_sides-step_anti_right-requires g t c κs within =
+    let r = g.R.Rewrite.becomes c.args.rule.now c.args.schema.now in
+    let p = plan_seen c.args.p in
+    let q = plan_seen c.in-Ok.x.plan in
+    let none = outcome-none p q (everywhere r p) (ap (λ (x : Option Fell). (q, x)) (sym c.in-None.is) ∙ c.in-Ok.ensures.0) in
+    let as_many = ap nodes none.1 in
+    let left = ap (λ (x : Plan). r (AntiJoin x (plan_seen c.args.q) (expr_seen c.args.c))) none.1 ∙ c.requires.none in
+    (omega (arith, as_many), (within, (ap (everywhere r) none.1 ∙ none.0, (c.requires.q, (left, nothing_behind r (plan_seen c.args.q))))))
+
+pub step_anti_right-returns-in-Ok : goal.step_anti_right-returns-in-Ok
+step_anti_right-returns-in-Ok g t c =
+    let r = g.R.Rewrite.becomes c.args.rule.now c.args.schema.now in
+    let p = plan_seen c.args.p in
+    let q = plan_seen c.args.q in
+    let d = expr_seen c.args.c in
+    let x = c.in-Ok.x in
+    told (λ z k n. IsInside r (AntiJoin p q d) z k n) (λ y. plan_seen y.plan) (λ y. y.fell) (λ y. y.place) (AntiJoin p (plan_seen x.plan) d) x.fell (x.place ++ 1 ∷ []) c.on_anti_right.result
+    c.on_anti_right.ensures.plan c.on_anti_right.ensures.fell c.on_anti_right.ensures.place
+    (in_against r p q (plan_seen x.plan) d x.fell x.place c.requires.p c.requires.none c.in-Ok.ensures)
+
+pub step_anti_sides-returns-in-Some : goal.step_anti_sides-returns-in-Some
+step_anti_sides-returns-in-Some g t c =
+    let r = g.R.Rewrite.becomes c.args.rule.now c.args.schema.now in
+    let p = plan_seen c.args.p in
+    let q = plan_seen c.args.q in
+    let d = expr_seen c.args.c in
+    let x = c.in-Ok.x in
+    let f = c.in-Some.field-0 in
+    told (λ z k n. IsInside r (AntiJoin p q d) z k n) (λ y. plan_seen y.plan) (λ y. y.fell) (λ y. y.place) (AntiJoin (plan_seen x.plan) q d) (Some f) (x.place ++ 0 ∷ []) c.on_anti_left.result
+    c.on_anti_left.ensures.plan (subst (λ (o : Option Fell). IfOk c.on_anti_left.result (λ y. y.fell ≡ o)) c.in-Some.is c.on_anti_left.ensures.fell) c.on_anti_left.ensures.place
+    (in_alone r p q (plan_seen x.plan) d f x.place c.requires.none (subst (λ (o : Option Fell). IsStep r p (plan_seen x.plan) o x.place) c.in-Some.is c.in-Ok.ensures))

@@ -23,6 +23,15 @@ decreases-step_sides g l = 6 * nodes (plan_seen l.p) + 6 * nodes (plan_seen l.q)
 abbrev pub decreases-step_right : goal.decreases-step_right
 decreases-step_right g l = 6 * nodes (plan_seen l.p) + 6 * nodes (plan_seen l.q) + 2
 
+abbrev pub decreases-step_anti : goal.decreases-step_anti
+decreases-step_anti g l = 6 * nodes (plan_seen l.p) + 6 * nodes (plan_seen l.q) + 4
+
+abbrev pub decreases-step_anti_sides : goal.decreases-step_anti_sides
+decreases-step_anti_sides g l = 6 * nodes (plan_seen l.p) + 6 * nodes (plan_seen l.q) + 3
+
+abbrev pub decreases-step_anti_right : goal.decreases-step_anti_right
+decreases-step_anti_right g l = 6 * nodes (plan_seen l.p) + 6 * nodes (plan_seen l.q) + 2
+
 abbrev pub decreases-step_list : goal.decreases-step_list
 decreases-step_list g l = 6 * nodes_each (plans_seen l.ps) + 5
 

@@ -1,0 +1,4 @@
+pub mod AntiNothing
+pub mod AntiNothingLaw
+pub mod AntiRight
+pub mod AntiRightLaw
