@@ -109,11 +109,11 @@ module _ (holds : Solution → Bool) (ls rs : List Solution) where
 bound_both : (t u : Option Term) → both_bound t u ≡ true → IsSome t × IsSome u
 bound_both None u h = absurd (cc)
 bound_both (Some t) None h = absurd (cc)
-bound_both (Some t) (Some u) h = (tt, tt)
+bound_both (Some t) (Some u) h = (refl, refl)
 
 both_of_bound : (t u : Option Term) → IsSome t → IsSome u → both_bound t u ≡ true
-both_of_bound None u h k = absurd (h)
-both_of_bound (Some t) None h k = absurd (k)
+both_of_bound None u h k = absurd (cc)
+both_of_bound (Some t) None h k = absurd (cc)
 both_of_bound (Some t) (Some u) h k = refl
 
 -- a variable that is bound in both
@@ -128,15 +128,15 @@ shared_later t u l r s = record { variable = suc s.variable; first = s.first; se
 shared_of : (l r : Solution) → shares l r ≡ true → IsShared l r
 shared_of [] r h = absurd (cc)
 shared_of (t ∷ l) [] h = absurd (cc)
-shared_of (t ∷ l) (u ∷ r) h = by (both_bound t u) refl
+shared_of (t ∷ l) (u ∷ r) h = by (λ k. shared_of l r k) (both_bound t u) refl h
   where
-    by : (b : Bool) → both_bound t u ≡ b → IsShared (t ∷ l) (u ∷ r)
-    by true e = let p = bound_both t u e in record { variable = zero; first = p.0; second = p.1 }
-    by false e = shared_later t u l r (shared_of l r (sym (ap (λ b. b || shares l r) e) ∙ h))
+    by : (shares l r ≡ true → IsShared l r) → (b : Bool) → both_bound t u ≡ b → (b || shares l r) ≡ true → IsShared (t ∷ l) (u ∷ r)
+    by rest true e k = let p = bound_both t u e in record { variable = zero; first = p.0; second = p.1 }
+    by rest false e k = shared_later t u l r (rest k)
 
 shares_of : (l r : Solution) (v : ℕ) → IsSome (lookup l v) → IsSome (lookup r v) → shares l r ≡ true
-shares_of [] r v h k = absurd (h)
-shares_of (t ∷ l) [] v h k = absurd (k)
+shares_of [] r v h k = absurd (cc)
+shares_of (t ∷ l) [] v h k = absurd (cc)
 shares_of (t ∷ l) (u ∷ r) zero h k = ap (λ b. b || shares l r) (both_of_bound t u h k)
 shares_of (t ∷ l) (u ∷ r) (suc v) h k = ap (λ b. both_bound t u || b) (shares_of l r v h k) ∙ or-true (both_bound t u)
 

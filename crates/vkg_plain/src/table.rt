@@ -40,7 +40,8 @@ fn row_solution(
         return unbound(alloc, width);
     };
     let mut solution = row_solution(alloc, width, variables, row)?;
-    set(&mut solution, *variable, copy_place(value)?);
+    let term = copy_place(value)?;
+    set(&mut solution, *variable, term);
     Ok(solution)
 }
 
