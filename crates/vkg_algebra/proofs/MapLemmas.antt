@@ -128,11 +128,11 @@ shared_later t u l r s = record { variable = suc s.variable; first = s.first; se
 shared_of : (l r : Solution) → shares l r ≡ true → IsShared l r
 shared_of [] r h = absurd (cc)
 shared_of (t ∷ l) [] h = absurd (cc)
-shared_of (t ∷ l) (u ∷ r) h = by (both_bound t u) refl
+shared_of (t ∷ l) (u ∷ r) h = by (λ k. shared_of l r k) (both_bound t u) refl h
   where
-    by : (b : Bool) → both_bound t u ≡ b → IsShared (t ∷ l) (u ∷ r)
-    by true e = let p = bound_both t u e in record { variable = zero; first = p.0; second = p.1 }
-    by false e = shared_later t u l r (shared_of l r (sym (ap (λ b. b || shares l r) e) ∙ h))
+    by : (shares l r ≡ true → IsShared l r) → (b : Bool) → both_bound t u ≡ b → (b || shares l r) ≡ true → IsShared (t ∷ l) (u ∷ r)
+    by rest true e k = let p = bound_both t u e in record { variable = zero; first = p.0; second = p.1 }
+    by rest false e k = shared_later t u l r (rest k)
 
 shares_of : (l r : Solution) (v : ℕ) → IsSome (lookup l v) → IsSome (lookup r v) → shares l r ≡ true
 shares_of [] r v h k = absurd (h)

@@ -111,9 +111,10 @@ fn part_fault(
     at: usize,
 ) -> Result<Option<QueryFault>, Memory>
     requires { at < node_count forest.now }
-    ensures { IfOk result (λ f. f ≡ scope_fault (query_scope (meanings_of environment.now named.now.keys lexemes.now) lexemes.now (tree forest.now at)) body.now) }
+    ensures { IfOk result (λ f. f ≡ scope_fault (query_scope (meanings_of environment.now named.now.keys (body_start (tree forest.now at)) lexemes.now) lexemes.now (tree forest.now at)) body.now) }
 {
-    let meanings = meanings_of(alloc, environment, &named.keys, lexemes)?;
+    let start = body_start(forest, at);
+    let meanings = meanings_of(alloc, environment, &named.keys, start, lexemes)?;
     let scope = query_scope(alloc, &meanings, lexemes, forest, at)?;
     let slice = fault_if(12, slice_over(body), None);
     Ok(fault_if(10, scope.uneven, fault_if(11, scope.again, slice)))
