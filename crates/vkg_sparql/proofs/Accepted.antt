@@ -19,7 +19,7 @@ use Rattle.vkg_sparql.specs.declared.pattern.Node.{Node}
 use Rattle.vkg_sparql.specs.declared.pattern.Node.TheVariants as node
 use Rattle.vkg_sparql.specs.declared.symbols.TheConstants.{FORM, QUERY}
 use Rattle.vkg_sparql.specs.declared.query.Query.{Query}
-use Rattle.vkg_sparql.specs.declared.query_reader.Asked.{Asked}
+use Rattle.vkg_sparql.specs.declared.query_reader.Head.{Head}
 use Rattle.vkg_sparql.specs.Groups.{ask_value, construct_value, query_value, select_value, solutions_value}
 use Rattle.vkg_sparql.specs.Lawful.{IsLawful, IsLawfulQuery, IsWithin}
 use Rattle.vkg_sparql.specs.Meanings.{first_token}
@@ -73,7 +73,7 @@ fine_body r h =
     let g = fault_free 11 _ _ f.1 in
     record { wide = e.0; slice = (fault_free 12 _ _ g.1).0 }
 
-names_of_solutions : (names : List (List ℕ)) (a : Asked) (ms : List Meaning) (t : Tree) → (solutions_value names a ms t).names ≡ names
+names_of_solutions : (names : List (List ℕ)) (a : Head) (ms : List Meaning) (t : Tree) → (solutions_value names a ms t).names ≡ names
 names_of_solutions names a ms (pair where_ (pair g (pair order slice))) = refl
 names_of_solutions names a ms t = refl
 

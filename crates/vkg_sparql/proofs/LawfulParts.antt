@@ -18,9 +18,9 @@ use Rattle.vkg_sparql.specs.declared.query.Key.{Key}
 use Rattle.vkg_sparql.specs.declared.query.Part.{Part as PartValue}
 use Rattle.vkg_sparql.specs.declared.query.Query.{Query}
 use Rattle.vkg_sparql.specs.declared.query.Selected.TheVariants.{All}
-use Rattle.vkg_sparql.specs.declared.query_reader.Asked.{Asked}
+use Rattle.vkg_sparql.specs.declared.query_reader.Head.{Head}
 use Rattle.vkg_sparql.specs.Conditions.{or_joined, and_joined, negated, bound_value, operand_value, or_value, or_more, and_value, and_more, rel_value, rel_more, unary_value, primary_value, bracketed, call_value, two_value, filter_value}
-use Rattle.vkg_sparql.specs.Groups.{patterns_of, block_parts, no_part, bind_value, group_value, parts_value, part_value, other_value, later_value, last_value, graph_value, union_value, groups_value, selection_value, is_distinct, asked, solutions_value, select_value, ask_value, construct_value, form_value, query_value}
+use Rattle.vkg_sparql.specs.Groups.{patterns_of, block_parts, no_part, bind_value, group_value, parts_value, part_value, other_value, later_value, last_value, graph_value, union_value, groups_value, selection_value, is_distinct, head_of, solutions_value, select_value, ask_value, construct_value, form_value, query_value}
 use Rattle.vkg_sparql.specs.Lawful.{condition_nodes, patterns_nodes, name_node, value_nodes, rows_nodes, part_nodes, group_nodes, unions_nodes, form_nodes, selected_nodes, keys_nodes, query_nodes}
 use Rattle.vkg_sparql.specs.Meanings.{first_token, meaning_at, node_of, number_of, numbers_value, term_if, operand_of, compare_of, applied, applied_to_two, name_of}
 use Rattle.vkg_sparql.specs.declared.query.Part.TheVariants as part
@@ -415,11 +415,11 @@ module _ (keys : List (List ℕ)) where
     GoodQuery q = Good (query_nodes (query_seen q))
 
     -- what stands before the group
-    record GoodHead (a : Asked) : Type 0 where
+    record GoodHead (a : Head) : Type 0 where
       form : Good (form_nodes a.form)
       selected : Good (selected_nodes a.selected)
 
-    good_solutions : (names : List (List ℕ)) (a : Asked) (t : Tree) → GoodHead a → Of t SOLUTIONS → GoodQuery (solutions_value names a ms t)
+    good_solutions : (names : List (List ℕ)) (a : Head) (t : Tree) → GoodHead a → Of t SOLUTIONS → GoodQuery (solutions_value names a ms t)
     good_solutions names a (pair where_ (pair g (pair order slice))) b h =
         recursion_append (Fits keys) (form_nodes a.form) (selected_nodes a.selected ++ (group_nodes (group_seen (group_value ms g)) ++ keys_nodes (map key_seen (order_value ms order)))) b.form
         (recursion_append (Fits keys) (selected_nodes a.selected) (group_nodes (group_seen (group_value ms g)) ++ keys_nodes (map key_seen (order_value ms order))) b.selected
@@ -428,7 +428,7 @@ module _ (keys : List (List ℕ)) where
 
     good_select : (names : List (List ℕ)) (t : Tree) → Of t FORM_5 → GoodQuery (select_value names ms t)
     good_select names (pair select (pair kind (pair selection t))) h =
-        good_solutions names (asked Select (is_distinct kind) (selection_value ms selection)) t (record { form = tt; selected = good_selection selection h.1.1.0 }) h.1.1.1
+        good_solutions names (head_of Select (is_distinct kind) (selection_value ms selection)) t (record { form = tt; selected = good_selection selection h.1.1.0 }) h.1.1.1
     good_select names t h = tt
 
     good_ask : (names : List (List ℕ)) (t : Tree) → Of t FORM_7 → GoodQuery (ask_value names ms t)
@@ -442,7 +442,7 @@ module _ (keys : List (List ℕ)) where
 
     good_construct : (names : List (List ℕ)) (t : Tree) → Of t FORM_11 → GoodQuery (construct_value names ms t)
     good_construct names (pair construct (pair left (pair block (pair right t)))) h =
-        good_solutions names (asked (Construct (patterns_of ms (block_triples block))) false All) t (record { form = good_template block h.1.1.0; selected = tt }) h.1.1.1.1
+        good_solutions names (head_of (Construct (patterns_of ms (block_triples block))) false All) t (record { form = good_template block h.1.1.0; selected = tt }) h.1.1.1.1
     good_construct names t h = tt
 
     good_form : (names : List (List ℕ)) (t : Tree) → Of t FORM → GoodQuery (form_value names ms t)

@@ -11,7 +11,7 @@ use Rattle.vkg_sparql.specs.declared.query.Part.TheVariants.{Triples, Filter, Op
 use Rattle.vkg_sparql.specs.declared.query.Query.{Query}
 use Rattle.vkg_sparql.specs.declared.query.Selected.{Selected}
 use Rattle.vkg_sparql.specs.declared.query.Selected.TheVariants.{All, Listed}
-use Rattle.vkg_sparql.specs.declared.query_reader.Asked.{Asked}
+use Rattle.vkg_sparql.specs.declared.query_reader.Head.{Head}
 use Rattle.vkg_sparql.specs.Conditions.{filter_value, or_value}
 use Rattle.vkg_sparql.specs.Meanings.{first_token, meaning_at, number_of, numbers_value, pattern_of, name_of}
 use Rattle.vkg_sparql.specs.Orders.{no_slice, order_value, slice_value}
@@ -98,11 +98,11 @@ abbrev pub no_query : List (List ℕ) → Query
 no_query names = record { names = names; form = Select; distinct = false; selected = All; group = []; keys = []; slice = no_slice }
 
 -- what stands before the group: of ASK no variable is selected, of CONSTRUCT each
-abbrev pub asked : Form → Bool → Selected → Asked
-asked form distinct selected = record { form = form; distinct = distinct; selected = selected }
+abbrev pub head_of : Form → Bool → Selected → Head
+head_of form distinct selected = record { form = form; distinct = distinct; selected = selected }
 
 -- solutions = [ WHERE ] group [ order ] [ slice ]
-abbrev pub solutions_value : List (List ℕ) → Asked → List Meaning → Tree → Query
+abbrev pub solutions_value : List (List ℕ) → Head → List Meaning → Tree → Query
 solutions_value names a ms (pair where_ (pair g (pair order slice))) = record {
   names = names;
   form = a.form;
@@ -116,7 +116,7 @@ solutions_value names a ms t = no_query names
 
 -- SELECT [ DISTINCT | REDUCED ] selection solutions
 abbrev pub select_value : List (List ℕ) → List Meaning → Tree → Query
-select_value names ms (pair select (pair kind (pair selection t))) = solutions_value names (asked Select (is_distinct kind) (selection_value ms selection)) ms t
+select_value names ms (pair select (pair kind (pair selection t))) = solutions_value names (head_of Select (is_distinct kind) (selection_value ms selection)) ms t
 select_value names ms t = no_query names
 
 -- ASK [ WHERE ] group
@@ -126,7 +126,7 @@ ask_value names ms t = no_query names
 
 -- CONSTRUCT "{" [ block ] "}" solutions
 abbrev pub construct_value : List (List ℕ) → List Meaning → Tree → Query
-construct_value names ms (pair construct (pair left (pair block (pair right t)))) = solutions_value names (asked (Construct (patterns_of ms (block_triples block))) false All) ms t
+construct_value names ms (pair construct (pair left (pair block (pair right t)))) = solutions_value names (head_of (Construct (patterns_of ms (block_triples block))) false All) ms t
 construct_value names ms t = no_query names
 
 -- form = SELECT .. | ASK .. | CONSTRUCT ..

@@ -1,7 +1,7 @@
 ghost use Rattle.std.specs.Prelude.{◌≡◌, ◌<◌, ◌++◌, [], IfOk, OnOk};
 ghost use Rattle.vkg_grammar.specs.Forest.{tree, node_count};
 ghost use Rattle.vkg_sparql.specs.Meanings.{numbers_value};
-ghost use Rattle.vkg_sparql.specs.Groups.{ask_value, asked, construct_value, form_value, selection_value, is_distinct, no_query, patterns_of, query_value, select_value, solutions_value};
+ghost use Rattle.vkg_sparql.specs.Groups.{ask_value, head_of, construct_value, form_value, selection_value, is_distinct, no_query, patterns_of, query_value, select_value, solutions_value};
 ghost use Rattle.vkg_sparql.specs.Triples.{block_triples};
 
 use crate::group_reader::{patterns_of, read_group};
@@ -66,16 +66,16 @@ fn is_distinct(forest: &Forest, at: usize) -> bool
 
 /// What stands before the group of a query.
 #[derive(Drop)]
-struct Asked {
+struct Head {
     form: Form,
     distinct: bool,
     selected: Selected,
 }
 
-fn asked(form: Form, distinct: bool, selected: Selected) -> Asked
-    ensures { result ≡ asked form distinct selected }
+fn head_of(form: Form, distinct: bool, selected: Selected) -> Head
+    ensures { result ≡ head_of form distinct selected }
 {
-    Asked {
+    Head {
         form,
         distinct,
         selected,
@@ -100,13 +100,13 @@ fn no_query(alloc: Global, names: Items<Text>) -> Result<Query, Memory>
 fn read_solutions(
     alloc: Global,
     names: Items<Text>,
-    asked: Asked,
+    head: Head,
     meanings: &[Meaning],
     forest: &Forest,
     at: usize,
 ) -> Result<Query, Memory>
     requires { at < node_count forest.now }
-    ensures { IfOk result (λ q. q ≡ solutions_value names asked meanings.now (tree forest.now at)) }
+    ensures { IfOk result (λ q. q ≡ solutions_value names head meanings.now (tree forest.now at)) }
 {
     let Node::Pair(_, rest) = forest.node(at) else {
         return no_query(alloc, names);
@@ -120,23 +120,23 @@ fn read_solutions(
     let group = read_group(alloc, meanings, forest, group)?;
     let keys = read_order(alloc, meanings, forest, order)?;
     let slice = read_slice(meanings, forest, slice);
-    Ok(query_of(names, asked, group, keys, slice))
+    Ok(query_of(names, head, group, keys, slice))
 }
 
 fn query_of(
     names: Items<Text>,
-    asked: Asked,
+    head: Head,
     group: Items<Part>,
     keys: Items<Key>,
     slice: Slice,
 ) -> Query
-    ensures { result ≡ record { names = names; form = asked.form; distinct = asked.distinct; selected = asked.selected; group = group; keys = keys; slice = slice } }
+    ensures { result ≡ record { names = names; form = head.form; distinct = head.distinct; selected = head.selected; group = group; keys = keys; slice = slice } }
 {
-    let Asked {
+    let Head {
         form,
         distinct,
         selected,
-    } = asked;
+    } = head;
     Query {
         names,
         form,
@@ -169,8 +169,8 @@ fn read_select(
         return no_query(alloc, names);
     };
     let selected = read_selection(alloc, meanings, forest, selection)?;
-    let asked = asked(Form::Select, is_distinct(forest, kind), selected);
-    read_solutions(alloc, names, asked, meanings, forest, solutions)
+    let head = head_of(Form::Select, is_distinct(forest, kind), selected);
+    read_solutions(alloc, names, head, meanings, forest, solutions)
 }
 
 // ASK [ WHERE ] group
@@ -191,8 +191,8 @@ fn read_ask(
         return no_query(alloc, names);
     };
     let group = read_group(alloc, meanings, forest, group)?;
-    let asked = asked(Form::Ask, false, Selected::Listed(Items::new(alloc)));
-    Ok(query_of(names, asked, group, Items::new(alloc), no_slice()))
+    let head = head_of(Form::Ask, false, Selected::Listed(Items::new(alloc)));
+    Ok(query_of(names, head, group, Items::new(alloc), no_slice()))
 }
 
 // The triples of a template: [ block ].
@@ -234,8 +234,8 @@ fn read_construct(
         return no_query(alloc, names);
     };
     let template = read_template(alloc, meanings, forest, block)?;
-    let asked = asked(Form::Construct(template), false, Selected::All);
-    read_solutions(alloc, names, asked, meanings, forest, solutions)
+    let head = head_of(Form::Construct(template), false, Selected::All);
+    read_solutions(alloc, names, head, meanings, forest, solutions)
 }
 
 // form = SELECT .. | ASK .. | CONSTRUCT ..
