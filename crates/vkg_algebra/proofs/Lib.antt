@@ -1,9 +1,11 @@
 pub mod CardLemmas
 pub mod Data
+pub mod Forms
 pub mod InstanceLemmas
 pub mod LawfulLemmas
 pub mod LineLemmas
 pub mod MapLemmas
+pub mod Numbered
 pub mod PatternLemmas
 pub mod Rows
 pub mod Translations

@@ -21,8 +21,8 @@ pub record Found : Type 0 where
   pub terms : List (Option Term)
 
 -- of so many terms and the cells of the keys behind them
-abbrev pub found_of : ℕ → List Cell → List ℕ → Found
-found_of width cells line = record { entry = entry_of (drop width cells) line; terms = map bound cells }
+abbrev pub candidate_of : ℕ → List Cell → List ℕ → Found
+candidate_of width cells line = record { entry = entry_of (drop width cells) line; terms = map bound cells }
 
 -- own: by the terms, one after another; nothing comes first
 abbrev pub terms_cmp : List (Option Term) → List (Option Term) → Ordering

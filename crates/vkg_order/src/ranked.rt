@@ -3,7 +3,7 @@ ghost use Rattle.std.specs.Prelude.{◌≡◌, IfOk, IsPermutation, IsSorted, dr
 ghost use Rattle.std.specs.Option.{option_cmp};
 ghost use Rattle.vkg_terms.specs.Same.{term_cmp};
 ghost use Rattle.vkg_order.specs.Listed.{at_most, sliced as sliced_of};
-ghost use Rattle.vkg_order.specs.Ranked.{found_cmp, found_of, ranked as ranked_of, terms_cmp};
+ghost use Rattle.vkg_order.specs.Ranked.{found_cmp, candidate_of, ranked as ranked_of, terms_cmp};
 ghost use Rattle.vkg_order.specs.Values.{bound as bound_of};
 
 use crate::modifiers::{Direction, Modifiers, Slice};
@@ -23,17 +23,17 @@ pub struct Candidate {
 
 impl Model for Candidate {
     ghost use Rattle.std.specs.Prelude.{string_bytes};
-    ghost use Rattle.vkg_order.specs.Ranked.{Found, found_of};
+    ghost use Rattle.vkg_order.specs.Ranked.{Found, candidate_of};
 
     ghost Value = { Found };
 
-    ghost view = { λ c. found_of c.width c.cells.items (string_bytes c.line) };
+    ghost view = { λ c. candidate_of c.width c.cells.items (string_bytes c.line) };
 }
 
 impl Candidate {
     /// The solution whose first cells, so many, are its terms.
     pub fn new(width: usize, cells: Vec<Cell>, line: String) -> Candidate
-        ensures { result ≡ found_of width cells.items (string_bytes line) }
+        ensures { result ≡ candidate_of width cells.items (string_bytes line) }
     {
         Candidate { width, cells, line }
     }

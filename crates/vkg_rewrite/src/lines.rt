@@ -1,27 +1,80 @@
-// The lines of a query's rows.
-ghost use Rattle.std.specs.Prelude.{◌≡◌, [], IfOk, drop, map, string_bytes, take};
+// What is written of a query's rows.
+ghost use Rattle.std.specs.Prelude.{◌≡◌, [], ◌∷◌, IfOk, drop, map, string_bytes, take};
 ghost use Rattle.vkg_expr.specs.Value.{term_of};
 ghost use Rattle.vkg_order.specs.Kept.{StandFor};
 ghost use Rattle.vkg_order.specs.Listed.{listed};
 ghost use Rattle.vkg_sparql.specs.Seen.{query_seen};
-ghost use Rattle.vkg_algebra.specs.Answer.{modifiers_of as modifiers_of_query, place_text as text_of_place, solution_entry, solution_line};
-ghost use Rattle.vkg_answers.specs.Answering.{row_entry};
+ghost use Rattle.vkg_algebra.specs.Answer.{found_of, has_solution, header as header_of, modifiers_of as modifiers_of_query, ordered, place_text as text_of_place, selected_variables, solution_entry, solution_line};
+ghost use Rattle.vkg_algebra.specs.Construct.{graph_lines};
+ghost use Rattle.vkg_answers.specs.Answering.{row_entry, row_solution};
 ghost use Rattle.vkg_rewrite.specs.Lines.{result_lines as lines_of};
 
 use std::alloc::Global;
-use vkg_algebra::{header, modifiers_of, selected_count, tabbed};
+use vkg_algebra::{ask_lines, construct_lines, header, modifiers_of, selected_count, tabbed};
 use vkg_base::{Items, Lines, Memory, Text};
 use vkg_cells::Cell;
 use vkg_engine::Rows;
-use vkg_order::Keeper;
-use vkg_sparql::Query;
+use vkg_order::{Candidate, Keeper};
+use vkg_sparql::{Form, Query, TriplePattern};
 use vkg_terms::term_text;
 
-/// The header of a query, then the lines of these rows, in the asked order: each row is one of the query's plan, the selected
-/// variables and behind them the values of the keys. NULL is an unbound variable.
-#[tactic(auto, unfolding(crate::specs::Lines::result_lines))]
+/// What is written of these rows, in whatever order they come. Each is one of the query's plan: the selected variables and behind
+/// them the values of the keys. NULL is an unbound variable. Of SELECT it is the header, then the lines of the rows, in the asked order; of
+/// ASK whether there is a row; of CONSTRUCT the graph that the template makes of them.
 pub fn result_lines(alloc: Global, query: &Query, rows: &Rows) -> Result<Lines, Memory>
     ensures { IfOk result (λ lines. lines ≡ lines_of (query_seen query.now) rows.now) }
+{
+    match &query.form {
+        Form::Select => select_lines(alloc, query, rows),
+        Form::Ask => ask_lines(alloc, has_row(rows)),
+        Form::Construct(template) => made_lines(alloc, query, template.as_slice(), rows),
+    }
+}
+
+/// Whether there is a row.
+#[tactic(auto, using(crate::proofs::Offers::some_row))]
+fn has_row(rows: &Rows) -> bool
+    ensures { result ≡ has_solution (map row_solution rows.now) }
+{
+    !rows.is_empty()
+}
+
+/// The graph that a template makes of the solutions that these rows are.
+fn made_lines(
+    alloc: Global,
+    query: &Query,
+    template: &[TriplePattern],
+    rows: &Rows,
+) -> Result<Lines, Memory>
+    ensures { IfOk result (λ lines. lines ≡ graph_lines template.now (selected_variables (query_seen query.now)) (ordered (query_seen query.now) (map row_solution rows.now))) }
+{
+    let width = selected_count(alloc, query)?;
+    let solutions = candidates(alloc, width, rows)?;
+    construct_lines(alloc, query, template, solutions)
+}
+
+/// The solutions that these rows are; the first so many cells of each are its terms, and the others the values of keys.
+fn candidates(alloc: Global, width: usize, rows: &Rows) -> Result<Vec<Candidate>, Memory>
+    ensures { IfOk result (λ found. found.items ≡ map (λ row. found_of width (row_solution row)) rows.now) }
+{
+    let mut found = Vec::new(alloc);
+    for i in 0..rows.len() {
+        found.push(candidate(alloc, width, rows.row(i))?)?;
+    }
+    Ok(found)
+}
+
+fn candidate(alloc: Global, width: usize, row: &[Cell]) -> Result<Candidate, Memory>
+    ensures { IfOk result (λ c. c ≡ found_of width (row_solution row.now)) }
+{
+    let (shown, _) = parts(row, width);
+    let line = row_line(alloc, shown)?;
+    Ok(Candidate::new(width, copied(alloc, row)?, line))
+}
+
+/// The header, then the lines of the rows.
+fn select_lines(alloc: Global, query: &Query, rows: &Rows) -> Result<Lines, Memory>
+    ensures { IfOk result (λ lines. lines ≡ header_of (query_seen query.now) ∷ listed (modifiers_of_query (query_seen query.now)) (map (row_entry (query_seen query.now)) rows.now)) }
 {
     let mut lines = Lines::new(alloc);
     lines.push(header(alloc, query)?)?;
