@@ -11,6 +11,7 @@
 #![tactic(auto)]
 
 mod answer;
+mod graph;
 pub mod laws;
 mod lines;
 mod rewriting;

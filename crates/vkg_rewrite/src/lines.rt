@@ -4,18 +4,18 @@ ghost use Rattle.vkg_expr.specs.Value.{term_of};
 ghost use Rattle.vkg_order.specs.Kept.{StandFor};
 ghost use Rattle.vkg_order.specs.Listed.{listed};
 ghost use Rattle.vkg_sparql.specs.Seen.{query_seen};
-ghost use Rattle.vkg_algebra.specs.Answer.{found_of, has_solution, header as header_of, modifiers_of as modifiers_of_query, ordered, place_text as text_of_place, selected_variables, solution_entry, solution_line};
-ghost use Rattle.vkg_algebra.specs.Construct.{graph_lines};
+ghost use Rattle.vkg_algebra.specs.Answer.{has_solution, header as header_of, modifiers_of as modifiers_of_query, place_text as text_of_place, solution_entry, solution_line};
 ghost use Rattle.vkg_answers.specs.Answering.{row_entry, row_solution};
 ghost use Rattle.vkg_rewrite.specs.Lines.{result_lines as lines_of};
 
+use crate::graph::made_lines;
 use std::alloc::Global;
-use vkg_algebra::{ask_lines, construct_lines, header, modifiers_of, selected_count, tabbed};
+use vkg_algebra::{ask_lines, header, modifiers_of, selected_count, tabbed};
 use vkg_base::{Items, Lines, Memory, Text};
 use vkg_cells::Cell;
 use vkg_engine::Rows;
-use vkg_order::{Candidate, Keeper};
-use vkg_sparql::{Form, Query, TriplePattern};
+use vkg_order::Keeper;
+use vkg_sparql::{Form, Query};
 use vkg_terms::term_text;
 
 /// What is written of these rows, in whatever order they come. Each is one of the query's plan: the selected variables and behind
@@ -37,39 +37,6 @@ fn has_row(rows: &Rows) -> bool
     ensures { result ≡ has_solution (map row_solution rows.now) }
 {
     !rows.is_empty()
-}
-
-/// The graph that a template makes of the solutions that these rows are.
-fn made_lines(
-    alloc: Global,
-    query: &Query,
-    template: &[TriplePattern],
-    rows: &Rows,
-) -> Result<Lines, Memory>
-    ensures { IfOk result (λ lines. lines ≡ graph_lines template.now (selected_variables (query_seen query.now)) (ordered (query_seen query.now) (map row_solution rows.now))) }
-{
-    let width = selected_count(alloc, query)?;
-    let solutions = candidates(alloc, width, rows)?;
-    construct_lines(alloc, query, template, solutions)
-}
-
-/// The solutions that these rows are; the first so many cells of each are its terms, and the others the values of keys.
-fn candidates(alloc: Global, width: usize, rows: &Rows) -> Result<Vec<Candidate>, Memory>
-    ensures { IfOk result (λ found. found.items ≡ map (λ row. found_of width (row_solution row)) rows.now) }
-{
-    let mut found = Vec::new(alloc);
-    for i in 0..rows.len() {
-        found.push(candidate(alloc, width, rows.row(i))?)?;
-    }
-    Ok(found)
-}
-
-fn candidate(alloc: Global, width: usize, row: &[Cell]) -> Result<Candidate, Memory>
-    ensures { IfOk result (λ c. c ≡ found_of width (row_solution row.now)) }
-{
-    let (shown, _) = parts(row, width);
-    let line = row_line(alloc, shown)?;
-    Ok(Candidate::new(width, copied(alloc, row)?, line))
 }
 
 /// The header, then the lines of the rows.
@@ -108,7 +75,7 @@ fn offered(alloc: Global, width: usize, rows: &Rows, keeper: Keeper) -> Result<K
 
 /// The first so many cells, and those behind them.
 #[tactic(auto, using(std::proofs::lemmas::List::drop_all, std::proofs::lemmas::List::take_all))]
-fn parts(row: &[Cell], width: usize) -> (&[Cell], &[Cell])
+pub(crate) fn parts(row: &[Cell], width: usize) -> (&[Cell], &[Cell])
     ensures shown { result.0.now ≡ take width row.now }
     ensures behind { result.1.now ≡ drop width row.now }
 {
@@ -119,7 +86,7 @@ fn parts(row: &[Cell], width: usize) -> (&[Cell], &[Cell])
     }
 }
 
-fn copied(alloc: Global, cells: &[Cell]) -> Result<Vec<Cell>, Memory>
+pub(crate) fn copied(alloc: Global, cells: &[Cell]) -> Result<Vec<Cell>, Memory>
     ensures { IfOk result (λ v. v.items ≡ cells.now) }
 {
     let mut copied = Vec::new(alloc);
@@ -130,7 +97,7 @@ fn copied(alloc: Global, cells: &[Cell]) -> Result<Vec<Cell>, Memory>
 }
 
 /// The terms of a row, with tabs between them.
-fn row_line(alloc: Global, row: &[Cell]) -> Result<String, Memory>
+pub(crate) fn row_line(alloc: Global, row: &[Cell]) -> Result<String, Memory>
     ensures { IfOk result (λ s. string_bytes s ≡ solution_line (map term_of row.now)) }
 {
     let texts = place_texts(alloc, row)?;

@@ -2,7 +2,7 @@ use Rattle.std.proofs.Common.{◌∙◌, ◌++◌, ◌∷◌, [], ap, sym}
 use Rattle.vkg_algebra.specs.Answer.{found_of}
 use Rattle.vkg_answers.specs.Answering.{row_solution}
 use Rattle.vkg_rewrite.proofs.RowLists.{one_more}
-use Rattle.vkg_rewrite.proofs.lines.candidates.Goals as goal
+use Rattle.vkg_rewrite.proofs.graph.candidates.Goals as goal
 
 pub loop-i-preserved : goal.loop-i-preserved
 loop-i-preserved c =

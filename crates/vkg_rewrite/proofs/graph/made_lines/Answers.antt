@@ -6,7 +6,7 @@ use Rattle.vkg_algebra.specs.Answer.{found_of, modifiers_of, selected_variables}
 use Rattle.vkg_algebra.specs.Construct.{graph_lines}
 use Rattle.vkg_answers.specs.Answering.{row_solution}
 use Rattle.vkg_rewrite.proofs.Offers.{found_all}
-use Rattle.vkg_rewrite.proofs.lines.made_lines.Goals as goal
+use Rattle.vkg_rewrite.proofs.graph.made_lines.Goals as goal
 
 pub returns : goal.returns
 returns c =
