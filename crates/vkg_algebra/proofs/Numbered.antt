@@ -1,8 +1,9 @@
 -- The lines of triples, solution after solution.
-use Rattle.std.proofs.Common.{◌≡◌, ◌∙◌, ℕ, zero, suc, ◌+◌, List, [], ◌∷◌, ◌++◌, drop, flat_map, map, take, append_assoc, Option, Some, None, refl, sym, ap, arith}
+use Rattle.std.proofs.Common.{◌≡◌, ◌∙◌, ℕ, zero, suc, ◌+◌, ◌≤◌, List, [], ◌∷◌, ◌++◌, drop, flat_map, length, map, append-nil, append_assoc, Some, refl, sym, ap, arith}
 use Rattle.std.specs.Prelude.{option_and_then, slice_get}
 use Rattle.std.specs.List.{enumerate_from}
-use Rattle.std.proofs.lemmas.List.{flat_map_more, map-append}
+use Rattle.std.proofs.Math.ListN.{drop_of_length-le}
+use Rattle.std.proofs.lemmas.List.{map-append}
 use Rattle.vkg_lists.specs.Rows.{value_at}
 use Rattle.vkg_terms.specs.NQuads.{Quad, line}
 use Rattle.vkg_cells.specs.declared.cell.Cell.{Cell}
@@ -24,12 +25,23 @@ numbered (y ∷ xs) (suc k) n x e = numbered xs k n x e
 
 module _ {A : Type 0} (quads : ℕ × A → List Quad) where
   -- what is written and what is left give the same after one more
-  pub numbered_more : (xs : List A) (k : ℕ) (x : A) (before after whole : List (List ℕ)) → slice_get xs k ≡ Some x
-      → before ++ map line (flat_map quads (enumerate_from (k + 1) (drop k xs))) ≡ whole → after ≡ before ++ map line (quads (k + 1, x))
-      → after ++ map line (flat_map quads (enumerate_from (k + 1 + 1) (drop (k + 1) xs))) ≡ whole
-  numbered_more xs k x before after whole e h a =
-      ap (λ ls. ls ++ map line (flat_map quads (enumerate_from (k + 1 + 1) (drop (k + 1) xs)))) a
-      ∙ append_assoc before (map line (quads (k + 1, x))) (map line (flat_map quads (enumerate_from (k + 1 + 1) (drop (k + 1) xs))))
-      ∙ ap (λ ls. before ++ ls) (sym (map-append line (quads (k + 1, x)) (flat_map quads (enumerate_from (k + 1 + 1) (drop (k + 1) xs)))))
-      ∙ ap (λ ps. before ++ map line (flat_map quads ps)) (sym (numbered xs k (k + 1) x e))
+  pub numbered_more : (xs : List A) (n k : ℕ) (x : A) (before after whole : List (List ℕ)) → slice_get xs k ≡ Some x
+      → before ++ map line (flat_map quads (enumerate_from (n + k) (drop k xs))) ≡ whole → after ≡ before ++ map line (quads (n + k, x))
+      → after ++ map line (flat_map quads (enumerate_from (n + (k + 1)) (drop (k + 1) xs))) ≡ whole
+  numbered_more xs n k x before after whole e h a =
+      let next : n + (k + 1) ≡ n + k + 1 = omega arith in
+      let rest : List Quad = flat_map quads (enumerate_from (n + k + 1) (drop (k + 1) xs)) in
+      ap (λ m. after ++ map line (flat_map quads (enumerate_from m (drop (k + 1) xs)))) next
+      ∙ ap (λ ls. ls ++ map line rest) a
+      ∙ append_assoc before (map line (quads (n + k, x))) (map line rest)
+      ∙ ap (λ ls. before ++ ls) (sym (map-append line (quads (n + k, x)) rest))
+      ∙ ap (λ ps. before ++ map line (flat_map quads ps)) (sym (numbered xs k (n + k) x e))
       ∙ h
+
+  -- where nothing is written yet
+  pub numbered_none : (xs : List A) (n : ℕ) (out : List (List ℕ)) → out ≡ [] → out ++ map line (flat_map quads (enumerate_from (n + 0) (drop 0 xs))) ≡ map line (flat_map quads (enumerate_from n xs))
+  numbered_none xs n out e = rw e (ap (λ m. map line (flat_map quads (enumerate_from m xs))) (let z : n + 0 ≡ n = omega arith in z))
+
+  -- where nothing is left
+  pub numbered_all : (xs : List A) (n k : ℕ) (out whole : List (List ℕ)) → length xs ≤ k → out ++ map line (flat_map quads (enumerate_from (n + k) (drop k xs))) ≡ whole → out ≡ whole
+  numbered_all xs n k out whole l h = sym (append-nil out) ∙ ap (λ ys. out ++ map line (flat_map quads (enumerate_from (n + k) ys))) (sym (drop_of_length-le xs l)) ∙ h

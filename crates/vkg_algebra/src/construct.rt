@@ -1,6 +1,7 @@
 // The graph that the template of a CONSTRUCT makes of solutions (SPARQL 1.1, 16.2).
 ghost use Rattle.std.specs.Prelude.{◌≡◌, ◌&&◌, ◌++◌, [], ◌∷◌, IfOk, OnOk, decimal, flat_map, if◌then◌else◌, map, nat_eq, string_bytes, suc};
 ghost use Rattle.std.specs.List.{enumerate_from, position_or_len};
+ghost use Rattle.vkg_lists.specs.Ascending.{ascending_once};
 ghost use Rattle.vkg_terms.specs.NQuads.{line};
 ghost use Rattle.vkg_order.specs.Ranked.{ranked as ranked_of};
 ghost use Rattle.vkg_order.specs.Values.{bound};
@@ -36,20 +37,23 @@ pub fn construct_lines(
     let variables = selected_variables(alloc, query, &algebra)?;
     let modifiers = modifiers_of(alloc, query)?;
     let found = ranked(&modifiers, solutions)?;
-    graph_lines(alloc, template, variables.as_slice(), &found)
+    graph_lines(alloc, template, variables.as_slice(), 1, &found)
 }
 
-/// The lines of the triples that a template makes of solutions, whose first cells are those of these variables.
+/// The lines of the triples that a template makes of solutions, which are numbered from the first on. Their first cells are those of
+/// these variables.
 fn graph_lines(
     alloc: Global,
     template: &[TriplePattern],
     variables: &[Var],
+    first: u64,
     solutions: &[Candidate],
 ) -> Result<Lines, Memory>
-    ensures { IfOk result (λ lines. lines ≡ lines_of_graph template.now variables.now (map (λ f. f.terms) solutions.now)) }
+    ensures { IfOk result (λ lines. lines ≡ ascending_once (map line (flat_map (solution_triples template.now variables.now (labels_of template.now)) (enumerate_from first (map (λ f. f.terms) solutions.now))))) }
 {
     let labels = template_labels(alloc, template)?;
-    let mut lines = all_lines(alloc, template, variables, labels.as_slice(), solutions)?;
+    let labels = labels.as_slice();
+    let mut lines = all_lines(alloc, template, variables, labels, first, solutions)?;
     lines.sort_once();
     Ok(lines)
 }
@@ -88,14 +92,16 @@ fn all_lines(
     template: &[TriplePattern],
     variables: &[Var],
     labels: &[usize],
+    first: u64,
     solutions: &[Candidate],
 ) -> Result<Lines, Memory>
-    ensures { IfOk result (λ lines. lines ≡ map line (flat_map (solution_triples template.now variables.now labels.now) (enumerate_from 1 (map (λ f. f.terms) solutions.now)))) }
+    ensures { IfOk result (λ lines. lines ≡ map line (flat_map (solution_triples template.now variables.now labels.now) (enumerate_from first (map (λ f. f.terms) solutions.now)))) }
 {
     let mut out = Lines::new(alloc);
     for k in 0..solutions.len() {
+        let number = first as u128 + k as u128;
         let cells = solutions[k].cells();
-        push_solution(alloc, &mut out, template, variables, labels, k + 1, cells)?;
+        push_solution(alloc, &mut out, template, variables, labels, number, cells)?;
     }
     Ok(out)
 }
@@ -107,7 +113,7 @@ fn push_solution(
     template: &[TriplePattern],
     variables: &[Var],
     labels: &[usize],
-    number: usize,
+    number: u128,
     cells: &[Cell],
 ) -> Result<(), Memory>
     ensures { OnOk result (out.new ≡ out.old ++ map line (solution_triples template.now variables.now labels.now (number, map bound cells.now))) }
@@ -124,7 +130,7 @@ fn push_triple(
     out: &mut Lines,
     variables: &[Var],
     labels: &[usize],
-    number: usize,
+    number: u128,
     cells: &[Cell],
     triple: &TriplePattern,
 ) -> Result<(), Memory>
@@ -183,8 +189,7 @@ fn is_predicate(term: &Term) -> bool
 {
     match term {
         Term::Iri(_) => true,
-        Term::Blank(_) => false,
-        Term::Lit(_, _) => false,
+        _ => false,
     }
 }
 
@@ -193,7 +198,7 @@ fn filled(
     alloc: Global,
     variables: &[Var],
     labels: &[usize],
-    number: usize,
+    number: u128,
     cells: &[Cell],
     node: &Node,
 ) -> Result<Option<Term>, Memory>
@@ -244,11 +249,11 @@ fn place(numbers: &[usize], number: usize) -> usize
 }
 
 /// The label of a blank node of the template, before which so many others appear, in a solution.
-fn made_label(alloc: Global, number: usize, before: usize) -> Result<Text, Memory>
+fn made_label(alloc: Global, number: u128, before: usize) -> Result<Text, Memory>
     ensures { IfOk result (λ t. t ≡ made_label number (suc before)) }
 {
     let mut text = String::from_str(alloc, "c")?;
-    push_number(&mut text, number as u128)?;
+    push_number(&mut text, number)?;
     text.push_str("_")?;
     push_number(&mut text, before as u128 + 1)?;
     Ok(Text::from_string(text))

@@ -6,5 +6,5 @@ use Rattle.vkg_algebra.proofs.construct.all_lines.Given as goal
 
 abbrev pub invariant-loop-k : goal.invariant-loop-k
 invariant-loop-k l =
-    l.out ++ map line (flat_map (solution_triples l.template l.variables l.labels) (enumerate_from (l.k + 1) (drop l.k (map (λ f. f.terms) l.solutions))))
-    ≡ map line (flat_map (solution_triples l.template l.variables l.labels) (enumerate_from 1 (map (λ f. f.terms) l.solutions)))
+    l.out ++ map line (flat_map (solution_triples l.template l.variables l.labels) (enumerate_from (l.first + l.k) (drop l.k (map (λ f. f.terms) l.solutions))))
+    ≡ map line (flat_map (solution_triples l.template l.variables l.labels) (enumerate_from l.first (map (λ f. f.terms) l.solutions)))
