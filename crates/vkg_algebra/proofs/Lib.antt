@@ -1,6 +1,7 @@
 pub mod CardLemmas
 pub mod Data
 pub mod Forms
+pub mod Graphs
 pub mod InstanceLemmas
 pub mod LawfulLemmas
 pub mod LineLemmas

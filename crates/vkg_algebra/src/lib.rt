@@ -5,7 +5,7 @@
 //! query, and its answer. `translate` answers exactly the algebra that the translation defines, `visible` its variables by
 //! first appearance, `header` the first line of an answer, `modifiers_of` what its order and slice are, `ask_lines` a yes or no, and
 //! `construct_lines` the graph that a template makes of solutions. The functions of `laws` ensure, in the words of the standard,
-//! what compatible mappings, a left join and the instances of a basic graph pattern are, and that one line is one solution.
+//! what compatible mappings, a left join and the instances of a basic graph pattern are, that one line is one solution, and what a graph is made of.
 //!
 //! Stands on `vkg_lists` (rows as maps, sets), `vkg_base` (lists and boxes), `vkg_terms` and `vkg_values` (terms and the
 //! operators on them), `vkg_maps` (quads of a dataset), `vkg_order` (the order of an answer) and `vkg_sparql` (queries).

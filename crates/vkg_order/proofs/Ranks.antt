@@ -1,16 +1,19 @@
 -- The solutions in the asked order: in whatever order they came, and in that of their lines.
-use Rattle.std.proofs.Common.{◌≡◌, ◌∙◌, ℕ, Bool, true, false, List, [], ◌∷◌, map, take, drop, Option, Some, None, refl, sym, ap, Ordering, Equal, is_lt}
+use Rattle.std.proofs.Common.{◌≡◌, ◌∙◌, ℕ, Bool, true, false, List, [], ◌∷◌, map, take, drop, Option, Some, None, refl, sym, ap, Ordering, Less, Equal, Greater, is_lt}
 use Rattle.std.specs.Cmp.{IsTotalOrder, on_total, then_total}
 use Rattle.std.specs.Cmp.Lexicographic.{lists_total, options_total, slice_cmp}
 use Rattle.std.specs.Option.{option_cmp}
 use Rattle.std.specs.Ordering.{ordering_then}
+use Rattle.std.specs.List.{AllByRecursion, Contains}
 use Rattle.std.specs.List.Sorted.{IsPermutation, IsSorted}
 use Rattle.std.proofs.lemmas.List.{drop-map, take-map}
-use Rattle.std.proofs.lemmas.List.Sorted.{IsPermutation-map, IsPermutation-sym}
+use Rattle.std.proofs.lemmas.List.Sorted.{Contains-permutation, IsPermutation-map, IsPermutation-sym}
 use Rattle.std.proofs.lemmas.Map.Lookups.{exact_bytes}
 use Rattle.vkg_lists.specs.Ascending.{ascending_by}
 use Rattle.vkg_lists.specs.Texts.{bytes_cmp}
+use Rattle.vkg_lists.proofs.Members.{map_agree_on}
 use Rattle.vkg_lists.proofs.Orders.{then_equal}
+use Rattle.vkg_lists.proofs.Walks.{map-map}
 use Rattle.vkg_terms.specs.declared.term.Term.{Term}
 use Rattle.vkg_terms.specs.declared.term.Term.TheVariants.{Iri, Blank, Lit}
 use Rattle.vkg_terms.specs.declared.term.Annotation.{Annotation}
@@ -23,7 +26,7 @@ use Rattle.vkg_order.specs.declared.modifiers.Modifiers.{Modifiers}
 use Rattle.vkg_order.specs.declared.modifiers.Slice.{Slice}
 use Rattle.vkg_order.specs.Entries.{Entry, entry_cmp}
 use Rattle.vkg_order.specs.Kept.{Rises}
-use Rattle.vkg_order.specs.Listed.{at_most, listed, sliced}
+use Rattle.vkg_order.specs.Listed.{at_most, listed, once, sliced}
 use Rattle.vkg_order.specs.Ranked.{Found, found_cmp, ranked, terms_cmp}
 use Rattle.vkg_order.proofs.Ordered.{Tied, ascending-bag, ascending-rises, ascending-same, ascending-tied, rises-from_sorted}
 use Rattle.vkg_order.proofs.Standing.{listed-bag, listed-ready}
@@ -108,3 +111,31 @@ module _ (m : Modifiers) where
   ranked-is fs gs asked p s e =
       ap (map terms_of) e ∙ sliced-map terms_of m.slice gs
       ∙ ap (sliced m.slice) (ap (map terms_of) (sym (ascending-same (found-total m.directions) gs (rises-from_sorted (found-total m.directions) gs s))) ∙ sym (same_terms fs gs p))
+
+  -- ---- in the order of their lines
+
+  weaker : (r s : Ordering) → is_lt (ordering_then r s) ≡ false → is_lt r ≡ false
+  weaker Less s h = h
+  weaker Equal s h = refl
+  weaker Greater s h = refl
+
+  entries_above : (f : Found) (gs : List Found) → AllByRecursion (λ g. is_lt (cmp g f) ≡ false) gs → AllByRecursion (λ e. is_lt (entry_cmp m.directions e f.entry) ≡ false) (map entry_of gs)
+  entries_above f [] h = tt
+  entries_above f (g ∷ gs) h = (weaker _ _ h.0, entries_above f gs h.1)
+
+  rises-entries : (fs : List Found) → Rises cmp fs → Rises (entry_cmp m.directions) (map entry_of fs)
+  rises-entries [] r = tt
+  rises-entries (f ∷ fs) r = (entries_above f fs r.0, rises-entries fs r.1)
+
+  -- where the line of each is that of its terms, and no line is asked once, their lines are those of the entries
+  pub ranked-lines : (line : List (Option Term) → List ℕ) (fs : List Found) → m.distinct ≡ false → ((f : Found) → Contains fs f → line f.terms ≡ f.entry.line) → map line (ranked m fs) ≡ listed m (map entry_of fs)
+  unfolding ranked
+  ranked-lines line fs d h =
+      let o = found-total m.directions in
+      let sorted : List Found = ascending_by cmp fs in
+      sliced-map line m.slice (map terms_of sorted)
+      ∙ ap (sliced m.slice) (map-map line terms_of sorted
+      ∙ map_agree_on (λ f. line f.terms) (λ f. f.entry.line) sorted (λ f c. h f (Contains-permutation _ _ (IsPermutation-sym _ _ (ascending-bag o fs)) f c))
+      ∙ sym (map-map (λ (e : Entry). e.line) entry_of sorted))
+      ∙ sym (listed-ready m (map entry_of sorted) (rises-entries sorted (ascending-rises o fs)) (ap (λ b. once b (map (λ (e : Entry). e.line) (map entry_of sorted))) d))
+      ∙ listed-bag m (map entry_of sorted) (map entry_of fs) (IsPermutation-map entry_of _ _ (IsPermutation-sym _ _ (ascending-bag o fs)))
