@@ -19,7 +19,8 @@ use Rattle.vkg_sparql.specs.declared.pattern.Node.{Node}
 use Rattle.vkg_sparql.specs.declared.pattern.Node.TheVariants as node
 use Rattle.vkg_sparql.specs.declared.symbols.TheConstants.{FORM, QUERY}
 use Rattle.vkg_sparql.specs.declared.query.Query.{Query}
-use Rattle.vkg_sparql.specs.declared.query_reader.Head.{Head}
+use Rattle.vkg_sparql.specs.declared.query.Form.{Form}
+use Rattle.vkg_sparql.specs.declared.query.Selected.{Selected}
 use Rattle.vkg_sparql.specs.Groups.{ask_value, construct_value, query_value, select_value, solutions_value}
 use Rattle.vkg_sparql.specs.Lawful.{IsLawful, IsLawfulQuery, IsWithin}
 use Rattle.vkg_sparql.specs.Meanings.{first_token}
@@ -73,12 +74,12 @@ fine_body r h =
     let g = fault_free 11 _ _ f.1 in
     record { wide = e.0; slice = (fault_free 12 _ _ g.1).0 }
 
-names_of_solutions : (names : List (List ℕ)) (a : Head) (ms : List Meaning) (t : Tree) → (solutions_value names a ms t).names ≡ names
-names_of_solutions names a ms (pair where_ (pair g (pair order slice))) = refl
-names_of_solutions names a ms t = refl
+names_of_solutions : (names : List (List ℕ)) (form : Form) (distinct : Bool) (selected : Selected) (ms : List Meaning) (t : Tree) → (solutions_value names form distinct selected ms t).names ≡ names
+names_of_solutions names form distinct selected ms (pair where_ (pair g (pair order slice))) = refl
+names_of_solutions names form distinct selected ms t = refl
 
 names_of_select : (names : List (List ℕ)) (ms : List Meaning) (t : Tree) → (select_value names ms t).names ≡ names
-names_of_select names ms (pair select (pair kind (pair selection t))) = names_of_solutions names _ ms t
+names_of_select names ms (pair select (pair kind (pair selection t))) = names_of_solutions names _ _ _ ms t
 names_of_select names ms t = refl
 
 names_of_ask : (names : List (List ℕ)) (ms : List Meaning) (t : Tree) → (ask_value names ms t).names ≡ names
@@ -86,7 +87,7 @@ names_of_ask names ms (pair ask (pair where_ g)) = refl
 names_of_ask names ms t = refl
 
 names_of_construct : (names : List (List ℕ)) (ms : List Meaning) (t : Tree) → (construct_value names ms t).names ≡ names
-names_of_construct names ms (pair construct (pair left (pair block (pair right t)))) = names_of_solutions names _ ms t
+names_of_construct names ms (pair construct (pair left (pair block (pair right t)))) = names_of_solutions names _ _ _ ms t
 names_of_construct names ms t = refl
 
 names_stay : (names : List (List ℕ)) (ms : List Meaning) (t : Tree) → (query_value names ms t).names ≡ names

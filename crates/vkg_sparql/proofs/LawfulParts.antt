@@ -13,14 +13,15 @@ use Rattle.vkg_sparql.specs.declared.meaning.TripleTokens.{TripleTokens}
 use Rattle.vkg_sparql.specs.declared.pattern.Node.{Node}
 use Rattle.vkg_sparql.specs.declared.pattern.Node.TheVariants as node
 use Rattle.vkg_sparql.specs.declared.symbols.TheConstants.{SELECTION, TOKEN_VAR, SELECTION_1, GROUP, BLOCK, SAME, ITEM, PLIST, VERB, OLIST, OBJECT, TOKEN_OPEN_BRACKET, OBJECT_1, OLIST_2, PLIST_2, PLIST_4, SAME_5, GROUP_1, PART, NAME, PART_3, FILTER, BRACKETED, OR, AND, REL, UNARY, PRIMARY, CALL, CALL_3, CALL_7, PRIMARY_FROM_3, REL_2, AND_2, OR_2, PART_6, PART_7, PART_FROM_2, PART_FROM_4, PART_FROM_5, PART_12, TABLE, TABLE_1, TABLE_4, TABLE_5, TABLE_10, VALUE, GROUP_5, KEY, KEY_FROM_3, ORDER_1, ORDER_2, FORM, FORM_5, FORM_7, FORM_11, SOLUTIONS, SOLUTIONS_2}
+use Rattle.vkg_sparql.specs.declared.query.Form.{Form}
 use Rattle.vkg_sparql.specs.declared.query.Form.TheVariants.{Select, Construct}
 use Rattle.vkg_sparql.specs.declared.query.Key.{Key}
 use Rattle.vkg_sparql.specs.declared.query.Part.{Part as PartValue}
 use Rattle.vkg_sparql.specs.declared.query.Query.{Query}
+use Rattle.vkg_sparql.specs.declared.query.Selected.{Selected}
 use Rattle.vkg_sparql.specs.declared.query.Selected.TheVariants.{All}
-use Rattle.vkg_sparql.specs.declared.query_reader.Head.{Head}
 use Rattle.vkg_sparql.specs.Conditions.{or_joined, and_joined, negated, bound_value, operand_value, or_value, or_more, and_value, and_more, rel_value, rel_more, unary_value, primary_value, bracketed, call_value, two_value, filter_value}
-use Rattle.vkg_sparql.specs.Groups.{patterns_of, block_parts, no_part, bind_value, group_value, parts_value, part_value, other_value, later_value, last_value, graph_value, union_value, groups_value, selection_value, is_distinct, head_of, solutions_value, select_value, ask_value, construct_value, form_value, query_value}
+use Rattle.vkg_sparql.specs.Groups.{patterns_of, block_parts, no_part, bind_value, group_value, parts_value, part_value, other_value, later_value, last_value, graph_value, union_value, groups_value, selection_value, is_distinct, solutions_value, select_value, ask_value, construct_value, form_value, query_value}
 use Rattle.vkg_sparql.specs.Lawful.{condition_nodes, patterns_nodes, name_node, value_nodes, rows_nodes, part_nodes, group_nodes, unions_nodes, form_nodes, selected_nodes, keys_nodes, query_nodes}
 use Rattle.vkg_sparql.specs.Meanings.{first_token, meaning_at, node_of, number_of, numbers_value, term_if, operand_of, compare_of, applied, applied_to_two, name_of}
 use Rattle.vkg_sparql.specs.declared.query.Part.TheVariants as part
@@ -414,21 +415,17 @@ module _ (keys : List (List ℕ)) where
     abbrev GoodQuery : Query → Type 0
     GoodQuery q = Good (query_nodes (query_seen q))
 
-    -- what stands before the group
-    record GoodHead (a : Head) : Type 0 where
-      form : Good (form_nodes a.form)
-      selected : Good (selected_nodes a.selected)
-
-    good_solutions : (names : List (List ℕ)) (a : Head) (t : Tree) → GoodHead a → Of t SOLUTIONS → GoodQuery (solutions_value names a ms t)
-    good_solutions names a (pair where_ (pair g (pair order slice))) b h =
-        recursion_append (Fits keys) (form_nodes a.form) (selected_nodes a.selected ++ (group_nodes (group_seen (group_value ms g)) ++ keys_nodes (map key_seen (order_value ms order)))) b.form
-        (recursion_append (Fits keys) (selected_nodes a.selected) (group_nodes (group_seen (group_value ms g)) ++ keys_nodes (map key_seen (order_value ms order))) b.selected
+    good_solutions : (names : List (List ℕ)) (form : Form) (distinct : Bool) (selected : Selected) (t : Tree) → Good (form_nodes form) → Good (selected_nodes selected) → Of t SOLUTIONS
+        → GoodQuery (solutions_value names form distinct selected ms t)
+    good_solutions names form distinct selected (pair where_ (pair g (pair order slice))) f s h =
+        recursion_append (Fits keys) (form_nodes form) (selected_nodes selected ++ (group_nodes (group_seen (group_value ms g)) ++ keys_nodes (map key_seen (order_value ms order)))) f
+        (recursion_append (Fits keys) (selected_nodes selected) (group_nodes (group_seen (group_value ms g)) ++ keys_nodes (map key_seen (order_value ms order))) s
         (recursion_append (Fits keys) (group_nodes (group_seen (group_value ms g))) (keys_nodes (map key_seen (order_value ms order))) (good_group g h.1.0) (good_order order h.1.1.0)))
-    good_solutions names a t b h = tt
+    good_solutions names form distinct selected t f s h = tt
 
     good_select : (names : List (List ℕ)) (t : Tree) → Of t FORM_5 → GoodQuery (select_value names ms t)
     good_select names (pair select (pair kind (pair selection t))) h =
-        good_solutions names (head_of Select (is_distinct kind) (selection_value ms selection)) t (record { form = tt; selected = good_selection selection h.1.1.0 }) h.1.1.1
+        good_solutions names Select (is_distinct kind) (selection_value ms selection) t tt (good_selection selection h.1.1.0) h.1.1.1
     good_select names t h = tt
 
     good_ask : (names : List (List ℕ)) (t : Tree) → Of t FORM_7 → GoodQuery (ask_value names ms t)
@@ -442,7 +439,7 @@ module _ (keys : List (List ℕ)) where
 
     good_construct : (names : List (List ℕ)) (t : Tree) → Of t FORM_11 → GoodQuery (construct_value names ms t)
     good_construct names (pair construct (pair left (pair block (pair right t)))) h =
-        good_solutions names (head_of (Construct (patterns_of ms (block_triples block))) false All) t (record { form = good_template block h.1.1.0; selected = tt }) h.1.1.1.1
+        good_solutions names (Construct (patterns_of ms (block_triples block))) false All t (good_template block h.1.1.0) tt h.1.1.1.1
     good_construct names t h = tt
 
     good_form : (names : List (List ℕ)) (t : Tree) → Of t FORM → GoodQuery (form_value names ms t)

@@ -11,7 +11,6 @@ use Rattle.vkg_sparql.specs.declared.query.Part.TheVariants.{Triples, Filter, Op
 use Rattle.vkg_sparql.specs.declared.query.Query.{Query}
 use Rattle.vkg_sparql.specs.declared.query.Selected.{Selected}
 use Rattle.vkg_sparql.specs.declared.query.Selected.TheVariants.{All, Listed}
-use Rattle.vkg_sparql.specs.declared.query_reader.Head.{Head}
 use Rattle.vkg_sparql.specs.Conditions.{filter_value, or_value}
 use Rattle.vkg_sparql.specs.Meanings.{first_token, meaning_at, number_of, numbers_value, pattern_of, name_of}
 use Rattle.vkg_sparql.specs.Orders.{no_slice, order_value, slice_value}
@@ -97,36 +96,32 @@ is_distinct t = false
 abbrev pub no_query : List (List ℕ) → Query
 no_query names = record { names = names; form = Select; distinct = false; selected = All; group = []; keys = []; slice = no_slice }
 
--- what stands before the group: of ASK no variable is selected, of CONSTRUCT each
-abbrev pub head_of : Form → Bool → Selected → Head
-head_of form distinct selected = record { form = form; distinct = distinct; selected = selected }
-
--- solutions = [ WHERE ] group [ order ] [ slice ]
-abbrev pub solutions_value : List (List ℕ) → Head → List Meaning → Tree → Query
-solutions_value names a ms (pair where_ (pair g (pair order slice))) = record {
+-- solutions = [ WHERE ] group [ order ] [ slice ], behind what asks for this
+abbrev pub solutions_value : List (List ℕ) → Form → Bool → Selected → List Meaning → Tree → Query
+solutions_value names form distinct selected ms (pair where_ (pair g (pair order slice))) = record {
   names = names;
-  form = a.form;
-  distinct = a.distinct;
-  selected = a.selected;
+  form = form;
+  distinct = distinct;
+  selected = selected;
   group = group_value ms g;
   keys = order_value ms order;
   slice = slice_value ms slice;
 }
-solutions_value names a ms t = no_query names
+solutions_value names form distinct selected ms t = no_query names
 
 -- SELECT [ DISTINCT | REDUCED ] selection solutions
 abbrev pub select_value : List (List ℕ) → List Meaning → Tree → Query
-select_value names ms (pair select (pair kind (pair selection t))) = solutions_value names (head_of Select (is_distinct kind) (selection_value ms selection)) ms t
+select_value names ms (pair select (pair kind (pair selection t))) = solutions_value names Select (is_distinct kind) (selection_value ms selection) ms t
 select_value names ms t = no_query names
 
--- ASK [ WHERE ] group
+-- ASK [ WHERE ] group: no variable is selected
 abbrev pub ask_value : List (List ℕ) → List Meaning → Tree → Query
 ask_value names ms (pair ask (pair where_ g)) = record { names = names; form = Ask; distinct = false; selected = Listed []; group = group_value ms g; keys = []; slice = no_slice }
 ask_value names ms t = no_query names
 
--- CONSTRUCT "{" [ block ] "}" solutions
+-- CONSTRUCT "{" [ block ] "}" solutions: each variable is selected
 abbrev pub construct_value : List (List ℕ) → List Meaning → Tree → Query
-construct_value names ms (pair construct (pair left (pair block (pair right t)))) = solutions_value names (head_of (Construct (patterns_of ms (block_triples block))) false All) ms t
+construct_value names ms (pair construct (pair left (pair block (pair right t)))) = solutions_value names (Construct (patterns_of ms (block_triples block))) false All ms t
 construct_value names ms t = no_query names
 
 -- form = SELECT .. | ASK .. | CONSTRUCT ..

@@ -1,14 +1,14 @@
 ghost use Rattle.std.specs.Prelude.{◌≡◌, ◌<◌, ◌++◌, [], IfOk, OnOk};
 ghost use Rattle.vkg_grammar.specs.Forest.{tree, node_count};
 ghost use Rattle.vkg_sparql.specs.Meanings.{numbers_value};
-ghost use Rattle.vkg_sparql.specs.Groups.{ask_value, head_of, construct_value, form_value, selection_value, is_distinct, no_query, patterns_of, query_value, select_value, solutions_value};
+ghost use Rattle.vkg_sparql.specs.Groups.{ask_value, construct_value, form_value, selection_value, is_distinct, no_query, patterns_of, query_value, select_value, solutions_value};
 ghost use Rattle.vkg_sparql.specs.Triples.{block_triples};
 
 use crate::group_reader::{patterns_of, read_group};
 use crate::meaning::{Meaning, first_token, number_of};
 use crate::order_reader::{no_slice, read_order, read_slice};
 use crate::pattern::TriplePattern;
-use crate::query::{Form, Key, Part, Query, Selected, Slice};
+use crate::query::{Form, Query, Selected};
 use crate::triple_reader::read_triples;
 use std::alloc::Global;
 use vkg_base::{Items, Memory, Text};
@@ -64,24 +64,6 @@ fn is_distinct(forest: &Forest, at: usize) -> bool
     }
 }
 
-/// What stands before the group of a query.
-#[derive(Drop)]
-struct Head {
-    form: Form,
-    distinct: bool,
-    selected: Selected,
-}
-
-fn head_of(form: Form, distinct: bool, selected: Selected) -> Head
-    ensures { result ≡ head_of form distinct selected }
-{
-    Head {
-        form,
-        distinct,
-        selected,
-    }
-}
-
 fn no_query(alloc: Global, names: Items<Text>) -> Result<Query, Memory>
     ensures { IfOk result (λ q. q ≡ no_query names) }
 {
@@ -100,13 +82,15 @@ fn no_query(alloc: Global, names: Items<Text>) -> Result<Query, Memory>
 fn read_solutions(
     alloc: Global,
     names: Items<Text>,
-    head: Head,
+    form: Form,
+    distinct: bool,
+    selected: Selected,
     meanings: &[Meaning],
     forest: &Forest,
     at: usize,
 ) -> Result<Query, Memory>
     requires { at < node_count forest.now }
-    ensures { IfOk result (λ q. q ≡ solutions_value names head meanings.now (tree forest.now at)) }
+    ensures { IfOk result (λ q. q ≡ solutions_value names form distinct selected meanings.now (tree forest.now at)) }
 {
     let Node::Pair(_, rest) = forest.node(at) else {
         return no_query(alloc, names);
@@ -119,33 +103,15 @@ fn read_solutions(
     };
     let group = read_group(alloc, meanings, forest, group)?;
     let keys = read_order(alloc, meanings, forest, order)?;
-    let slice = read_slice(meanings, forest, slice);
-    Ok(query_of(names, head, group, keys, slice))
-}
-
-fn query_of(
-    names: Items<Text>,
-    head: Head,
-    group: Items<Part>,
-    keys: Items<Key>,
-    slice: Slice,
-) -> Query
-    ensures { result ≡ record { names = names; form = head.form; distinct = head.distinct; selected = head.selected; group = group; keys = keys; slice = slice } }
-{
-    let Head {
-        form,
-        distinct,
-        selected,
-    } = head;
-    Query {
+    Ok(Query {
         names,
         form,
         distinct,
         selected,
         group,
         keys,
-        slice,
-    }
+        slice: read_slice(meanings, forest, slice),
+    })
 }
 
 // SELECT [ DISTINCT | REDUCED ] selection solutions
@@ -169,8 +135,17 @@ fn read_select(
         return no_query(alloc, names);
     };
     let selected = read_selection(alloc, meanings, forest, selection)?;
-    let head = head_of(Form::Select, is_distinct(forest, kind), selected);
-    read_solutions(alloc, names, head, meanings, forest, solutions)
+    let distinct = is_distinct(forest, kind);
+    read_solutions(
+        alloc,
+        names,
+        Form::Select,
+        distinct,
+        selected,
+        meanings,
+        forest,
+        solutions,
+    )
 }
 
 // ASK [ WHERE ] group
@@ -191,8 +166,15 @@ fn read_ask(
         return no_query(alloc, names);
     };
     let group = read_group(alloc, meanings, forest, group)?;
-    let head = head_of(Form::Ask, false, Selected::Listed(Items::new(alloc)));
-    Ok(query_of(names, head, group, Items::new(alloc), no_slice()))
+    Ok(Query {
+        names,
+        form: Form::Ask,
+        distinct: false,
+        selected: Selected::Listed(Items::new(alloc)),
+        group,
+        keys: Items::new(alloc),
+        slice: no_slice(),
+    })
 }
 
 // The triples of a template: [ block ].
@@ -234,8 +216,17 @@ fn read_construct(
         return no_query(alloc, names);
     };
     let template = read_template(alloc, meanings, forest, block)?;
-    let head = head_of(Form::Construct(template), false, Selected::All);
-    read_solutions(alloc, names, head, meanings, forest, solutions)
+    let form = Form::Construct(template);
+    read_solutions(
+        alloc,
+        names,
+        form,
+        false,
+        Selected::All,
+        meanings,
+        forest,
+        solutions,
+    )
 }
 
 // form = SELECT .. | ASK .. | CONSTRUCT ..
