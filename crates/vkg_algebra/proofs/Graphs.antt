@@ -1,7 +1,10 @@
 -- The graph of a CONSTRUCT: its lines, its triples, and the solutions of which it is made.
 use Rattle.std.proofs.Common.{◌≡◌, ◌∙◌, ◌&&◌, ℕ, Bool, true, false, List, [], ◌∷◌, flat_map, length, map, take, Option, Some, None, refl, sym, ap, subst, true≢false}
-use Rattle.std.specs.Prelude.{Contains, if◌then◌else◌}
+use Rattle.std.specs.Prelude.{Contains, IfOk, Result, if◌then◌else◌}
 use Rattle.std.specs.List.{enumerate_from}
+use Rattle.std.proofs.lemmas.Result.{IfOk-weaker}
+use Rattle.vkg_base.specs.declared.memory.Memory.{Memory}
+use Rattle.vkg_lists.specs.Ascending.{ascending_once}
 use Rattle.vkg_lists.proofs.Ascending.{ascending_once-ascending, ascending_once-members}
 use Rattle.vkg_lists.proofs.Bools.{and_parts}
 use Rattle.vkg_lists.proofs.Members.{Contains-from_flat_map, Contains-from_map, Contains-none, Contains-only}
@@ -14,11 +17,13 @@ use Rattle.vkg_sparql.specs.declared.pattern.TriplePattern.{TriplePattern}
 use Rattle.vkg_sparql.specs.Query.{Query}
 use Rattle.vkg_order.specs.Entries.{Entry}
 use Rattle.vkg_order.specs.Listed.{listed}
-use Rattle.vkg_order.specs.Ranked.{Found}
+use Rattle.vkg_order.specs.Ranked.{Found, ranked}
+use Rattle.vkg_order.specs.declared.modifiers.Modifiers.{Modifiers}
 use Rattle.vkg_order.proofs.Ranks.{ranked-lines}
 use Rattle.vkg_algebra.specs.Answer.{found_of, modifiers_of, ordered, selected_variables, solution_entry, solution_line}
-use Rattle.vkg_algebra.specs.Construct.{filled, graph_lines, graph_triples, is_predicate, is_subject, made, solution_triples, template_labels, triple, triple_if}
+use Rattle.vkg_algebra.specs.Construct.{filled, found_triples, graph_lines, graph_triples, is_predicate, is_subject, made, solution_triples, template_labels, triple, triple_if}
 use Rattle.vkg_algebra.specs.Laws.{IsGraph, IsTriple}
+use Rattle.vkg_algebra.proofs.Numbered.{numbered-map}
 use Rattle.vkg_algebra.specs.Solutions.{Solution}
 
 -- ---- what the template makes are triples
@@ -60,3 +65,15 @@ ordered_lines query ss d =
     ranked-lines (modifiers_of query) (λ s. solution_line (take n s)) (map (found_of n) ss) d
     (λ f c. let x = Contains-from_map (found_of n) ss f c in subst (λ (g : Found). solution_line (take n g.terms) ≡ g.entry.line) x.2 refl)
     ∙ ap (listed (modifiers_of query)) (map-map (λ (f : Found). f.entry) (found_of n) ss)
+
+-- ---- what is made of the solutions that are found
+
+pub graph_made : (template : List TriplePattern) (vs : List ℕ) (m : Modifiers) (lent : List ℕ) (n : Modifiers) (offered found : List Found) (made_lines : Result (List (List ℕ)) Memory) {own : List ℕ}
+    → lent ≡ own → own ≡ vs → n ≡ m → map (λ f. f.terms) found ≡ ranked n offered
+    → IfOk made_lines (λ lines. lines ≡ ascending_once (map line (flat_map (found_triples template lent (template_labels template)) (enumerate_from 1 found))))
+    → IfOk made_lines (λ lines. lines ≡ graph_lines template vs (ranked m offered))
+graph_made template vs m lent n offered found made_lines l o k e h =
+    IfOk-weaker made_lines (λ lines. lines ≡ ascending_once (map line (flat_map (found_triples template lent (template_labels template)) (enumerate_from 1 found)))) (λ lines. lines ≡ graph_lines template vs (ranked m offered))
+    (λ lines is. is ∙ ap ascending_once (ap (map line)
+    (sym (numbered-map (λ (f : Found). f.terms) (solution_triples template lent (template_labels template)) found 1)
+    ∙ (λ i. graph_triples template ((l ∙ o) i) ((e ∙ ap (λ x. ranked x offered) k) i))))) h

@@ -5,6 +5,7 @@ use Rattle.vkg_lists.specs.Ascending.{ascending_once}
 use Rattle.vkg_terms.specs.declared.term.Term.{Term}
 use Rattle.vkg_terms.specs.declared.term.Term.TheVariants.{Iri, Blank, Lit}
 use Rattle.vkg_terms.specs.NQuads.{Quad, line}
+use Rattle.vkg_order.specs.Ranked.{Found}
 use Rattle.vkg_sparql.specs.declared.pattern.Node.{Node}
 use Rattle.vkg_sparql.specs.declared.pattern.Node.TheVariants as node
 use Rattle.vkg_sparql.specs.declared.pattern.TriplePattern.{TriplePattern}
@@ -71,3 +72,7 @@ graph_triples ts vs ss = flat_map (solution_triples ts vs (template_labels ts)) 
 -- RDF 1.1 N-Triples, 2: the lines of the set of these triples, ascending by bytes
 abbrev pub graph_lines : List TriplePattern → List ℕ → List Solution → List (List ℕ)
 graph_lines ts vs ss = ascending_once (map line (graph_triples ts vs ss))
+
+-- the triples of a solution among others
+abbrev pub found_triples : List TriplePattern → List ℕ → List ℕ → ℕ × Found → List Quad
+found_triples ts vs ls f = solution_triples ts vs ls (f.0, f.1.terms)

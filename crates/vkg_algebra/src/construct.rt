@@ -1,5 +1,5 @@
 // The graph that the template of a CONSTRUCT makes of solutions (SPARQL 1.1, 16.2).
-ghost use Rattle.std.specs.Prelude.{◌≡◌, ◌&&◌, ◌++◌, [], ◌∷◌, IfOk, OnOk, decimal, flat_map, if◌then◌else◌, map, nat_eq, string_bytes, suc};
+ghost use Rattle.std.specs.Prelude.{◌≡◌, ◌&&◌, ◌+◌, ◌++◌, [], ◌∷◌, IfOk, OnOk, decimal, flat_map, if◌then◌else◌, map, nat_eq, string_bytes, suc};
 ghost use Rattle.std.specs.List.{enumerate_from, position_or_len};
 ghost use Rattle.vkg_lists.specs.Ascending.{ascending_once};
 ghost use Rattle.vkg_terms.specs.NQuads.{line};
@@ -7,7 +7,7 @@ ghost use Rattle.vkg_order.specs.Ranked.{ranked as ranked_of};
 ghost use Rattle.vkg_order.specs.Values.{bound};
 ghost use Rattle.vkg_sparql.specs.Seen.{query_seen};
 ghost use Rattle.vkg_algebra.specs.Answer.{modifiers_of as modifiers_of_query, selected_variables as selected_of};
-ghost use Rattle.vkg_algebra.specs.Construct.{filled as filled_with, graph_lines as lines_of_graph, is_predicate, is_subject, made, made_label, node_labels, pattern_labels, solution_triples, template_labels as labels_of, term_of, triple, triple_if};
+ghost use Rattle.vkg_algebra.specs.Construct.{filled as filled_with, graph_lines as lines_of_graph, is_predicate, is_subject, found_triples, made, made_label, node_labels, pattern_labels, solution_triples, template_labels as labels_of, term_of, triple, triple_if};
 ghost use Rattle.vkg_algebra.specs.Solutions.{lookup};
 ghost use Rattle.vkg_algebra.specs.Visible.{has as is_there};
 
@@ -49,7 +49,7 @@ fn graph_lines(
     first: u64,
     solutions: &[Candidate],
 ) -> Result<Lines, Memory>
-    ensures { IfOk result (λ lines. lines ≡ ascending_once (map line (flat_map (solution_triples template.now variables.now (labels_of template.now)) (enumerate_from first (map (λ f. f.terms) solutions.now))))) }
+    ensures { IfOk result (λ lines. lines ≡ ascending_once (map line (flat_map (found_triples template.now variables.now (labels_of template.now)) (enumerate_from first solutions.now)))) }
 {
     let labels = template_labels(alloc, template)?;
     let labels = labels.as_slice();
@@ -95,15 +95,43 @@ fn all_lines(
     first: u64,
     solutions: &[Candidate],
 ) -> Result<Lines, Memory>
-    ensures { IfOk result (λ lines. lines ≡ map line (flat_map (solution_triples template.now variables.now labels.now) (enumerate_from first (map (λ f. f.terms) solutions.now)))) }
+    ensures { IfOk result (λ lines. lines ≡ map line (flat_map (found_triples template.now variables.now labels.now) (enumerate_from first solutions.now))) }
 {
     let mut out = Lines::new(alloc);
     for k in 0..solutions.len() {
-        let number = first as u128 + k as u128;
-        let cells = solutions[k].cells();
-        push_solution(alloc, &mut out, template, variables, labels, number, cells)?;
+        let number = numbered(first, k);
+        push_found(
+            alloc,
+            &mut out,
+            template,
+            variables,
+            labels,
+            number,
+            &solutions[k],
+        )?;
     }
     Ok(out)
+}
+
+fn numbered(first: u64, k: usize) -> u128
+    ensures { result ≡ first + k }
+{
+    first as u128 + k as u128
+}
+
+fn push_found(
+    alloc: Global,
+    out: &mut Lines,
+    template: &[TriplePattern],
+    variables: &[Var],
+    labels: &[usize],
+    number: u128,
+    solution: &Candidate,
+) -> Result<(), Memory>
+    ensures { OnOk result (out.new ≡ out.old ++ map line (found_triples template.now variables.now labels.now (number, solution.now))) }
+{
+    let cells = solution.cells();
+    push_solution(alloc, out, template, variables, labels, number, cells)
 }
 
 /// The lines of the triples of a solution, by its number.

@@ -97,11 +97,15 @@ fn order_places(a: &[Cell], b: &[Cell]) -> Ordering
 fn order_place(a: &Cell, b: &Cell) -> Ordering
     ensures { result ≡ option_cmp term_cmp (bound_of a.now) (bound_of b.now) }
 {
-    match (a, b) {
-        (Cell::Term(_), Cell::Term(_)) => order(a, b),
-        (Cell::Term(_), _) => Ordering::Greater,
-        (_, Cell::Term(_)) => Ordering::Less,
-        _ => Ordering::Equal,
+    match a {
+        Cell::Term(_) => match b {
+            Cell::Term(_) => order(a, b),
+            _ => Ordering::Greater,
+        },
+        _ => match b {
+            Cell::Term(_) => Ordering::Less,
+            _ => Ordering::Equal,
+        },
     }
 }
 
