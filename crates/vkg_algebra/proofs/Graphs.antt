@@ -68,12 +68,12 @@ ordered_lines query ss d =
 
 -- ---- what is made of the solutions that are found
 
-pub graph_made : (template : List TriplePattern) (vs : List ℕ) (m : Modifiers) (lent : List ℕ) (n : Modifiers) (offered found : List Found) (made_lines : Result (List (List ℕ)) Memory) {own : List ℕ}
-    → lent ≡ own → own ≡ vs → n ≡ m → map (λ f. f.terms) found ≡ ranked n offered
-    → IfOk made_lines (λ lines. lines ≡ ascending_once (map line (flat_map (found_triples template lent (template_labels template)) (enumerate_from 1 found))))
+pub graph_made : (template : List TriplePattern) (vs : List ℕ) (m : Modifiers) (lent own : List ℕ) (n : Modifiers) (offered found slice : List Found) (made_lines : Result (List (List ℕ)) Memory)
+    → slice ≡ found → lent ≡ own → own ≡ vs → n ≡ m → map (λ f. f.terms) found ≡ ranked n offered
+    → IfOk made_lines (λ lines. lines ≡ ascending_once (map line (flat_map (found_triples template lent (template_labels template)) (enumerate_from 1 slice))))
     → IfOk made_lines (λ lines. lines ≡ graph_lines template vs (ranked m offered))
-graph_made template vs m lent n offered found made_lines l o k e h =
-    IfOk-weaker made_lines (λ lines. lines ≡ ascending_once (map line (flat_map (found_triples template lent (template_labels template)) (enumerate_from 1 found)))) (λ lines. lines ≡ graph_lines template vs (ranked m offered))
+graph_made template vs m lent own n offered found slice made_lines s l o k e h =
+    IfOk-weaker made_lines (λ lines. lines ≡ ascending_once (map line (flat_map (found_triples template lent (template_labels template)) (enumerate_from 1 slice)))) (λ lines. lines ≡ graph_lines template vs (ranked m offered))
     (λ lines is. is ∙ ap ascending_once (ap (map line)
-    (sym (numbered-map (λ (f : Found). f.terms) (solution_triples template lent (template_labels template)) found 1)
-    ∙ (λ i. graph_triples template ((l ∙ o) i) ((e ∙ ap (λ x. ranked x offered) k) i))))) h
+    (sym (numbered-map (λ (f : Found). f.terms) (solution_triples template lent (template_labels template)) slice 1)
+    ∙ (λ i. graph_triples template ((l ∙ o) i) ((ap (map (λ (f : Found). f.terms)) s ∙ e ∙ ap (λ x. ranked x offered) k) i))))) h
