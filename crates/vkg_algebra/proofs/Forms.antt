@@ -1,5 +1,5 @@
 -- What is written of solutions does not depend on the order in which they come.
-use Rattle.std.proofs.Common.{◌≡◌, ℕ, List, [], ◌∷◌, length, map, refl, ap, arith}
+use Rattle.std.proofs.Common.{◌≡◌, ℕ, List, [], ◌∷◌, length, map, refl, sym, ap, arith}
 use Rattle.std.specs.Prelude.{codes, if◌then◌else◌}
 use Rattle.std.specs.List.Sorted.{IsPermutation}
 use Rattle.std.proofs.lemmas.List.Sorted.{IsPermutation-map, length_permutation}
@@ -32,5 +32,5 @@ lines-bag query ss ts p = by query.form
   where
     by : (form : Form) → form_lines query form ss ≡ form_lines query form ts
     by Select = ap (λ (ls : List (List ℕ)). header query ∷ ls) (listed-bag (modifiers_of query) _ _ (IsPermutation-map (solution_entry (length (selected_variables query))) ss ts p))
-    by Ask = ap (λ b. (if b then codes "true" else codes "false") ∷ []) (as_many ss ts (length_permutation ss ts p))
+    by Ask = ap (λ b. (if b then codes "true" else codes "false") ∷ []) (as_many ss ts (sym (length_permutation ss ts p)))
     by (Construct template) = ap (graph_lines template (selected_variables query)) (ranked-bag (modifiers_of query) _ _ (IsPermutation-map (found_of (length (selected_variables query))) ss ts p))

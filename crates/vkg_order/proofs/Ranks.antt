@@ -135,7 +135,7 @@ module _ (m : Modifiers) where
       let sorted : List Found = ascending_by cmp fs in
       sliced-map line m.slice (map terms_of sorted)
       ∙ ap (sliced m.slice) (map-map line terms_of sorted
-      ∙ map_agree_on (λ f. line f.terms) (λ f. f.entry.line) sorted (λ f c. h f (Contains-permutation _ _ (IsPermutation-sym _ _ (ascending-bag o fs)) f c))
+      ∙ map_agree_on (λ (f : Found). line f.terms) (λ (f : Found). f.entry.line) sorted (λ f c. h f (Contains-permutation sorted fs f (IsPermutation-sym _ _ (ascending-bag o fs)) c))
       ∙ sym (map-map (λ (e : Entry). e.line) entry_of sorted))
       ∙ sym (listed-ready m (map entry_of sorted) (rises-entries sorted (ascending-rises o fs)) (ap (λ b. once b (map (λ (e : Entry). e.line) (map entry_of sorted))) d))
       ∙ listed-bag m (map entry_of sorted) (map entry_of fs) (IsPermutation-map entry_of _ _ (IsPermutation-sym _ _ (ascending-bag o fs)))

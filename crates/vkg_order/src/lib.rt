@@ -16,11 +16,11 @@ mod marks;
 mod modifiers;
 mod moment;
 mod offer;
-mod ranked;
+mod solutions;
 mod sort_key;
 mod values;
 
 pub use keeper::Keeper;
 pub use modifiers::{Direction, Modifiers, Slice};
-pub use ranked::{Candidate, ranked};
+pub use solutions::{Candidate, ranked};
 pub use values::compare;

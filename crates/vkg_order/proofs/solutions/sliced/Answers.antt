@@ -2,7 +2,7 @@ use Rattle.std.proofs.Common.{◌∙◌, ap, drop, length, arith, rules}
 use Rattle.std.specs.Prelude.{◌≡◌, min}
 use Rattle.vkg_order.specs.Listed.{at_most}
 use Rattle.vkg_order.proofs.Sliced.{drop-upto}
-use Rattle.vkg_order.proofs.ranked.sliced.Goals as goal
+use Rattle.vkg_order.proofs.solutions.sliced.Goals as goal
 
 pub returns : goal.returns
 returns c =

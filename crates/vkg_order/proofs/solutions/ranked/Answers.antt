@@ -5,7 +5,7 @@ use Rattle.std.proofs.lemmas.Result.{IfOk-weaker}
 use Rattle.vkg_order.specs.Listed.{sliced}
 use Rattle.vkg_order.specs.Ranked.{found_cmp, ranked}
 use Rattle.vkg_order.proofs.Ranks.{ranked-is}
-use Rattle.vkg_order.proofs.ranked.ranked.Goals as goal
+use Rattle.vkg_order.proofs.solutions.ranked.Goals as goal
 
 pub returns : goal.returns
 returns c =

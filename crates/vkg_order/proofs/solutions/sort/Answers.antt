@@ -4,7 +4,7 @@ use Rattle.std.proofs.lemmas.Fn.{always_returns_same}
 use Rattle.std.proofs.lemmas.List.Sorted.{ranks_by}
 use Rattle.vkg_order.specs.Ranked.{Found, found_cmp}
 use Rattle.vkg_order.proofs.Ranks.{found-total}
-use Rattle.vkg_order.proofs.ranked.sort.Goals as goal
+use Rattle.vkg_order.proofs.solutions.sort.Goals as goal
 
 pub returns-clause-sorted : goal.returns-clause-sorted
 returns-clause-sorted c =
