@@ -1,7 +1,7 @@
 -- A row's cells as the terms of its solution, and what is written of rows.
-use Rattle.std.proofs.Common.{◌≡◌, ◌∙◌, ◌==◌, ℕ, Bool, not, List, [], ◌∷◌, codes, length, map, take, drop, refl, sym, ap, subst}
+use Rattle.std.proofs.Common.{◌≡◌, ◌∙◌, ◌==◌, ℕ, ◌<◌, Bool, false, not, List, [], ◌∷◌, codes, length, map, take, drop, refl, sym, ap, subst, arith}
 use Rattle.std.specs.Prelude.{IfOk, Result, if◌then◌else◌}
-use Rattle.std.proofs.lemmas.Result.{IfOk-weaker}
+use Rattle.std.proofs.lemmas.Bool.Decides.{nat_tests}
 use Rattle.std.proofs.lemmas.List.{drop-map}
 use Rattle.std.specs.List.{take-map}
 use Rattle.vkg_base.specs.declared.memory.Memory.{Memory}
@@ -50,9 +50,12 @@ pub found_all : (query : Query) (width : ℕ) → width ≡ length (selected_var
 found_all query width e rows =
     ap (λ n. map (λ row. found_of n (row_solution row)) rows) e ∙ sym (map-map (found_of (length (selected_variables query))) row_solution rows)
 
+not_zero : (n : ℕ) → 0 < n → (n == 0) ≡ false
+not_zero n h = grind (arith, nat_tests)
+
 pub some_row : (rows : List Row) → not (length rows == 0) ≡ has_solution (map row_solution rows)
 some_row [] = refl
-some_row (row ∷ rows) = refl
+some_row (row ∷ rows) = ap not (not_zero (length (row ∷ rows)) (omega arith))
 
 -- ---- what is written, by the form of the query
 
