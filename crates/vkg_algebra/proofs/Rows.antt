@@ -2,6 +2,7 @@
 use Rattle.std.specs.Prelude.{◌≡◌, true, false, List, ℕ, [], ◌∷◌, Option, Some, None, codes, refl}
 use Rattle.std.specs.Str.{chars}
 use Rattle.std.specs.Char.{encode_utf8}
+use Rattle.std.specs.Fmt.{digits}
 use Rattle.vkg_terms.specs.declared.term.Term.{Term}
 use Rattle.vkg_values.specs.declared.operator.Compare.TheVariants as asks
 use Rattle.vkg_sparql.specs.declared.pattern.Node.TheVariants.{Variable, Label, Fixed}
@@ -321,24 +322,24 @@ staff_answer : answer (construct_query staff_template) dataset
     ∷ codes "_:c1_1 <http://e/n> \"Ann\" ."
     ∷ codes "_:c2_1 <http://e/n> \"Bo\" ."
     ∷ codes "_:c3_1 <http://e/n> \"Ann\" ." ∷ []
-unfolding opened ranked
+unfolding opened ranked digits
 staff_answer = refl
 
 -- the same with LIMIT 1, and with OFFSET 1: solutions are numbered behind it
 first_answer : answer (record (construct_query staff_template) { slice = record { offset = 0; limit = Some 1 } }) dataset
     ≡ codes "<http://e/dept/id=1> <http://e/staff> _:c1_1 ." ∷ codes "_:c1_1 <http://e/n> \"Ann\" ." ∷ []
-unfolding opened ranked
+unfolding opened ranked digits
 first_answer = refl
 
 second_answer : answer (record (construct_query staff_template) { slice = record { offset = 1; limit = Some 1 } }) dataset ≡ codes "_:c1_1 <http://e/n> \"Bo\" ." ∷ []
-unfolding opened ranked
+unfolding opened ranked digits
 second_answer = refl
 
 -- names as subjects: CONSTRUCT { ?n <e:p> ?e } { .. }; and a constant triple, which is one line
 literal_subjects : answer (construct_query (pattern (Variable 1) (Fixed (e (codes "p"))) (Variable 0) ∷ [])) dataset ≡ []
-unfolding opened ranked
+unfolding opened ranked digits
 literal_subjects = refl
 
 one_line : answer (construct_query (pattern (Fixed (e (codes "s"))) (Fixed (e (codes "p"))) (Fixed (e (codes "o"))) ∷ [])) dataset ≡ codes "<http://e/s> <http://e/p> <http://e/o> ." ∷ []
-unfolding opened ranked
+unfolding opened ranked digits
 one_line = refl
