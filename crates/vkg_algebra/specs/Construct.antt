@@ -1,5 +1,5 @@
 -- SPARQL 1.1, 16.2: the graph that the template of a CONSTRUCT makes of solutions.
-use Rattle.std.specs.Prelude.{ℕ, suc, Bool, true, false, ◌&&◌, List, [], ◌∷◌, ◌++◌, codes, decimal, flat_map, map, nat_eq, Option, Some, None, if◌then◌else◌}
+use Rattle.std.specs.Prelude.{ℕ, ◌+◌, Bool, true, false, ◌&&◌, List, [], ◌∷◌, ◌++◌, codes, decimal, flat_map, map, nat_eq, Option, Some, None, if◌then◌else◌}
 use Rattle.std.specs.List.{enumerate_from, position_or_len}
 use Rattle.vkg_lists.specs.Ascending.{ascending_once}
 use Rattle.vkg_terms.specs.declared.term.Term.{Term}
@@ -34,7 +34,7 @@ term_of vs s v = if has vs v then lookup s (position_or_len (nat_eq v) vs) else 
 -- 16.2, 16.2.1: a place of the template in the n-th solution, where a blank node is another one in each solution
 abbrev pub filled : List ℕ → List ℕ → ℕ → Solution → Node → Option Term
 filled vs ls n s (node.Variable v) = term_of vs s v
-filled vs ls n s (node.Label l) = Some (Blank (made_label n (suc (position_or_len (nat_eq l) ls))))
+filled vs ls n s (node.Label l) = Some (Blank (made_label n (position_or_len (nat_eq l) ls + 1)))
 filled vs ls n s (node.Fixed t) = Some t
 
 -- RDF 1.1 Concepts, 3.1: the subject of a triple is an IRI or a blank node

@@ -1,5 +1,5 @@
 // The graph that the template of a CONSTRUCT makes of solutions (SPARQL 1.1, 16.2).
-ghost use Rattle.std.specs.Prelude.{◌≡◌, ◌&&◌, ◌+◌, ◌++◌, [], ◌∷◌, IfOk, OnOk, decimal, flat_map, if◌then◌else◌, map, nat_eq, string_bytes, suc};
+ghost use Rattle.std.specs.Prelude.{◌≡◌, ◌&&◌, ◌+◌, ◌++◌, [], ◌∷◌, IfOk, OnOk, decimal, flat_map, if◌then◌else◌, map, nat_eq, string_bytes};
 ghost use Rattle.std.specs.List.{enumerate_from, position_or_len};
 ghost use Rattle.vkg_lists.specs.Ascending.{ascending_once};
 ghost use Rattle.vkg_terms.specs.NQuads.{line};
@@ -179,12 +179,16 @@ fn push_filled(
 ) -> Result<(), Memory>
     ensures { OnOk result (out.new ≡ out.old ++ map line (triple_if subject.now predicate.now object.now)) }
 {
-    match (subject, predicate, object) {
-        (Some(subject), Some(predicate), Some(object)) => {
-            push_if_triple(alloc, out, subject, predicate, object)
-        }
-        _ => Ok(()),
-    }
+    let Some(subject) = subject else {
+        return Ok(());
+    };
+    let Some(predicate) = predicate else {
+        return Ok(());
+    };
+    let Some(object) = object else {
+        return Ok(());
+    };
+    push_if_triple(alloc, out, subject, predicate, object)
 }
 
 fn push_if_triple(
@@ -278,7 +282,7 @@ fn place(numbers: &[usize], number: usize) -> usize
 
 /// The label of a blank node of the template, before which so many others appear, in a solution.
 fn made_label(alloc: Global, number: u128, before: usize) -> Result<Text, Memory>
-    ensures { IfOk result (λ t. t ≡ made_label number (suc before)) }
+    ensures { IfOk result (λ t. t ≡ made_label number (before + 1)) }
 {
     let mut text = String::from_str(alloc, "c")?;
     push_number(&mut text, number)?;
