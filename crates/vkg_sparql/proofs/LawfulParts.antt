@@ -1,5 +1,5 @@
 -- What a tree of the grammar of queries names is numbered, and its terms are narrow, where its tokens are so.
-use Rattle.std.proofs.Common.{◌≡◌, ℕ, Bool, true, false, List, [], ◌∷◌, ◌++◌, fold, map, flat_map, Option, Some, None, refl, sym, subst}
+use Rattle.std.proofs.Common.{◌≡◌, ℕ, Bool, true, false, List, [], ◌∷◌, ◌++◌, fold, map, flat_map, Option, refl, sym, subst}
 use Rattle.std.specs.List.{AllByRecursion}
 use Rattle.vkg_lists.proofs.Members.{recursion_append, recursion_left, recursion_right}
 use Rattle.vkg_grammar.specs.Trees.{Tree, pair, first, second, present}

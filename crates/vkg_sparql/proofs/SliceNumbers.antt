@@ -1,5 +1,5 @@
 -- The number of a slice: what `parse` makes of its digits, and that it is no number of too many digits.
-use Rattle.std.proofs.Common.{◌≡◌, ◌∙◌, ℕ, ◌+◌, ◌*◌, ◌^◌, ◌<◌, ◌≤◌, suc, Bool, true, false, List, [], ◌∷◌, Option, Some, None, Result, Ok, Err, codes, length, nat_lt, ◌&&◌, ◌==◌, if◌then◌else◌, refl, sym, ap, subst, arith, add-zero, zero, lit<, lit≤, true≢false, eqb-true}
+use Rattle.std.proofs.Common.{◌≡◌, ◌∙◌, ℕ, ◌+◌, ◌*◌, ◌^◌, ◌<◌, ◌≤◌, suc, Bool, true, false, List, [], ◌∷◌, Some, None, Result, Ok, Err, codes, length, nat_lt, ◌&&◌, ◌==◌, if◌then◌else◌, refl, sym, ap, subst, arith, add-zero, zero, lit<, lit≤, true≢false, eqb-true}
 use Rattle.std.specs.Prelude.{is_some}
 use Rattle.std.specs.Bool.{then_some}
 use Rattle.std.specs.Char.{digit_value, is_ascii_digit}
@@ -8,7 +8,7 @@ use Rattle.std.specs.List.{after_first, before_first, list_all}
 use Rattle.std.specs.Result.{result_ok}
 use Rattle.std.specs.Str.Parse.{AllDigits, ParsesUnsigned, digits_value, digits_value_after}
 use Rattle.std.proofs.Math.Nat.{mul-le-mul_right, mul_assoc, pow-le-pow_right, pow-succ'}
-use Rattle.std.proofs.lemmas.Bool.{and_right, eqb-false, le-ltb, lt-ltb, ltb-true}
+use Rattle.std.proofs.lemmas.Bool.{and_right, eqb-false, lt-ltb, ltb-true}
 use Rattle.std.proofs.lemmas.Str.{digit_value_digit}
 use Rattle.std.proofs.lemmas.Str.Parse.{IsNumeralModel, numerals_by_value, parse_digits, tells_digits}
 use Rattle.vkg_cells.specs.Number.{fraction, is_digits, unsigned, whole, width, without_leading_zeros, without_trailing_zeros}

@@ -24,11 +24,11 @@ parts_step ms before q r u v h k = rw (q, r, u, k, h, v) (simp append_assoc)
 
 -- the same of what is visible
 module _ (ms : List Meaning) (xs : List Lexeme) where
-  pub group_scope_step : {outer begun after all : Scope} {t w b d e m r : Tree} → t ≡ pair w b → b ≡ pair d e → e ≡ pair m r → begun ≡ inside outer → after ≡ with_triples ms begun (block_triples d) → all ≡ parts_scope ms xs after m → all ≡ group_scope ms xs outer t
-  group_scope_step q u v h k l = rw (q, u, v, l, k, h) refl
+  pub group_scope_step : (outer : Scope) {begun after all : Scope} {t w b d e m r : Tree} → t ≡ pair w b → b ≡ pair d e → e ≡ pair m r → begun ≡ inside outer → after ≡ with_triples ms begun (block_triples d) → all ≡ parts_scope ms xs after m → all ≡ group_scope ms xs outer t
+  group_scope_step outer q u v h k l = rw (q, u, v, l, k, h) refl
 
-  pub parts_scope_step : {before one all : Scope} {t s m p e d b : Tree} → t ≡ pair s m → s ≡ pair p e → e ≡ pair d b → one ≡ part_scope ms xs before p → all ≡ with_triples ms one (block_triples b) → parts_scope ms xs all m ≡ parts_scope ms xs before t
-  parts_scope_step q u v h k = rw (q, u, v, k, h) refl
+  pub parts_scope_step : (before : Scope) {one all : Scope} {t s m p e d b : Tree} → t ≡ pair s m → s ≡ pair p e → e ≡ pair d b → one ≡ part_scope ms xs before p → all ≡ with_triples ms one (block_triples b) → parts_scope ms xs all m ≡ parts_scope ms xs before t
+  parts_scope_step before q u v h k = rw (q, u, v, k, h) refl
 
-  pub groups_scope_step : {before inner all : Scope} {t s m w g : Tree} → t ≡ pair s m → s ≡ pair w g → inner ≡ group_scope ms xs before g → all ≡ joined before inner → groups_scope ms xs all m ≡ groups_scope ms xs before t
-  groups_scope_step q u h k = rw (q, u, k, h) refl
+  pub groups_scope_step : (before : Scope) {inner all : Scope} {t s m w g : Tree} → t ≡ pair s m → s ≡ pair w g → inner ≡ group_scope ms xs before g → all ≡ joined before inner → groups_scope ms xs all m ≡ groups_scope ms xs before t
+  groups_scope_step before q u h k = rw (q, u, k, h) refl

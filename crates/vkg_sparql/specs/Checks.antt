@@ -1,5 +1,5 @@
 -- What may be wrong with a query that is a text of the grammar.
-use Rattle.std.specs.Prelude.{ℕ, Bool, false, ◌||◌, ◌&&◌, not, List, [], ◌∷◌, ◌++◌, codes, filter, fold, map, position, slice_get, Option, Some, None, option_and_then, option_map, if◌then◌else◌, ◌==◌, nat_le, nat_lt, is_none, is_some}
+use Rattle.std.specs.Prelude.{ℕ, Bool, false, ◌||◌, ◌&&◌, not, List, [], ◌∷◌, ◌++◌, codes, fold, position, slice_get, Option, Some, None, option_and_then, option_map, if◌then◌else◌, ◌==◌, nat_lt, is_none, is_some}
 use Rattle.std.specs.Str.{bytes_eq}
 use Rattle.indexmap.specs.IndexSet.{insert_key}
 use Rattle.vkg_lists.specs.Places.{earlier}
