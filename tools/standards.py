@@ -25,6 +25,7 @@ STANDARDS = [  # as a comment names it, as it is printed; the first that fits co
     (r"R2RML", "R2RML: RDB to RDF Mapping Language"),
     (r"(?:A )?Direct Mapping(?: of Relational Data to RDF)?", "A Direct Mapping of Relational Data to RDF"),
     (r"RDF 1\.1 N-Quads", "RDF 1.1 N-Quads"),
+    (r"RDF 1\.1 N-Triples", "RDF 1.1 N-Triples"),
     (r"(?:RDF 1\.1 )?Turtle", "RDF 1.1 Turtle"),
     (r"RDF 1\.1 Concepts", "RDF 1.1 Concepts and Abstract Syntax"),
     (r"XML Schema 1\.1 Part 2", "XML Schema 1.1 Part 2: Datatypes"),

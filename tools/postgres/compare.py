@@ -125,10 +125,10 @@ class Tables:
             self.comparison.differ(name, one[0], one[1], Ending(0, one[3]), Ending(1, "", f"{refused.code} at {refused.place}"))
 
 
-def has_distinct(query):
-    """Whether the file of a query may have the word DISTINCT."""
+def has_word(query, words):
+    """Whether the file of a query may have one of these words."""
     with open(query, "rb") as file:
-        return re.search(rb"(?i)\bDISTINCT\b", file.read()) is not None
+        return re.search(rb"(?i)\b(" + words + rb")\b", file.read()) is not None
 
 
 def asked_of(comparison, words, folder):
@@ -141,7 +141,11 @@ def asked_of(comparison, words, folder):
     plan = comparison.call(["sql", *words[1:place], *words[place + 2 :]], folder)
     if plan is None:
         return None
-    if is_ordered(plan.output) and has_distinct(os.path.join(folder, words[words.index("--query") + 1])):
+    query = os.path.join(folder, words[words.index("--query") + 1])
+    if has_word(query, rb"ASK|CONSTRUCT"):
+        comparison.count("queries of ASK and CONSTRUCT, which write no rows")
+        return None
+    if is_ordered(plan.output) and has_word(query, b"DISTINCT"):
         comparison.count("queries with DISTINCT and ORDER BY, whose lines the plan alone does not tell")
         return None
     return words, folder, plan.output, answer.output.partition("\n")[2]

@@ -8,6 +8,7 @@ use Rattle.vkg_terms.specs.Vocabulary.{xsd, rdf_type}
 use Rattle.vkg_sparql.specs.declared.pattern.Node.{Node}
 use Rattle.vkg_sparql.specs.declared.pattern.Node.TheVariants.{Variable, Fixed}
 use Rattle.vkg_sparql.specs.declared.pattern.TriplePattern.{TriplePattern}
+use Rattle.vkg_sparql.specs.declared.query.Form.TheVariants.{Select}
 use Rattle.vkg_sparql.specs.declared.query.Selected.TheVariants.{Listed}
 use Rattle.vkg_sparql.specs.Orders.{no_slice}
 use Rattle.vkg_sparql.specs.Query.{Part, Query}
@@ -73,4 +74,4 @@ abbrev pub has_title : TriplePattern
 has_title = pattern (Variable 2) (Fixed (e (codes "dept#title"))) (Variable 3)
 
 abbrev pub select : List ℕ → List Part → Query
-select vs parts = record { names = names; distinct = false; selected = Listed vs; group = group_of parts; keys = []; slice = no_slice }
+select vs parts = record { names = names; form = Select; distinct = false; selected = Listed vs; group = group_of parts; keys = []; slice = no_slice }

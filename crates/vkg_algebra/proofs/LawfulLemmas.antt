@@ -9,7 +9,7 @@ use Rattle.vkg_sparql.specs.declared.pattern.Node.TheVariants as node
 use Rattle.vkg_sparql.specs.declared.pattern.TriplePattern.{TriplePattern}
 use Rattle.vkg_sparql.specs.Query.{Condition, And, Part, Triples, Graph, Groups, Minus, Values, Bind, Group, End, Then, Unions, Last, Union, Query}
 use Rattle.vkg_sparql.specs.Query as query
-use Rattle.vkg_sparql.specs.Lawful.{IsLawful, IsLawfulQuery, condition_nodes, group_nodes, keys_nodes, name_node, part_nodes, pattern_nodes, patterns_nodes, query_nodes, rows_nodes, selected_nodes, unions_nodes}
+use Rattle.vkg_sparql.specs.Lawful.{form_nodes, IsLawful, IsLawfulQuery, condition_nodes, group_nodes, keys_nodes, name_node, part_nodes, pattern_nodes, patterns_nodes, query_nodes, rows_nodes, selected_nodes, unions_nodes}
 use Rattle.vkg_algebra.specs.Algebra.{Algebra, Bgp, Join, LeftJoin, Table, Extend}
 use Rattle.vkg_algebra.specs.Algebra as algebra
 use Rattle.vkg_algebra.specs.Lawful.{IsLawfulAlgebra, algebra_nodes, condition_nodes_if_any}
@@ -174,7 +174,7 @@ mutual
   within_united (Union g more) a = along (append_assoc (algebra_nodes a) (group_nodes g) (unions_nodes more)) (then (within_united more (algebra.Union a (group_algebra (elements g)))) (beside (beside (itself (algebra_nodes a)) (then (within_group (elements g)) (within_elements g))) (itself (unions_nodes more))))
 
 within_query : (q : Query) → Within (algebra_nodes (algebra_of q)) (query_nodes q)
-within_query q = then (within_simplified (group_algebra (elements q.group))) (then (within_group (elements q.group)) (then (within_elements q.group) (then (left (group_nodes q.group) (keys_nodes q.keys)) (right (selected_nodes q.selected) (group_nodes q.group ++ keys_nodes q.keys)))))
+within_query q = then (within_simplified (group_algebra (elements q.group))) (then (within_group (elements q.group)) (then (within_elements q.group) (then (left (group_nodes q.group) (keys_nodes q.keys)) (then (right (selected_nodes q.selected) (group_nodes q.group ++ keys_nodes q.keys)) (right (form_nodes q.form) (selected_nodes q.selected ++ (group_nodes q.group ++ keys_nodes q.keys)))))))
 
 -- the algebra of a lawful query is lawful
 pub lawful_algebra : (q : Query) → IsLawfulQuery q → IsLawfulAlgebra (length q.names) (algebra_of q)

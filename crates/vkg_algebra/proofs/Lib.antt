@@ -1,9 +1,12 @@
 pub mod CardLemmas
 pub mod Data
+pub mod Forms
+pub mod Graphs
 pub mod InstanceLemmas
 pub mod LawfulLemmas
 pub mod LineLemmas
 pub mod MapLemmas
+pub mod Numbered
 pub mod PatternLemmas
 pub mod Rows
 pub mod Translations

@@ -2,16 +2,20 @@
 use Rattle.std.specs.Prelude.{◌≡◌, true, false, List, ℕ, [], ◌∷◌, Option, Some, None, codes, refl}
 use Rattle.std.specs.Str.{chars}
 use Rattle.std.specs.Char.{encode_utf8}
+use Rattle.std.specs.Fmt.{digits}
 use Rattle.vkg_terms.specs.declared.term.Term.{Term}
 use Rattle.vkg_values.specs.declared.operator.Compare.TheVariants as asks
-use Rattle.vkg_sparql.specs.declared.pattern.Node.TheVariants.{Variable, Fixed}
+use Rattle.vkg_sparql.specs.declared.pattern.Node.TheVariants.{Variable, Label, Fixed}
 use Rattle.vkg_sparql.specs.declared.pattern.GraphName.TheVariants.{Each, Named}
+use Rattle.vkg_sparql.specs.declared.pattern.TriplePattern.{TriplePattern}
+use Rattle.vkg_sparql.specs.declared.query.Form.TheVariants.{Select, Ask, Construct}
 use Rattle.vkg_sparql.specs.declared.query.Selected.TheVariants.{All, Listed}
 use Rattle.vkg_sparql.specs.Orders.{no_slice}
-use Rattle.vkg_sparql.specs.Query.{Condition, Key, Constant, Bound, Compare, Triples, Filter, Optional, Graph, Groups, Minus, Values, Bind, Group, End, Last, Union, Query}
+use Rattle.vkg_sparql.specs.Query.{Condition, Part, Key, Constant, Bound, Compare, Triples, Filter, Optional, Graph, Groups, Minus, Values, Bind, Group, End, Last, Union, Query}
 use Rattle.vkg_sparql.specs.Query as expression
 use Rattle.vkg_sparql.specs.Seen.{group_of}
 use Rattle.vkg_order.specs.Listed.{listed}
+use Rattle.vkg_order.specs.Ranked.{ranked}
 use Rattle.vkg_order.specs.Values.{value_cmp}
 use Rattle.vkg_algebra.specs.Algebra.{Bgp, Join, LeftJoin, Table, Extend}
 use Rattle.vkg_algebra.specs.Algebra as algebra
@@ -109,7 +113,7 @@ value_answer = refl
 
 -- SELECT * {}: one solution, without variables
 abbrev empty_query : Query
-empty_query = record { names = []; distinct = false; selected = All; group = End; keys = []; slice = no_slice }
+empty_query = record { names = []; form = Select; distinct = false; selected = All; group = End; keys = []; slice = no_slice }
 
 empty_algebra : algebra_of empty_query ≡ Bgp []
 empty_algebra = refl
@@ -147,7 +151,7 @@ one_graph =
     ∷ quad (e (codes "g/1")) (e (codes "emp/9")) (e (codes "name")) (plain (codes "Ann")) ∷ []
 
 abbrev graph_query : Query
-graph_query = record { names = codes "g" ∷ codes "s" ∷ codes "p" ∷ codes "o" ∷ []; distinct = false; selected = Listed (0 ∷ []); group = End; keys = []; slice = no_slice }
+graph_query = record { names = codes "g" ∷ codes "s" ∷ codes "p" ∷ codes "o" ∷ []; form = Select; distinct = false; selected = Listed (0 ∷ []); group = End; keys = []; slice = no_slice }
 
 -- SELECT ?g { GRAPH ?g {} }: one solution a name
 names_of_graphs : answer (record graph_query { group = group_of (Graph (Each 0) End ∷ []) }) one_graph ≡ codes "?g" ∷ codes "<http://e/g/1>" ∷ []
@@ -292,3 +296,50 @@ bind_in_optional_answer = refl
 minus_in_graph : answer (record graph_query { selected = Listed (1 ∷ []); group = group_of (Graph (Each 0) (group_of (Triples (pattern (Variable 1) (Variable 2) (Variable 3) ∷ []) ∷ Minus (group_of (Triples (pattern (Fixed (e (codes "emp/7"))) (Variable 2) (Variable 1) ∷ []) ∷ [])) ∷ [])) ∷ []) }) one_graph ≡ codes "?s" ∷ codes "<http://e/emp/7>" ∷ codes "<http://e/emp/9>" ∷ []
 unfolding opened listed
 minus_in_graph = refl
+
+-- ASK { ?e <e:emp#name> "Bo" } and ASK { ?s <e:emp#dept> 01 }
+abbrev pub ask : List Part → Query
+ask parts = record (select [] parts) { form = Ask }
+
+is_named_bo : answer (ask (Triples (pattern (Variable 0) (Fixed (e (codes "emp#name"))) (Fixed (plain (codes "Bo"))) ∷ []) ∷ [])) dataset ≡ codes "true" ∷ []
+unfolding opened
+is_named_bo = refl
+
+is_in_01 : answer (ask (Triples (pattern (Variable 0) (Fixed (e (codes "emp#dept"))) (Fixed (int (codes "01"))) ∷ []) ∷ [])) dataset ≡ codes "false" ∷ []
+unfolding opened
+is_in_01 = refl
+
+-- CONSTRUCT { ?d <e:staff> [ <e:n> ?n ] } { ?e <e:emp#name> ?n OPTIONAL { ?e <e:emp#ref-dept> ?d } }, where the blank node is 4
+abbrev staff_template : List TriplePattern
+staff_template = pattern (Variable 2) (Fixed (e (codes "staff"))) (Label 4) ∷ pattern (Label 4) (Fixed (e (codes "n"))) (Variable 1) ∷ []
+
+abbrev construct_query : List TriplePattern → Query
+construct_query ts = record optional_query { form = Construct ts; selected = All }
+
+staff_answer : answer (construct_query staff_template) dataset
+    ≡ codes "<http://e/dept/id=1> <http://e/staff> _:c1_1 ."
+    ∷ codes "<http://e/dept/id=1> <http://e/staff> _:c3_1 ."
+    ∷ codes "_:c1_1 <http://e/n> \"Ann\" ."
+    ∷ codes "_:c2_1 <http://e/n> \"Bo\" ."
+    ∷ codes "_:c3_1 <http://e/n> \"Ann\" ." ∷ []
+unfolding opened ranked digits
+staff_answer = refl
+
+-- the same with LIMIT 1, and with OFFSET 1: solutions are numbered behind it
+first_answer : answer (record (construct_query staff_template) { slice = record { offset = 0; limit = Some 1 } }) dataset
+    ≡ codes "<http://e/dept/id=1> <http://e/staff> _:c1_1 ." ∷ codes "_:c1_1 <http://e/n> \"Ann\" ." ∷ []
+unfolding opened ranked digits
+first_answer = refl
+
+second_answer : answer (record (construct_query staff_template) { slice = record { offset = 1; limit = Some 1 } }) dataset ≡ codes "_:c1_1 <http://e/n> \"Bo\" ." ∷ []
+unfolding opened ranked digits
+second_answer = refl
+
+-- names as subjects: CONSTRUCT { ?n <e:p> ?e } { .. }; and a constant triple, which is one line
+literal_subjects : answer (construct_query (pattern (Variable 1) (Fixed (e (codes "p"))) (Variable 0) ∷ [])) dataset ≡ []
+unfolding opened ranked digits
+literal_subjects = refl
+
+one_line : answer (construct_query (pattern (Fixed (e (codes "s"))) (Fixed (e (codes "p"))) (Fixed (e (codes "o"))) ∷ [])) dataset ≡ codes "<http://e/s> <http://e/p> <http://e/o> ." ∷ []
+unfolding opened ranked digits
+one_line = refl

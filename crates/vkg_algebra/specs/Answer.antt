@@ -1,5 +1,5 @@
 -- The answer to a query over a dataset, as lines (SPARQL 1.1 Query Results CSV and TSV Formats, 4).
-use Rattle.std.specs.Prelude.{ℕ, Bool, List, [], ◌∷◌, ◌++◌, map, length, take, drop, slice_get, Option, Some, None, if◌then◌else◌}
+use Rattle.std.specs.Prelude.{ℕ, Bool, true, false, List, [], ◌∷◌, ◌++◌, codes, map, length, take, drop, slice_get, Option, Some, None, if◌then◌else◌}
 use Rattle.std.specs.List.{join_with_byte}
 use Rattle.std.specs.Option.{option_eq}
 use Rattle.std.specs.Cmp.Lexicographic.{pointwise}
@@ -7,6 +7,8 @@ use Rattle.vkg_lists.specs.Sets.{distinct}
 use Rattle.vkg_terms.specs.declared.term.Term.{Term}
 use Rattle.vkg_terms.specs.Same.{term_eq}
 use Rattle.vkg_terms.specs.NQuads.{term_text}
+use Rattle.vkg_sparql.specs.declared.query.Form.{Form}
+use Rattle.vkg_sparql.specs.declared.query.Form.TheVariants.{Select, Ask, Construct}
 use Rattle.vkg_sparql.specs.declared.query.Selected.{Selected}
 use Rattle.vkg_sparql.specs.declared.query.Selected.TheVariants.{All, Listed}
 use Rattle.vkg_sparql.specs.Query.{Key, Query}
@@ -15,6 +17,8 @@ use Rattle.vkg_order.specs.declared.modifiers.Direction.TheVariants.{Ascending, 
 use Rattle.vkg_order.specs.declared.modifiers.Modifiers.{Modifiers}
 use Rattle.vkg_order.specs.Entries.{Entry}
 use Rattle.vkg_order.specs.Listed.{listed}
+use Rattle.vkg_order.specs.Ranked.{Found, ranked}
+use Rattle.vkg_algebra.specs.Construct.{graph_lines}
 use Rattle.vkg_algebra.specs.Solutions.{Solution, lookup}
 use Rattle.vkg_algebra.specs.Evaluation.{Dataset, evaluate}
 use Rattle.vkg_algebra.specs.Visible.{visible, each_once}
@@ -93,6 +97,37 @@ entry_of query s = record { keys = key_values query.keys s; line = solution_line
 abbrev pub solution_entry : ℕ → Solution → Entry
 solution_entry n s = record { keys = drop n s; line = solution_line (take n s) }
 
--- the header, then the solutions' lines in the asked order; where nothing is asked, in that of their bytes
+-- a solution with its entry, of so many variables and the values of the keys behind them
+abbrev pub found_of : ℕ → Solution → Found
+found_of n s = record { entry = solution_entry n s; terms = s }
+
+-- SPARQL 1.1, 18.2.5: the solutions in the asked order, and of them the slice
+abbrev pub ordered : Query → List Solution → List Solution
+ordered query ss = ranked (modifiers_of query) (map (found_of (length (selected_variables query))) ss)
+
+-- SPARQL 1.1, 16.3: whether there is a solution
+abbrev pub has_solution : List Solution → Bool
+has_solution [] = false
+has_solution (s ∷ ss) = true
+
+abbrev pub asked : List Solution → List ℕ
+asked ss = if has_solution ss then codes "true" else codes "false"
+
+-- SPARQL 1.1, 16: of SELECT the header, then the solutions' lines in the asked order, or where nothing is asked in that of their bytes; of ASK
+-- one word; of CONSTRUCT the graph that the template makes of the ordered solutions
+abbrev pub form_answer : Query → Form → Dataset → List (List ℕ)
+form_answer query Select dataset = header query ∷ listed (modifiers_of query) (map (entry_of query) (matches_of query dataset))
+form_answer query Ask dataset = asked (matches_of query dataset) ∷ []
+form_answer query (Construct template) dataset = graph_lines template (selected_variables query) (ordered query (solutions_of query dataset))
+
 abbrev pub answer : Query → Dataset → List (List ℕ)
-answer query dataset = header query ∷ listed (modifiers_of query) (map (entry_of query) (matches_of query dataset))
+answer query dataset = form_answer query query.form dataset
+
+-- the same of what a plan gives, in any order
+abbrev pub form_lines : Query → Form → List Solution → List (List ℕ)
+form_lines query Select ss = header query ∷ listed (modifiers_of query) (map (solution_entry (length (selected_variables query))) ss)
+form_lines query Ask ss = asked ss ∷ []
+form_lines query (Construct template) ss = graph_lines template (selected_variables query) (ordered query ss)
+
+abbrev pub solutions_lines : Query → List Solution → List (List ℕ)
+solutions_lines query ss = form_lines query query.form ss

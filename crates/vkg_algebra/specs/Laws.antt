@@ -1,9 +1,14 @@
 -- What the definitions say, in the words of the standard.
-use Rattle.std.specs.Prelude.{◌≡◌, ◌↔◌, ◌⊎◌, ℕ, ◌<◌, ◌+◌, Bool, ◌&&◌, IsTrue, IsSome, List, [], ◌∷◌, ◌++◌, flat_map, length, Contains, Option, Some, if◌then◌else◌}
+use Rattle.std.specs.Prelude.{◌≡◌, ◌↔◌, ◌⊎◌, ℕ, ◌<◌, ◌+◌, Bool, ◌&&◌, IsTrue, IsSome, List, [], ◌∷◌, ◌++◌, flat_map, length, map, Contains, Option, Some, None, if◌then◌else◌}
 use Rattle.std.specs.List.{IsDistinct, count_by, sum_by}
+use Rattle.std.specs.List.Sorted.{IsStrictlySortedBy}
 use Rattle.std.specs.Option.{option_or}
+use Rattle.vkg_lists.specs.Sets.{HasSameMembers}
+use Rattle.vkg_lists.specs.Texts.{bytes_cmp}
 use Rattle.vkg_terms.specs.declared.term.Term.{Term}
-use Rattle.vkg_terms.specs.NQuads.{Quad}
+use Rattle.vkg_terms.specs.declared.term.Term.TheVariants.{Iri, Lit}
+use Rattle.vkg_terms.specs.declared.term.Annotation.{Annotation}
+use Rattle.vkg_terms.specs.NQuads.{Quad, line}
 use Rattle.vkg_terms.specs.Writable.{IsWritable}
 use Rattle.vkg_maps.specs.Dataset.{quad_eq}
 use Rattle.vkg_sparql.specs.declared.pattern.Node.{Node}
@@ -109,3 +114,15 @@ AreBelow n ps = (v : ℕ) → Contains (flat_map pattern_numbers ps) v → v < n
 -- RDF 1.1 N-Quads, 4: every term that is bound holds only what may stand in it
 abbrev pub BindsWritable : Solution → Type 0
 BindsWritable s = (v : ℕ) (t : Term) → lookup s v ≡ Some t → IsWritable t
+
+-- RDF 1.1 Concepts, 3.1: the subject of a triple is no literal, and its predicate an IRI; a triple of no graph that has a name
+pub record IsTriple (q : Quad) : Type 0 where
+  pub subject : (text : List ℕ) (a : Annotation) → q.subject ≡ Lit text a → ⊥
+  pub predicate : (iri : List ℕ) × (q.predicate ≡ Iri iri)
+  pub graph : q.graph ≡ None
+
+-- RDF 1.1 N-Triples, 2: the line of each triple once, ascending by bytes, and no other line
+pub record IsGraph (triples : List Quad) (lines : List (List ℕ)) : Type 0 where
+  pub ascending : IsStrictlySortedBy bytes_cmp lines
+  pub each : HasSameMembers (map line triples) lines
+  pub are_triples : (q : Quad) → Contains triples q → IsTriple q

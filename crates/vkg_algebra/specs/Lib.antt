@@ -1,5 +1,6 @@
 pub mod Algebra
 pub mod Answer
+pub mod Construct
 pub mod Evaluation
 pub mod Lawful
 pub mod Laws

@@ -17,13 +17,15 @@ use Rattle.vkg_terms.specs.declared.term.Term.{Term}
 use Rattle.vkg_terms.specs.Same.{term_eq}
 use Rattle.vkg_schema.specs.Rows.{Database, Row}
 use Rattle.vkg_sparql.specs.declared.pattern.Node.TheVariants.{Fixed}
-use Rattle.vkg_sparql.specs.Lawful.{IsLawfulQuery, condition_nodes, group_nodes, keys_nodes, selected_nodes}
+use Rattle.vkg_sparql.specs.declared.query.Form.{Form}
+use Rattle.vkg_sparql.specs.declared.query.Form.TheVariants.{Select, Ask, Construct}
+use Rattle.vkg_sparql.specs.Lawful.{IsLawfulQuery, condition_nodes, form_nodes, group_nodes, keys_nodes, selected_nodes}
 use Rattle.vkg_sparql.specs.Query.{Key, Query}
 use Rattle.vkg_order.specs.Entries.{Entry}
 use Rattle.vkg_order.specs.Listed.{listed}
+use Rattle.vkg_algebra.proofs.Forms.{asked-map, asked-once, lines-bag}
 use Rattle.vkg_algebra.proofs.Repeats.{listed-once}
-use Rattle.vkg_order.proofs.Standing.{listed-bag}
-use Rattle.vkg_algebra.specs.Answer.{answer, entry_of, header, key_values, matches_of, modifiers_of, projected, selected_variables, solution_entry, solution_eq, solution_line, solutions_of, with_keys}
+use Rattle.vkg_algebra.specs.Answer.{answer, asked, entry_of, form_answer, form_lines, header, key_values, matches_of, modifiers_of, projected, selected_variables, solution_entry, solution_eq, solution_line, solutions_lines, solutions_of, with_keys}
 use Rattle.vkg_algebra.specs.Values.{expression_value}
 use Rattle.vkg_algebra.specs.Lawful.{IsLawfulAlgebra}
 use Rattle.vkg_algebra.specs.Solutions.{Solution, lookup}
@@ -42,7 +44,7 @@ use Rattle.vkg_unfolded.specs.declared.mode.Mode.TheVariants.{Default}
 use Rattle.vkg_unfolded.specs.Unfolded.{answer_columns, key_column, start_plan, unfolded, visible_column}
 use Rattle.vkg_unfolded.specs.StandsFor.{belongs, solution_of}
 use Rattle.vkg_unfolded.specs.FineRows.{IsNarrow, Meets}
-use Rattle.vkg_answers.specs.Answering.{GivesAnswer, GivesSolutions, row_entry, row_solution}
+use Rattle.vkg_answers.specs.Answering.{GivesAnswer, GivesSolutions, row_solution}
 use Rattle.vkg_answers.proofs.Reading.{AreBelow, AreTermCells, cells-cons, cells-map, cells-nil, is_term_cell, lookup-solution, read_typed}
 use Rattle.vkg_answers.proofs.Values.{IsNarrowCondition, Means, value_means}
 use Rattle.vkg_answers.proofs.Steps.{project_rows}
@@ -68,8 +70,9 @@ narrow_keys (k ∷ ks) h = (
 
 lawful_keys : (query : Query) → IsLawfulQuery query → NarrowKeys query.keys
 lawful_keys query lawful = narrow_keys query.keys (λ t c. lawful.within (Fixed t)
+    (Contains-append_right (form_nodes query.form) (selected_nodes query.selected ++ (group_nodes query.group ++ keys_nodes query.keys)) (Fixed t)
     (Contains-append_right (selected_nodes query.selected) (group_nodes query.group ++ keys_nodes query.keys) (Fixed t)
-    (Contains-append_right (group_nodes query.group) (keys_nodes query.keys) (Fixed t) c)))
+    (Contains-append_right (group_nodes query.group) (keys_nodes query.keys) (Fixed t) c))))
 
 module _ (n : ℕ) (vs : List ℕ) (below : AreBelow n vs) (row : Row) (cells : AreTermCells row) where
   key_means : (k : Key) → IsNarrowCondition k.condition → Means false (value_of (key_column vs k) row) (expression_value k.condition (solution_of n vs row))
@@ -183,12 +186,22 @@ module _ (schema : Tables) (rules : List RowRule) (query : Query) (db : Database
       of true e = listed-once (modifiers_of query) e solution_eq entry (λ s t h. ap entry ((solution_test.decides s t).0 h)) (map (with_keys query) found) ∙ plainly
       of false e = plainly
 
-  pub start_answer : (rows : List Row) → IsPermutation rows (rows_of schema (start_plan schema rules query) db) →
-      header query ∷ listed (modifiers_of query) (map (row_entry query) rows) ≡ answer query (dataset_of schema rules db)
-  start_answer rows p = ap (λ (ls : List (List ℕ)). header query ∷ ls)
-      (ap (listed (modifiers_of query)) (sym (map-map (solution_entry (length (selected_variables query))) row_solution rows))
-      ∙ listed-bag (modifiers_of query) _ _ (IsPermutation-map (solution_entry (length (selected_variables query))) _ _ (IsPermutation-trans _ _ _ (IsPermutation-map row_solution _ _ p) start_solutions))
-      ∙ entries_are)
+  -- whether there is a solution
+  asked_are : asked (solutions_of query (dataset_of schema rules db)) ≡ asked found
+  asked_are = of query.distinct
+    where
+      of : (b : Bool) → asked (if b then distinct solution_eq (map (with_keys query) found) else map (with_keys query) found) ≡ asked found
+      of true = asked-once (map (with_keys query) found) ∙ asked-map (with_keys query) found
+      of false = asked-map (with_keys query) found
+
+  -- what is written of the solutions that a plan gives is the answer, whatever the form
+  forms_are : (form : Form) → form_lines query form (solutions_of query (dataset_of schema rules db)) ≡ form_answer query form (dataset_of schema rules db)
+  forms_are Select = ap (λ (ls : List (List ℕ)). header query ∷ ls) entries_are
+  forms_are Ask = ap (λ (l : List ℕ). l ∷ []) asked_are
+  forms_are (Construct template) = refl
+
+  pub start_answer : (rows : List Row) → IsPermutation rows (rows_of schema (start_plan schema rules query) db) → solutions_lines query (map row_solution rows) ≡ answer query (dataset_of schema rules db)
+  start_answer rows p = lines-bag query _ _ (IsPermutation-trans _ _ _ (IsPermutation-map row_solution _ _ p) start_solutions) ∙ forms_are query.form
 
 pub gives_solutions : (schema : Tables) (rules : List RowRule) (query : Query) → IsLawfulQuery query → GivesSolutions (Meets schema rules) schema rules (start_plan schema rules query) query
 gives_solutions schema rules query lawful db meets = start_solutions schema rules query db (lawful_algebra query lawful) (lawful_keys query lawful) meets

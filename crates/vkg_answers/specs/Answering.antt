@@ -1,11 +1,10 @@
 -- When the rows of a plan are the answer to a query.
-use Rattle.std.specs.Prelude.{◌≡◌, ℕ, List, ◌∷◌, map, length}
+use Rattle.std.specs.Prelude.{◌≡◌, ℕ, List, map, length}
 use Rattle.std.specs.List.Sorted.{IsPermutation}
 use Rattle.vkg_schema.specs.Rows.{Database, Row}
 use Rattle.vkg_sparql.specs.Query.{Query}
 use Rattle.vkg_order.specs.Entries.{Entry}
-use Rattle.vkg_order.specs.Listed.{listed}
-use Rattle.vkg_algebra.specs.Answer.{answer, header, modifiers_of, selected_variables, solution_entry, solutions_of}
+use Rattle.vkg_algebra.specs.Answer.{answer, selected_variables, solution_entry, solutions_lines, solutions_of}
 use Rattle.vkg_algebra.specs.Solutions.{Solution}
 use Rattle.vkg_expr.specs.Value.{term_of}
 use Rattle.vkg_plan.specs.Kinds.{Tables}
@@ -27,8 +26,8 @@ abbrev pub GivesSolutions : (Database → Type 0) → Tables → List RowRule �
 GivesSolutions Meets schema rules plan query =
     (db : Database) → Meets db → IsPermutation (map row_solution (rows_of schema plan db)) (solutions_of query (dataset_of schema rules db))
 
--- and these rows in any order give the query's answer: behind the header their lines in the asked order
+-- and what is written of these rows, in any order, is the query's answer
 abbrev pub GivesAnswer : (Database → Type 0) → Tables → List RowRule → Plan → Query → Type 0
 GivesAnswer Meets schema rules plan query =
     (db : Database) → Meets db → (rows : List Row) → IsPermutation rows (rows_of schema plan db) →
-    header query ∷ listed (modifiers_of query) (map (row_entry query) rows) ≡ answer query (dataset_of schema rules db)
+    solutions_lines query (map row_solution rows) ≡ answer query (dataset_of schema rules db)

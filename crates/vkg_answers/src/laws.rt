@@ -23,7 +23,7 @@ pub fn start_plans()
     ensures { (schema : Tables) (rules : List RowRule) (query : Query) → IsLawfulQuery query → GivesSolutions (Meets schema rules) schema rules (start_plan schema rules query) query }
 {}
 
-/// The plan's rows in any order, as lines: they are the query's answer (SPARQL 1.1 Query Results CSV and TSV Formats, 4).
+/// The plan's rows in any order, as lines: they are the query's answer (SPARQL 1.1, 16; SPARQL 1.1 Query Results CSV and TSV Formats, 4).
 pub fn start_answers()
     ensures { (schema : Tables) (rules : List RowRule) (query : Query) → IsLawfulQuery query → GivesAnswer (Meets schema rules) schema rules (start_plan schema rules query) query }
 {}

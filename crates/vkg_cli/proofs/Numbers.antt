@@ -31,10 +31,12 @@ use Rattle.vkg_tables.specs.declared.load.TheConstants.{MOST_BYTES}
 use Rattle.vkg_turtle.specs.Reading.{IsFaultOf as IsTurtleFault, fault_if as turtle_if, fault_of as turtle_fault, lexical as turtle_lexical, too_deep as turtle_too_deep, no_text as turtle_no_text, no_document}
 use Rattle.vkg_turtle.specs.declared.document.Document.{Document}
 use Rattle.vkg_turtle.specs.declared.reading.TurtleFault.{TurtleFault}
-use Rattle.vkg_sparql.specs.Reading.{IsFaultOf as IsQueryFault, Read, fault_if as query_if, fault_of as query_fault, is_outside, limit_over, lexical as query_lexical, too_deep as query_too_deep, dead, cut_off, checked, kind_at}
+use Rattle.vkg_sparql.specs.Reading.{IsFaultOf as IsQueryFault, Read, fault_if as query_if, fault_of as query_fault, is_outside, limit_over, lexical as query_lexical, too_deep as query_too_deep, dead, cut_off, checked, kind_at, meanings}
 use Rattle.vkg_sparql.specs.declared.checks.Check.TheVariants.{Unknown, Relative, Float, Wide}
 use Rattle.vkg_sparql.specs.Checks.{first_place, label_again, slice_over}
 use Rattle.vkg_sparql.specs.declared.fault.QueryFault.{QueryFault}
+use Rattle.vkg_sparql.specs.declared.scopes.Scope.{Scope}
+use Rattle.vkg_sparql.specs.Scopes.{query_scope}
 use Rattle.vkg_maps.specs.declared.data_fault.TermFault.{TermFault}
 use Rattle.vkg_maps.specs.declared.data_fault.TermFault.TheVariants as term_fault
 use Rattle.vkg_maps.specs.DataFaults.{check_of}
@@ -114,36 +116,42 @@ turtle_number text base f (turtle_too_deep u e) = (omega arith, omega arith)
 turtle_number text base f (turtle_no_text u e) = (omega arith, omega arith)
 turtle_number text base f (no_document document u d e) = subst (λ o. IfSome o (λ f. IsCheck 1 22 f.check)) e (turtle_in document)
 
--- Q01 to Q09, and Q12
+-- Q01 to Q12
 
 pub is_limit : IsQueryCheck 9
-is_limit = inl (omega arith, omega arith)
+is_limit = (omega arith, omega arith)
 
 query_in : (r : Read) → IfSome (query_fault r) (λ f. IsQueryCheck f.check)
 query_in r =
+    let s : Scope = query_scope (meanings r) r.lexemes r.tree in
     by (first_place Unknown r.environment r.body) (option_or r.environment.relative (first_place Relative r.environment r.body)) (label_again r.body) (first_place Float r.environment r.body) (first_place Wide r.environment r.body) (limit_over r)
-    (slice_over r.body)
+    s.uneven s.again (slice_over r.body)
   where
-    by : (prefix iri label datatype number limit slice : Option ℕ)
-        → IfSome (query_if 4 prefix (query_if 5 iri (query_if 6 label (query_if 7 datatype (query_if 8 number (query_if 9 limit (query_if 12 slice None))))))) (λ f. IsQueryCheck f.check)
-    by (Some at) iri label datatype number limit slice = inl (omega arith, omega arith)
-    by None (Some at) label datatype number limit slice = inl (omega arith, omega arith)
-    by None None (Some at) datatype number limit slice = inl (omega arith, omega arith)
-    by None None None (Some at) number limit slice = inl (omega arith, omega arith)
-    by None None None None (Some at) limit slice = inl (omega arith, omega arith)
-    by None None None None None (Some at) slice = is_limit
-    by None None None None None None (Some at) = inr refl
-    by None None None None None None None = tt
+    of_parts : (table bound slice : Option ℕ) → IfSome (query_if 10 table (query_if 11 bound (query_if 12 slice None))) (λ f. IsQueryCheck f.check)
+    of_parts (Some at) bound slice = (omega arith, omega arith)
+    of_parts None (Some at) slice = (omega arith, omega arith)
+    of_parts None None (Some at) = (omega arith, omega arith)
+    of_parts None None None = tt
+
+    by : (prefix iri label datatype number limit table bound slice : Option ℕ)
+        → IfSome (option_or (query_if 4 prefix (query_if 5 iri (query_if 6 label (query_if 7 datatype (query_if 8 number (query_if 9 limit None)))))) (query_if 10 table (query_if 11 bound (query_if 12 slice None)))) (λ f. IsQueryCheck f.check)
+    by (Some at) iri label datatype number limit table bound slice = (omega arith, omega arith)
+    by None (Some at) label datatype number limit table bound slice = (omega arith, omega arith)
+    by None None (Some at) datatype number limit table bound slice = (omega arith, omega arith)
+    by None None None (Some at) number limit table bound slice = (omega arith, omega arith)
+    by None None None None (Some at) limit table bound slice = (omega arith, omega arith)
+    by None None None None None (Some at) table bound slice = is_limit
+    by None None None None None None table bound slice = of_parts table bound slice
 
 dead_in : (b : Bool) → IsQueryCheck (if b then 7 else 2)
-dead_in true = inl (omega arith, omega arith)
-dead_in false = inl (omega arith, omega arith)
+dead_in true = (omega arith, omega arith)
+dead_in false = (omega arith, omega arith)
 
 pub query_number : (text base : List ℕ) (f : QueryFault) → IsQueryFault text base f → IsQueryCheck f.check
-query_number text base f (query_lexical b) = inl (omega arith, omega arith)
-query_number text base f (query_too_deep u e) = inl (omega arith, omega arith)
+query_number text base f (query_lexical b) = (omega arith, omega arith)
+query_number text base f (query_too_deep u e) = (omega arith, omega arith)
 query_number text base f (dead u d) = subst (λ (g : QueryFault). IsQueryCheck g.check) (sym d.named) (dead_in (is_outside (kind_at d.tokens d.token)))
-query_number text base f (cut_off u e is) = inl (omega arith, omega arith)
+query_number text base f (cut_off u e is) = (omega arith, omega arith)
 query_number text base f (checked r u d e) = subst (λ o. IfSome o (λ f. IsQueryCheck f.check)) e (query_in r)
 
 -- T01 to T11

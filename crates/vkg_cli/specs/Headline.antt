@@ -79,9 +79,10 @@ pub record IsDump (words : DumpWords) (files : Files) (lines : List (List ℕ)) 
   pub hold : HoldDataset files words.schema words.folder words.base words.mapping schema db mapping
   pub lines_are : IsLinesOf lines (dataset mapping db)
 
--- The lines are the answer to the query over the very dataset that `dump` writes: the header, then the solutions that the
+-- The lines are the answer to the query over the very dataset that `dump` writes. Of SELECT they are the header, then the solutions that the
 -- algebra of SPARQL gives, in the asked order and then byte order, as often as it gives them or, under DISTINCT, once, and of them the
--- asked slice. They are also the lines, so ordered, of the rows of the plan that `sql` prints.
+-- asked slice; of ASK whether there is a solution; of CONSTRUCT the set of its template's triples over the ordered solutions. They are also
+-- what is so written of the rows of the plan that `sql` prints.
 pub record IsAnswered (words : QueryWords) (files : Files) (lines : List (List ℕ)) : Type 0 where
   pub schema : List Table
   pub db : Database

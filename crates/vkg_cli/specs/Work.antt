@@ -1,5 +1,5 @@
 -- What the program does for a command, over known files.
-use Rattle.std.specs.Prelude.{◌≡◌, ◌⊎◌, ◌≤◌, ℕ, ◌+◌, Bool, true, false, List, ◌∷◌, [], ◌++◌, codes, length, nat_lt, Option, Some, None, Result, Ok, Err, option_map}
+use Rattle.std.specs.Prelude.{◌≡◌, ◌≤◌, ℕ, ◌+◌, Bool, true, false, List, ◌∷◌, [], ◌++◌, codes, length, nat_lt, Option, Some, None, Result, Ok, Err, option_map}
 use Rattle.std.specs.Result.{result_map_both}
 use Rattle.vkg_lists.specs.Results.{unless}
 use Rattle.vkg_base.specs.Outside.{Files}
@@ -228,9 +228,9 @@ MayStop (sql words) why = is_of_tables why ≡ false
 abbrev pub IsCheck : ℕ → ℕ → ℕ → Type 0
 IsCheck first last check = (first ≤ check) × (check ≤ last)
 
--- a number of one of the checks of a query: Q01 to Q09, or Q12
+-- a number of one of the checks of a query: Q01 to Q12
 abbrev pub IsQueryCheck : ℕ → Type 0
-IsQueryCheck check = IsCheck 1 9 check ⊎ (check ≡ 12)
+IsQueryCheck check = IsCheck 1 12 check
 
 -- the number of a fault's check is one of its table: S01 to S15, T01 to T11, M01 to M22, X01 to X03, and those of a query
 abbrev pub IsOfTable : Fault → Type 0

@@ -10,4 +10,5 @@ pub mod Texts
 pub mod Moments
 pub mod Entering
 pub mod Sliced
+pub mod Ranks
 pub mod ByOperator

@@ -4,3 +4,4 @@ pub mod Lent
 pub mod Entries
 pub mod Listed
 pub mod Kept
+pub mod Ranked

@@ -15,13 +15,13 @@ ordered m entries = map (λ e. e.line) (ascending_by (entry_cmp m.directions) en
 abbrev pub once : Bool → List (List ℕ) → List (List ℕ)
 once is_asked lines = if is_asked then distinct bytes_eq lines else lines
 
-abbrev pub at_most : Option ℕ → List (List ℕ) → List (List ℕ)
-at_most None lines = lines
-at_most (Some n) lines = take n lines
+abbrev pub at_most : {A : Type 0} → Option ℕ → List A → List A
+at_most None xs = xs
+at_most (Some n) xs = take n xs
 
 -- SPARQL 1.1 Query, 15.4, 15.5 and 18.5, Slice
-abbrev pub sliced : Slice → List (List ℕ) → List (List ℕ)
-sliced slice lines = at_most slice.limit (drop slice.offset lines)
+abbrev pub sliced : {A : Type 0} → Slice → List A → List A
+sliced slice xs = at_most slice.limit (drop slice.offset xs)
 
 -- SPARQL 1.1 Query, 18.2.5: the order, then DISTINCT, then the slice
 unfoldable pub listed : Modifiers → List Entry → List (List ℕ)

@@ -70,7 +70,7 @@ impl Offer {
     }
 }
 
-fn order_cells(directions: &[Direction], a: &[Cell], b: &[Cell]) -> Ordering
+pub(crate) fn order_cells(directions: &[Direction], a: &[Cell], b: &[Cell]) -> Ordering
     ensures { result ≡ keys_cmp directions.now (map bound_of a.now) (map bound_of b.now) }
 {
     match directions {

@@ -5,3 +5,4 @@ pub mod Maps
 pub mod QuadLemmas
 pub mod SeenForms
 pub mod TermLemmas
+pub mod Written

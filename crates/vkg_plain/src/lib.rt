@@ -3,8 +3,8 @@
 //! Follows SPARQL 1.1 Query Language (W3C Recommendation of 2013), 18.3 to 18.6 and 18.2.5, and reads the lines of RDF 1.1
 //! N-Quads that `dump` writes. `evaluate` answers exactly the solutions of an algebra, and `answer` those of a query, in the
 //! order of the definitions in `vkg_algebra`; only where a condition asks for the value of a number of more than 38 digits may that be
-//! a fault. `read_quads` answers the quads whose lines a text is, and a fault only where there are none, and `solution_lines` the
-//! header and lines of solutions.
+//! a fault. `read_quads` answers the quads whose lines a text is, and a fault only where there are none, and `solution_lines` what
+//! is written of solutions: a table, a yes or no, or a graph.
 //! It is for tests: it looks at each pair of solutions, and reads no mapping and no table.
 //!
 //! Stands on `vkg_algebra` (the algebra, and what it means), `vkg_values` (the operators on terms), `vkg_terms` (terms and

@@ -1,22 +1,77 @@
-// The lines of solutions (SPARQL 1.1 Query Results CSV and TSV Formats, 4).
+// What is written of solutions (SPARQL 1.1, 16; SPARQL 1.1 Query Results CSV and TSV Formats, 4).
 ghost use Rattle.std.specs.Prelude.{◌≡◌, ◌∷◌, [], IfOk, drop, length, map, string_bytes, take};
 ghost use Rattle.vkg_order.specs.Kept.{StandFor};
 ghost use Rattle.vkg_order.specs.Listed.{listed};
 ghost use Rattle.vkg_order.specs.Values.{bound};
 ghost use Rattle.vkg_sparql.specs.Seen.{query_seen};
-ghost use Rattle.vkg_algebra.specs.Answer.{header as header_of, modifiers_of as modifiers_of_query, place_text as text_of_place, selected_variables as selected_of, solution_entry, solution_line as line_of_solution};
+ghost use Rattle.vkg_algebra.specs.Answer.{found_of, has_solution as has_solution_of, header as header_of, modifiers_of as modifiers_of_query, ordered, place_text as text_of_place, selected_variables as selected_of, solution_entry, solution_line as line_of_solution, solutions_lines};
+ghost use Rattle.vkg_algebra.specs.Construct.{graph_lines};
 
 use crate::solution::Solution;
 use std::alloc::Global;
-use vkg_algebra::{header, modifiers_of, selected_count, tabbed};
+use vkg_algebra::{ask_lines, construct_lines, header, modifiers_of, selected_count, tabbed};
 use vkg_base::{Items, Lines, Memory, Text};
 use vkg_cells::Cell;
-use vkg_order::Keeper;
-use vkg_sparql::Query;
+use vkg_order::{Candidate, Keeper};
+use vkg_sparql::{Form, Query, TriplePattern};
 use vkg_terms::{Term, term_text};
 
-/// The header of a query, then the lines of these solutions, in the asked order.
+/// What is written of these solutions, each the selected variables and behind them the values of the keys: of SELECT the header, then
+/// their lines, in the asked order; of ASK whether there is one; of CONSTRUCT the graph that the template makes of them.
 pub fn solution_lines(alloc: Global, query: &Query, rows: &[Solution]) -> Result<Lines, Memory>
+    ensures { IfOk result (λ lines. lines ≡ solutions_lines (query_seen query.now) rows.now) }
+{
+    match &query.form {
+        Form::Select => select_lines(alloc, query, rows),
+        Form::Ask => ask_lines(alloc, has_solution(rows)),
+        Form::Construct(template) => made_lines(alloc, query, template.as_slice(), rows),
+    }
+}
+
+fn has_solution(rows: &[Solution]) -> bool
+    ensures { result ≡ has_solution_of rows.now }
+{
+    match rows {
+        [] => false,
+        [_, ..] => true,
+    }
+}
+
+/// The graph that a template makes of these solutions.
+fn made_lines(
+    alloc: Global,
+    query: &Query,
+    template: &[TriplePattern],
+    rows: &[Solution],
+) -> Result<Lines, Memory>
+    ensures { IfOk result (λ lines. lines ≡ graph_lines template.now (selected_of (query_seen query.now)) (ordered (query_seen query.now) rows.now)) }
+{
+    let width = selected_count(alloc, query)?;
+    let solutions = candidates(alloc, width, rows)?;
+    construct_lines(alloc, query, template, solutions)
+}
+
+/// These solutions; the first so many terms of each are its own, and the others the values of keys.
+fn candidates(alloc: Global, width: usize, rows: &[Solution]) -> Result<Vec<Candidate>, Memory>
+    ensures { IfOk result (λ found. found.items ≡ map (found_of width) rows.now) }
+{
+    let mut found = Vec::new(alloc);
+    for row in rows {
+        found.push(candidate(alloc, width, row.as_slice())?)?;
+    }
+    Ok(found)
+}
+
+fn candidate(alloc: Global, width: usize, row: &[Option<Term>]) -> Result<Candidate, Memory>
+    ensures { IfOk result (λ c. c ≡ found_of width row.now) }
+{
+    let (shown, _) = parts(row, width);
+    let line = solution_line(alloc, shown)?;
+    Ok(Candidate::new(width, cells(alloc, row)?, line))
+}
+
+/// The header, then the lines of the solutions.
+fn select_lines(alloc: Global, query: &Query, rows: &[Solution]) -> Result<Lines, Memory>
     ensures { IfOk result (λ lines. lines ≡ header_of (query_seen query.now) ∷ listed (modifiers_of_query (query_seen query.now)) (map (solution_entry (length (selected_of (query_seen query.now)))) rows.now)) }
 {
     let mut lines = Lines::new(alloc);

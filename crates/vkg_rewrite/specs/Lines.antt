@@ -1,11 +1,10 @@
--- The lines of a query's rows (SPARQL 1.1 Query Results CSV and TSV Formats, 4).
-use Rattle.std.specs.Prelude.{ℕ, List, ◌∷◌, map}
+-- What is written of a query's rows.
+use Rattle.std.specs.Prelude.{ℕ, List, map}
 use Rattle.vkg_schema.specs.Rows.{Row}
 use Rattle.vkg_sparql.specs.Query.{Query}
-use Rattle.vkg_order.specs.Listed.{listed}
-use Rattle.vkg_algebra.specs.Answer.{header, modifiers_of}
-use Rattle.vkg_answers.specs.Answering.{row_entry}
+use Rattle.vkg_algebra.specs.Answer.{solutions_lines}
+use Rattle.vkg_answers.specs.Answering.{row_solution}
 
--- the header, then the rows' lines in the asked order
+-- what is written of the solutions that they are
 unfoldable pub result_lines : Query → List Row → List (List ℕ)
-result_lines query rows = header query ∷ listed (modifiers_of query) (map (row_entry query) rows)
+result_lines query rows = solutions_lines query (map row_solution rows)

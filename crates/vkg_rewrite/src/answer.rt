@@ -20,9 +20,10 @@ use vkg_maps::Mapping;
 use vkg_sparql::Query;
 use vkg_tables::Database;
 
-/// The answer to a query over the dataset of a mapping without a data error: its header, then the lines of its solutions in the asked
-/// order and then that of their bytes, each as often as the algebra gives it or, under DISTINCT, once, and of them the slice. They are the lines of the rows of its plan. The query is asked to
-/// be one that `read_query` answers, the mapping one of the database's schema.
+/// The answer to a query over the dataset of a mapping without a data error. Of SELECT it is the header, then the lines of the solutions in the asked
+/// order and then that of their bytes, each as often as the algebra gives it or, under DISTINCT, once, and of them the slice; of ASK whether there is
+/// a solution; of CONSTRUCT the lines of the set of its template's triples over the solutions, ascending. It is what is written of the rows of its
+/// plan. The query is asked to be one that `read_query` answers, the mapping one of the database's schema.
 pub fn answer_lines(
     alloc: Global,
     db: &Database,

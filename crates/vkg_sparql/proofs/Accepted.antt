@@ -8,7 +8,7 @@ use Rattle.std.proofs.lemmas.Option.{same_Some, slice_get-map, slice_get_within}
 use Rattle.vkg_grammar.specs.Kinds.{kinds_of}
 use Rattle.vkg_grammar.specs.OneTree.{IsTree}
 use Rattle.vkg_grammar.proofs.Shapes.{made}
-use Rattle.vkg_grammar.specs.Trees.{Tree, leaf, pair, size, IsFrom}
+use Rattle.vkg_grammar.specs.Trees.{Tree, leaf, pair, first, second, size, IsFrom}
 use Rattle.vkg_lists.proofs.Members.{each_from_recursion}
 use Rattle.vkg_tokens.specs.declared.cutting.Token.{Token}
 use Rattle.vkg_sparql.specs.declared.fault.QueryError.{QueryError}
@@ -17,9 +17,11 @@ use Rattle.vkg_sparql.specs.declared.grammar_table.TheConstants.{SPARQL}
 use Rattle.vkg_sparql.specs.declared.meaning.Meaning.{Meaning}
 use Rattle.vkg_sparql.specs.declared.pattern.Node.{Node}
 use Rattle.vkg_sparql.specs.declared.pattern.Node.TheVariants as node
-use Rattle.vkg_sparql.specs.declared.symbols.TheConstants.{QUERY_16, QUERY}
+use Rattle.vkg_sparql.specs.declared.symbols.TheConstants.{FORM, QUERY}
 use Rattle.vkg_sparql.specs.declared.query.Query.{Query}
-use Rattle.vkg_sparql.specs.Groups.{query_value}
+use Rattle.vkg_sparql.specs.declared.query.Form.{Form}
+use Rattle.vkg_sparql.specs.declared.query.Selected.{Selected}
+use Rattle.vkg_sparql.specs.Groups.{ask_value, construct_value, query_value, select_value, solutions_value}
 use Rattle.vkg_sparql.specs.Lawful.{IsLawful, IsLawfulQuery, IsWithin}
 use Rattle.vkg_sparql.specs.Meanings.{first_token}
 use Rattle.vkg_sparql.specs.Reading.{Read, IsQueryText, Says, fault_if, fault_of, part_fault, query_of, read, token_fault}
@@ -72,24 +74,50 @@ fine_body r h =
     let g = fault_free 11 _ _ f.1 in
     record { wide = e.0; slice = (fault_free 12 _ _ g.1).0 }
 
+names_of_solutions : (names : List (List ℕ)) (form : Form) (distinct : Bool) (selected : Selected) (ms : List Meaning) (t : Tree) → (solutions_value names form distinct selected ms t).names ≡ names
+names_of_solutions names form distinct selected ms (pair where_ (pair g (pair order slice))) = refl
+names_of_solutions names form distinct selected ms t = refl
+
+names_of_select : (names : List (List ℕ)) (ms : List Meaning) (t : Tree) → (select_value names ms t).names ≡ names
+names_of_select names ms (pair select (pair kind (pair selection t))) = names_of_solutions names _ _ _ ms t
+names_of_select names ms t = refl
+
+names_of_ask : (names : List (List ℕ)) (ms : List Meaning) (t : Tree) → (ask_value names ms t).names ≡ names
+names_of_ask names ms (pair ask (pair where_ g)) = refl
+names_of_ask names ms t = refl
+
+names_of_construct : (names : List (List ℕ)) (ms : List Meaning) (t : Tree) → (construct_value names ms t).names ≡ names
+names_of_construct names ms (pair construct (pair left (pair block (pair right t)))) = names_of_solutions names _ _ _ ms t
+names_of_construct names ms t = refl
+
 names_stay : (names : List (List ℕ)) (ms : List Meaning) (t : Tree) → (query_value names ms t).names ≡ names
-names_stay names ms (pair prologue (pair select (pair kind (pair selection (pair where_ (pair g (pair order slice))))))) = refl
+names_stay names ms (pair prologue (first t)) = names_of_select names ms t
+names_stay names ms (pair prologue (second (first t))) = names_of_ask names ms t
+names_stay names ms (pair prologue (second (second t))) = names_of_construct names ms t
 names_stay names ms t = refl
 
 -- where what is behind the prologue begins
-begins : (ks : List ℕ) (at : ℕ) (t : Tree) → Has SPARQL ks 0 t QUERY_16 → IsFrom at t → first_token t ≡ at
-begins ks at (pair (leaf i) t) h f = f.0
-begins ks at (pair t u) h f = absurd (h.0)
+begins : (ks : List ℕ) (at : ℕ) (t : Tree) → Has SPARQL ks 0 t FORM → IsFrom at t → first_token t ≡ at
+begins ks at (first (pair (leaf i) t)) h f = f.0
+begins ks at (first (pair t u)) h f = absurd (h.0)
+begins ks at (first t) h f = absurd (h)
+begins ks at (second (first (pair (leaf i) t))) h f = f.0
+begins ks at (second (first (pair t u))) h f = absurd (h.0)
+begins ks at (second (first t)) h f = absurd (h)
+begins ks at (second (second (pair (leaf i) t))) h f = f.0
+begins ks at (second (second (pair t u))) h f = absurd (h.0)
+begins ks at (second (second t)) h f = absurd (h)
+begins ks at (second t) h f = absurd (h)
 begins ks at t h f = absurd (h)
 
 record Behind (ks : List ℕ) (prologue rest : Tree) : Type 0 where
-  has : Has SPARQL ks (first_token rest) rest QUERY_16
+  has : Has SPARQL ks (first_token rest) rest FORM
 
-behind : (ks : List ℕ) (prologue rest : Tree) → IsTree SPARQL ks QUERY_16 rest → IsFrom 0 (pair prologue rest) → Behind ks prologue rest
+behind : (ks : List ℕ) (prologue rest : Tree) → IsTree SPARQL ks FORM rest → IsFrom 0 (pair prologue rest) → Behind ks prologue rest
 behind ks prologue rest w f =
     let at : ℕ = 0 + size prologue in
-    let begun : first_token rest ≡ at = begins ks at rest (has SPARQL ks 0 rest QUERY_16 at w f.1 (omega arith)) f.1 in
-    record { has = has SPARQL ks (first_token rest) rest QUERY_16 at w f.1 (omega (arith, begun)) }
+    let begun : first_token rest ≡ at = begins ks at rest (has SPARQL ks 0 rest FORM at w f.1 (omega arith)) f.1 in
+    record { has = has SPARQL ks (first_token rest) rest FORM at w f.1 (omega (arith, begun)) }
 
 module _ (text base : List ℕ) (tokens : List Token) where
   lawful_pair : (prologue rest : Tree) → Behind (kinds_of tokens) prologue rest → fault_of (read text tokens base (pair prologue rest)) ≡ None

@@ -4,21 +4,22 @@ use Rattle.vkg_grammar.specs.Certified.{Claim}
 use Rattle.vkg_grammar.specs.Form.{IsWellFormed}
 use Rattle.vkg_grammar.specs.Grammar.{IsLL1}
 use Rattle.vkg_grammar.proofs.Certifying.{passes_ll1, is_grammar, has_kinds}
-use Rattle.vkg_tokens.specs.declared.sparql_kinds.TheConstants.{OPEN_BRACE, CLOSE_BRACE, OPEN, CLOSE, OPEN_BRACKET, CLOSE_BRACKET, DOT, SEMICOLON, COMMA, EQUAL, NOT_EQUAL, LESS, GREATER, LESS_EQUAL, GREATER_EQUAL, NOT, AND, OR, STAR, CARETS, IRIREF, PNAME_NS, PNAME_LN, BLANK, VAR, STRING, LANGTAG, INTEGER, DECIMAL, IS_A, TRUE, FALSE, BASE, PREFIX, SELECT, DISTINCT, REDUCED, WHERE, OPTIONAL, GRAPH, FILTER, UNION, BOUND, SAMETERM, ISIRI, ISURI, ISBLANK, ISLITERAL, ISNUMERIC, STR, LANG, DATATYPE, STRLEN, STRSTARTS, STRENDS, CONTAINS, ORDER, BY, LIMIT, OFFSET, ASC, DESC, MINUS, BIND, AS, VALUES, UNDEF, KIND_COUNT}
+use Rattle.vkg_tokens.specs.declared.sparql_kinds.TheConstants.{OPEN_BRACE, CLOSE_BRACE, OPEN, CLOSE, OPEN_BRACKET, CLOSE_BRACKET, DOT, SEMICOLON, COMMA, EQUAL, NOT_EQUAL, LESS, GREATER, LESS_EQUAL, GREATER_EQUAL, NOT, AND, OR, STAR, CARETS, IRIREF, PNAME_NS, PNAME_LN, BLANK, VAR, STRING, LANGTAG, INTEGER, DECIMAL, IS_A, TRUE, FALSE, BASE, PREFIX, SELECT, DISTINCT, REDUCED, WHERE, OPTIONAL, GRAPH, FILTER, UNION, BOUND, SAMETERM, ISIRI, ISURI, ISBLANK, ISLITERAL, ISNUMERIC, STR, LANG, DATATYPE, STRLEN, STRSTARTS, STRENDS, CONTAINS, ORDER, BY, LIMIT, OFFSET, ASC, DESC, MINUS, BIND, AS, VALUES, UNDEF, ASK, CONSTRUCT, KIND_COUNT}
 use Rattle.vkg_sparql.specs.declared.grammar_table.TheConstants.{SPARQL}
 
 abbrev claims : List Claim
 claims =
-    record { empty = false; begin = BASE ∷ PREFIX ∷ SELECT ∷ []; follow = []; level = 10 }
+    record { empty = false; begin = BASE ∷ PREFIX ∷ SELECT ∷ ASK ∷ CONSTRUCT ∷ []; follow = []; level = 9 }
     ∷ record { empty = false; begin = BASE ∷ []; follow = IRIREF ∷ []; level = 1 }
-    ∷ record { empty = false; begin = IRIREF ∷ []; follow = OPEN_BRACE ∷ CLOSE_BRACE ∷ CLOSE ∷ OPEN_BRACKET ∷ CLOSE_BRACKET ∷ DOT ∷ SEMICOLON ∷ COMMA ∷ EQUAL ∷ NOT_EQUAL ∷ LESS ∷ GREATER ∷ LESS_EQUAL ∷ GREATER_EQUAL ∷ AND ∷ OR ∷ IRIREF ∷ PNAME_NS ∷ PNAME_LN ∷ BLANK ∷ VAR ∷ STRING ∷ INTEGER ∷ DECIMAL ∷ IS_A ∷ TRUE ∷ FALSE ∷ BASE ∷ PREFIX ∷ SELECT ∷ OPTIONAL ∷ GRAPH ∷ FILTER ∷ MINUS ∷ BIND ∷ AS ∷ VALUES ∷ UNDEF ∷ []; level = 1 }
-    ∷ record { empty = false; begin = BASE ∷ []; follow = BASE ∷ PREFIX ∷ SELECT ∷ []; level = 2 }
+    ∷ record { empty = false; begin = IRIREF ∷ []; follow = OPEN_BRACE ∷ CLOSE_BRACE ∷ CLOSE ∷ OPEN_BRACKET ∷ CLOSE_BRACKET ∷ DOT ∷ SEMICOLON ∷ COMMA ∷ EQUAL ∷ NOT_EQUAL ∷ LESS ∷ GREATER ∷ LESS_EQUAL ∷ GREATER_EQUAL ∷ AND ∷ OR ∷ IRIREF ∷ PNAME_NS ∷ PNAME_LN ∷ BLANK ∷ VAR ∷ STRING ∷ INTEGER ∷ DECIMAL ∷ IS_A ∷ TRUE ∷ FALSE ∷ BASE ∷ PREFIX ∷ SELECT ∷ OPTIONAL ∷ GRAPH ∷ FILTER ∷ MINUS ∷ BIND ∷ AS ∷ VALUES ∷ UNDEF ∷ ASK ∷ CONSTRUCT ∷ []; level = 1 }
+    ∷ record { empty = false; begin = BASE ∷ []; follow = BASE ∷ PREFIX ∷ SELECT ∷ ASK ∷ CONSTRUCT ∷ []; level = 2 }
     ∷ record { empty = false; begin = PREFIX ∷ []; follow = PNAME_NS ∷ []; level = 1 }
     ∷ record { empty = false; begin = PNAME_NS ∷ []; follow = OPEN_BRACE ∷ CLOSE_BRACE ∷ CLOSE ∷ OPEN_BRACKET ∷ CLOSE_BRACKET ∷ DOT ∷ SEMICOLON ∷ COMMA ∷ EQUAL ∷ NOT_EQUAL ∷ LESS ∷ GREATER ∷ LESS_EQUAL ∷ GREATER_EQUAL ∷ AND ∷ OR ∷ IRIREF ∷ PNAME_NS ∷ PNAME_LN ∷ BLANK ∷ VAR ∷ STRING ∷ INTEGER ∷ DECIMAL ∷ IS_A ∷ TRUE ∷ FALSE ∷ OPTIONAL ∷ GRAPH ∷ FILTER ∷ MINUS ∷ BIND ∷ AS ∷ VALUES ∷ UNDEF ∷ []; level = 1 }
-    ∷ record { empty = false; begin = PNAME_NS ∷ []; follow = BASE ∷ PREFIX ∷ SELECT ∷ []; level = 2 }
-    ∷ record { empty = false; begin = PREFIX ∷ []; follow = BASE ∷ PREFIX ∷ SELECT ∷ []; level = 3 }
-    ∷ record { empty = false; begin = BASE ∷ PREFIX ∷ []; follow = BASE ∷ PREFIX ∷ SELECT ∷ []; level = 3 }
-    ∷ record { empty = true; begin = BASE ∷ PREFIX ∷ []; follow = SELECT ∷ []; level = 1 }
+    ∷ record { empty = false; begin = PNAME_NS ∷ []; follow = BASE ∷ PREFIX ∷ SELECT ∷ ASK ∷ CONSTRUCT ∷ []; level = 2 }
+    ∷ record { empty = false; begin = PREFIX ∷ []; follow = BASE ∷ PREFIX ∷ SELECT ∷ ASK ∷ CONSTRUCT ∷ []; level = 3 }
+    ∷ record { empty = false; begin = BASE ∷ PREFIX ∷ []; follow = BASE ∷ PREFIX ∷ SELECT ∷ ASK ∷ CONSTRUCT ∷ []; level = 3 }
+    ∷ record { empty = true; begin = BASE ∷ PREFIX ∷ []; follow = SELECT ∷ ASK ∷ CONSTRUCT ∷ []; level = 1 }
+    ∷ record { empty = false; begin = SELECT ∷ ASK ∷ CONSTRUCT ∷ []; follow = []; level = 8 }
     ∷ record { empty = false; begin = SELECT ∷ []; follow = STAR ∷ VAR ∷ DISTINCT ∷ REDUCED ∷ []; level = 1 }
     ∷ record { empty = false; begin = DISTINCT ∷ []; follow = STAR ∷ VAR ∷ []; level = 1 }
     ∷ record { empty = false; begin = REDUCED ∷ []; follow = STAR ∷ VAR ∷ []; level = 1 }
@@ -29,6 +30,7 @@ claims =
     ∷ record { empty = true; begin = VAR ∷ []; follow = OPEN_BRACE ∷ CLOSE ∷ WHERE ∷ []; level = 1 }
     ∷ record { empty = false; begin = VAR ∷ []; follow = OPEN_BRACE ∷ WHERE ∷ []; level = 2 }
     ∷ record { empty = false; begin = STAR ∷ []; follow = OPEN_BRACE ∷ WHERE ∷ []; level = 1 }
+    ∷ record { empty = false; begin = OPEN_BRACE ∷ WHERE ∷ []; follow = []; level = 6 }
     ∷ record { empty = false; begin = WHERE ∷ []; follow = OPEN_BRACE ∷ []; level = 1 }
     ∷ record { empty = true; begin = WHERE ∷ []; follow = OPEN_BRACE ∷ []; level = 1 }
     ∷ record { empty = false; begin = OPEN_BRACE ∷ []; follow = OPEN_BRACE ∷ CLOSE_BRACE ∷ OPEN_BRACKET ∷ DOT ∷ IRIREF ∷ PNAME_NS ∷ PNAME_LN ∷ BLANK ∷ VAR ∷ STRING ∷ INTEGER ∷ DECIMAL ∷ TRUE ∷ FALSE ∷ OPTIONAL ∷ GRAPH ∷ FILTER ∷ UNION ∷ MINUS ∷ BIND ∷ VALUES ∷ ORDER ∷ LIMIT ∷ OFFSET ∷ []; level = 4 }
@@ -185,7 +187,7 @@ claims =
     ∷ record { empty = false; begin = UNDEF ∷ []; follow = CLOSE_BRACE ∷ CLOSE ∷ IRIREF ∷ PNAME_NS ∷ PNAME_LN ∷ STRING ∷ INTEGER ∷ DECIMAL ∷ TRUE ∷ FALSE ∷ UNDEF ∷ []; level = 1 }
     ∷ record { empty = false; begin = STRING ∷ INTEGER ∷ DECIMAL ∷ TRUE ∷ FALSE ∷ UNDEF ∷ []; follow = CLOSE_BRACE ∷ CLOSE ∷ IRIREF ∷ PNAME_NS ∷ PNAME_LN ∷ STRING ∷ INTEGER ∷ DECIMAL ∷ TRUE ∷ FALSE ∷ UNDEF ∷ []; level = 2 }
     ∷ record { empty = true; begin = IRIREF ∷ PNAME_NS ∷ PNAME_LN ∷ STRING ∷ INTEGER ∷ DECIMAL ∷ TRUE ∷ FALSE ∷ UNDEF ∷ []; follow = CLOSE_BRACE ∷ CLOSE ∷ []; level = 1 }
-    ∷ record { empty = false; begin = CLOSE_BRACE ∷ []; follow = OPEN_BRACE ∷ CLOSE_BRACE ∷ OPEN_BRACKET ∷ DOT ∷ IRIREF ∷ PNAME_NS ∷ PNAME_LN ∷ BLANK ∷ VAR ∷ STRING ∷ INTEGER ∷ DECIMAL ∷ TRUE ∷ FALSE ∷ OPTIONAL ∷ GRAPH ∷ FILTER ∷ UNION ∷ MINUS ∷ BIND ∷ VALUES ∷ ORDER ∷ LIMIT ∷ OFFSET ∷ []; level = 1 }
+    ∷ record { empty = false; begin = CLOSE_BRACE ∷ []; follow = OPEN_BRACE ∷ CLOSE_BRACE ∷ OPEN_BRACKET ∷ DOT ∷ IRIREF ∷ PNAME_NS ∷ PNAME_LN ∷ BLANK ∷ VAR ∷ STRING ∷ INTEGER ∷ DECIMAL ∷ TRUE ∷ FALSE ∷ WHERE ∷ OPTIONAL ∷ GRAPH ∷ FILTER ∷ UNION ∷ MINUS ∷ BIND ∷ VALUES ∷ ORDER ∷ LIMIT ∷ OFFSET ∷ []; level = 1 }
     ∷ record { empty = false; begin = CLOSE_BRACE ∷ IRIREF ∷ PNAME_NS ∷ PNAME_LN ∷ STRING ∷ INTEGER ∷ DECIMAL ∷ TRUE ∷ FALSE ∷ UNDEF ∷ []; follow = OPEN_BRACE ∷ CLOSE_BRACE ∷ OPEN_BRACKET ∷ DOT ∷ IRIREF ∷ PNAME_NS ∷ PNAME_LN ∷ BLANK ∷ VAR ∷ STRING ∷ INTEGER ∷ DECIMAL ∷ TRUE ∷ FALSE ∷ OPTIONAL ∷ GRAPH ∷ FILTER ∷ MINUS ∷ BIND ∷ VALUES ∷ []; level = 2 }
     ∷ record { empty = false; begin = OPEN_BRACE ∷ []; follow = OPEN_BRACE ∷ CLOSE_BRACE ∷ OPEN_BRACKET ∷ DOT ∷ IRIREF ∷ PNAME_NS ∷ PNAME_LN ∷ BLANK ∷ VAR ∷ STRING ∷ INTEGER ∷ DECIMAL ∷ TRUE ∷ FALSE ∷ OPTIONAL ∷ GRAPH ∷ FILTER ∷ MINUS ∷ BIND ∷ VALUES ∷ []; level = 3 }
     ∷ record { empty = false; begin = VAR ∷ []; follow = OPEN_BRACE ∷ CLOSE_BRACE ∷ OPEN_BRACKET ∷ DOT ∷ IRIREF ∷ PNAME_NS ∷ PNAME_LN ∷ BLANK ∷ VAR ∷ STRING ∷ INTEGER ∷ DECIMAL ∷ TRUE ∷ FALSE ∷ OPTIONAL ∷ GRAPH ∷ FILTER ∷ MINUS ∷ BIND ∷ VALUES ∷ []; level = 4 }
@@ -237,10 +239,18 @@ claims =
     ∷ record { empty = true; begin = LIMIT ∷ OFFSET ∷ []; follow = []; level = 1 }
     ∷ record { empty = true; begin = ORDER ∷ LIMIT ∷ OFFSET ∷ []; follow = []; level = 2 }
     ∷ record { empty = false; begin = OPEN_BRACE ∷ []; follow = []; level = 5 }
-    ∷ record { empty = false; begin = OPEN_BRACE ∷ WHERE ∷ []; follow = []; level = 6 }
     ∷ record { empty = false; begin = STAR ∷ VAR ∷ []; follow = []; level = 7 }
     ∷ record { empty = false; begin = STAR ∷ VAR ∷ DISTINCT ∷ REDUCED ∷ []; follow = []; level = 8 }
     ∷ record { empty = false; begin = SELECT ∷ []; follow = []; level = 9 }
+    ∷ record { empty = false; begin = ASK ∷ []; follow = OPEN_BRACE ∷ WHERE ∷ []; level = 1 }
+    ∷ record { empty = false; begin = OPEN_BRACE ∷ WHERE ∷ []; follow = []; level = 5 }
+    ∷ record { empty = false; begin = ASK ∷ []; follow = []; level = 6 }
+    ∷ record { empty = false; begin = CONSTRUCT ∷ []; follow = OPEN_BRACE ∷ []; level = 1 }
+    ∷ record { empty = false; begin = CLOSE_BRACE ∷ []; follow = []; level = 7 }
+    ∷ record { empty = false; begin = CLOSE_BRACE ∷ OPEN_BRACKET ∷ IRIREF ∷ PNAME_NS ∷ PNAME_LN ∷ BLANK ∷ VAR ∷ STRING ∷ INTEGER ∷ DECIMAL ∷ TRUE ∷ FALSE ∷ []; follow = []; level = 8 }
+    ∷ record { empty = false; begin = OPEN_BRACE ∷ []; follow = []; level = 9 }
+    ∷ record { empty = false; begin = CONSTRUCT ∷ []; follow = []; level = 10 }
+    ∷ record { empty = false; begin = ASK ∷ CONSTRUCT ∷ []; follow = []; level = 7 }
     ∷ []
 
 pub sparql_form : IsWellFormed SPARQL KIND_COUNT

@@ -12,19 +12,24 @@ use Rattle.vkg_sparql.specs.declared.meaning.Meaning.TheVariants as meaning
 use Rattle.vkg_sparql.specs.declared.meaning.TripleTokens.{TripleTokens}
 use Rattle.vkg_sparql.specs.declared.pattern.Node.{Node}
 use Rattle.vkg_sparql.specs.declared.pattern.Node.TheVariants as node
-use Rattle.vkg_sparql.specs.declared.symbols.TheConstants.{SELECTION, TOKEN_VAR, SELECTION_1, GROUP, BLOCK, SAME, ITEM, PLIST, VERB, OLIST, OBJECT, TOKEN_OPEN_BRACKET, OBJECT_1, OLIST_2, PLIST_2, PLIST_4, SAME_5, GROUP_1, PART, NAME, PART_3, FILTER, BRACKETED, OR, AND, REL, UNARY, PRIMARY, CALL, CALL_3, CALL_7, PRIMARY_FROM_3, REL_2, AND_2, OR_2, PART_6, PART_7, PART_FROM_2, PART_FROM_4, PART_FROM_5, PART_12, TABLE, TABLE_1, TABLE_4, TABLE_5, TABLE_10, VALUE, GROUP_5, KEY, KEY_FROM_3, ORDER_1, ORDER_2, QUERY_9, QUERY_16}
+use Rattle.vkg_sparql.specs.declared.symbols.TheConstants.{SELECTION, TOKEN_VAR, SELECTION_1, GROUP, BLOCK, SAME, ITEM, PLIST, VERB, OLIST, OBJECT, TOKEN_OPEN_BRACKET, OBJECT_1, OLIST_2, PLIST_2, PLIST_4, SAME_5, GROUP_1, PART, NAME, PART_3, FILTER, BRACKETED, OR, AND, REL, UNARY, PRIMARY, CALL, CALL_3, CALL_7, PRIMARY_FROM_3, REL_2, AND_2, OR_2, PART_6, PART_7, PART_FROM_2, PART_FROM_4, PART_FROM_5, PART_12, TABLE, TABLE_1, TABLE_4, TABLE_5, TABLE_10, VALUE, GROUP_5, KEY, KEY_FROM_3, ORDER_1, ORDER_2, FORM, FORM_5, FORM_7, FORM_11, SOLUTIONS, SOLUTIONS_2}
+use Rattle.vkg_sparql.specs.declared.query.Form.{Form}
+use Rattle.vkg_sparql.specs.declared.query.Form.TheVariants.{Select, Construct}
 use Rattle.vkg_sparql.specs.declared.query.Key.{Key}
 use Rattle.vkg_sparql.specs.declared.query.Part.{Part as PartValue}
+use Rattle.vkg_sparql.specs.declared.query.Query.{Query}
+use Rattle.vkg_sparql.specs.declared.query.Selected.{Selected}
+use Rattle.vkg_sparql.specs.declared.query.Selected.TheVariants.{All}
 use Rattle.vkg_sparql.specs.Conditions.{or_joined, and_joined, negated, bound_value, operand_value, or_value, or_more, and_value, and_more, rel_value, rel_more, unary_value, primary_value, bracketed, call_value, two_value, filter_value}
-use Rattle.vkg_sparql.specs.Groups.{patterns_of, block_parts, no_part, bind_value, group_value, parts_value, part_value, other_value, later_value, last_value, graph_value, union_value, groups_value, selection_value, query_value}
-use Rattle.vkg_sparql.specs.Lawful.{condition_nodes, patterns_nodes, name_node, value_nodes, rows_nodes, part_nodes, group_nodes, unions_nodes, selected_nodes, keys_nodes, query_nodes}
+use Rattle.vkg_sparql.specs.Groups.{patterns_of, block_parts, no_part, bind_value, group_value, parts_value, part_value, other_value, later_value, last_value, graph_value, union_value, groups_value, selection_value, is_distinct, solutions_value, select_value, ask_value, construct_value, form_value, query_value}
+use Rattle.vkg_sparql.specs.Lawful.{condition_nodes, patterns_nodes, name_node, value_nodes, rows_nodes, part_nodes, group_nodes, unions_nodes, form_nodes, selected_nodes, keys_nodes, query_nodes}
 use Rattle.vkg_sparql.specs.Meanings.{first_token, meaning_at, node_of, number_of, numbers_value, term_if, operand_of, compare_of, applied, applied_to_two, name_of}
 use Rattle.vkg_sparql.specs.declared.query.Part.TheVariants as part
 use Rattle.vkg_sparql.specs.Orders.{bracketed_key, key_value, keys_value, order_value}
 use Rattle.vkg_sparql.specs.Query.{Condition, And, Or, Part}
 use Rattle.vkg_sparql.specs.Seen.{condition_seen, group_seen, key_seen, part_seen, unions_seen, query_seen}
 use Rattle.vkg_sparql.specs.Tables.{data_value, row_value, column_value, rows_value, column_table, rows_table, table_value}
-use Rattle.vkg_sparql.specs.Triples.{plist_value, plist_more, verb_value, olist_value, olist_more, object_value, inner_value, bracket_value, same_value, block_value}
+use Rattle.vkg_sparql.specs.Triples.{plist_value, plist_more, verb_value, olist_value, olist_more, object_value, inner_value, bracket_value, same_value, block_value, block_triples}
 use Rattle.vkg_sparql.proofs.Made.{IsToken, Has, leads, lead}
 use Rattle.vkg_sparql.proofs.Numbering.{Marked}
 use Rattle.vkg_sparql.proofs.SeenForms.{seen-Variable, seen-Constant, seen-Bound, seen-Test, seen-Take, seen-Compare, seen-SameTerm, seen-Not, seen-And, seen-Or, seen-Triples, seen-Filter, seen-Optional, seen-Graph, seen-Groups, seen-Minus, seen-Values, seen-Bind}
@@ -403,12 +408,45 @@ module _ (keys : List (List ℕ)) where
     good_some_keys (pair k more) h = good_keys_with k more h.0 (good_keys more h.1)
     good_some_keys t h = tt
 
-    good_order : (t : Tree) → Of t QUERY_9 → GoodKeys (order_value ms t)
+    good_order : (t : Tree) → Of t SOLUTIONS_2 → GoodKeys (order_value ms t)
     good_order (first (pair order (pair by some))) h = good_some_keys some h.1.1
     good_order t h = tt
 
-    pub good_query : (names : List (List ℕ)) (prologue rest : Tree) → Of rest QUERY_16 → Good (query_nodes (query_seen (query_value names ms (pair prologue rest))))
-    good_query names prologue (pair select (pair kind (pair selection (pair where_ (pair g (pair order slice)))))) h =
-        recursion_append (Fits keys) (selected_nodes (selection_value ms selection)) (group_nodes (group_seen (group_value ms g)) ++ keys_nodes (map key_seen (order_value ms order))) (good_selection selection h.1.1.0)
-        (recursion_append (Fits keys) (group_nodes (group_seen (group_value ms g))) (keys_nodes (map key_seen (order_value ms order))) (good_group g h.1.1.1.1.0) (good_order order h.1.1.1.1.1.0))
-    good_query names prologue t h = tt
+    abbrev GoodQuery : Query → Type 0
+    GoodQuery q = Good (query_nodes (query_seen q))
+
+    good_solutions : (names : List (List ℕ)) (form : Form) (distinct : Bool) (selected : Selected) (t : Tree) → Good (form_nodes form) → Good (selected_nodes selected) → Of t SOLUTIONS
+        → GoodQuery (solutions_value names form distinct selected ms t)
+    good_solutions names form distinct selected (pair where_ (pair g (pair order slice))) f s h =
+        recursion_append (Fits keys) (form_nodes form) (selected_nodes selected ++ (group_nodes (group_seen (group_value ms g)) ++ keys_nodes (map key_seen (order_value ms order)))) f
+        (recursion_append (Fits keys) (selected_nodes selected) (group_nodes (group_seen (group_value ms g)) ++ keys_nodes (map key_seen (order_value ms order))) s
+        (recursion_append (Fits keys) (group_nodes (group_seen (group_value ms g))) (keys_nodes (map key_seen (order_value ms order))) (good_group g h.1.0) (good_order order h.1.1.0)))
+    good_solutions names form distinct selected t f s h = tt
+
+    good_select : (names : List (List ℕ)) (t : Tree) → Of t FORM_5 → GoodQuery (select_value names ms t)
+    good_select names (pair select (pair kind (pair selection t))) h =
+        good_solutions names Select (is_distinct kind) (selection_value ms selection) t tt (good_selection selection h.1.1.0) h.1.1.1
+    good_select names t h = tt
+
+    good_ask : (names : List (List ℕ)) (t : Tree) → Of t FORM_7 → GoodQuery (ask_value names ms t)
+    good_ask names (pair ask (pair where_ g)) h = recursion_append (Fits keys) (group_nodes (group_seen (group_value ms g))) [] (good_group g h.1.1) tt
+    good_ask names t h = tt
+
+    -- the triples of [ block ]
+    good_template : (t : Tree) → Of t GROUP_1 → Good (patterns_nodes (patterns_of ms (block_triples t)))
+    good_template (first t) h = good_patterns (block_value t) (fit_block t h)
+    good_template t h = tt
+
+    good_construct : (names : List (List ℕ)) (t : Tree) → Of t FORM_11 → GoodQuery (construct_value names ms t)
+    good_construct names (pair construct (pair left (pair block (pair right t)))) h =
+        good_solutions names (Construct (patterns_of ms (block_triples block))) false All t (good_template block h.1.1.0) tt h.1.1.1.1
+    good_construct names t h = tt
+
+    good_form : (names : List (List ℕ)) (t : Tree) → Of t FORM → GoodQuery (form_value names ms t)
+    good_form names (first t) h = good_select names t h
+    good_form names (second (first t)) h = good_ask names t h
+    good_form names (second (second t)) h = good_construct names t h
+    good_form names t h = tt
+
+    pub good_query : (names : List (List ℕ)) (prologue rest : Tree) → Of rest FORM → Good (query_nodes (query_seen (query_value names ms (pair prologue rest))))
+    good_query names prologue rest h = good_form names rest h

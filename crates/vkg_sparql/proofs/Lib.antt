@@ -10,4 +10,3 @@ pub mod SeenForms
 pub mod SliceNumbers
 pub mod Standing
 pub mod Steps
-pub mod WordsLeftOut

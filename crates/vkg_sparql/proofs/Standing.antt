@@ -1,7 +1,7 @@
 -- What the tokens of a query mean, where no check fails of them.
 use Rattle.vkg_lists.proofs.Results.{none_if}
 use Rattle.std.proofs.Common.{◌≡◌, ◌∙◌, ℕ, ◌≤◌, ◌-◌, ◌||◌, ◌&&◌, ◌==◌, not, true≢false, Bool, true, false, if◌then◌else◌, zero, suc, List, [], ◌∷◌, codes, drop, Option, Some, None, option_map, refl, sym, ap, subst, arith, eqb-true}
-use Rattle.std.specs.Prelude.{slice_get}
+use Rattle.std.specs.Prelude.{nat_lt, slice_get}
 use Rattle.std.specs.Str.{str_to_ascii_lowercase}
 use Rattle.std.proofs.lemmas.Bool.{and_right, cond-true}
 use Rattle.std.proofs.lemmas.Option.{slice_get-map}
@@ -15,13 +15,14 @@ use Rattle.vkg_turtle.specs.Document.{typed}
 use Rattle.vkg_turtle.specs.Words.{between}
 use Rattle.vkg_turtle.specs.declared.lexeme.Word.{Word}
 use Rattle.vkg_turtle.specs.declared.lexeme.Word.TheVariants.{Integer}
+use Rattle.vkg_turtle.specs.declared.lexeme.Word.TheVariants as lexical
 use Rattle.vkg_sparql.specs.declared.checks.Check.TheVariants.{Wide}
 use Rattle.vkg_sparql.specs.declared.environment.Environment.{Environment}
 use Rattle.vkg_sparql.specs.declared.lexeme.Lexeme.{Lexeme}
 use Rattle.vkg_sparql.specs.declared.meaning.Meaning.{Meaning}
 use Rattle.vkg_sparql.specs.declared.meaning.Meaning.TheVariants.{Variable, Label, Fixed}
 use Rattle.vkg_sparql.specs.Checks.{begins_slice, fails, first_place, is_literal, is_slice_number, no_number, slice_over}
-use Rattle.vkg_sparql.specs.Lexemes.{key_of, lexeme_of, lexeme_word, lexemes_of, named_of, number_in}
+use Rattle.vkg_sparql.specs.Lexemes.{key_of, lexeme_of, lexeme_word, lexemes_of, named_of, number_in, template_end}
 use Rattle.vkg_sparql.specs.Literals.{is_term, meaning_of, meanings_of, operator_of, term_of}
 use Rattle.vkg_sparql.specs.Meanings.{meaning_at}
 use Rattle.vkg_sparql.proofs.Numbering.{Marked, is_variable_key, numbered}
@@ -124,34 +125,49 @@ one_of_three false true c h = refl
 one_of_three false false true h = refl
 one_of_three false false false h = absurd (cc)
 
-abbrev IsNarrow : Environment → List ℕ → List Lexeme → ℕ → Type 0
-IsNarrow e token xs k = is_wide_number (term_of e (lexeme_word k token) xs) ≡ false
+abbrev IsNarrow : Bool → Environment → List ℕ → List Lexeme → ℕ → Type 0
+IsNarrow is_template e token xs k = is_wide_number (term_of e (lexeme_word is_template k token) xs) ≡ false
+
+-- a word of another kind than a label's is the same in a template
+no_label : (t : Bool) (k : ℕ) (token : List ℕ) → (k == BLANK) ≡ false → lexeme_word t k token ≡ lexeme_word false k token
+no_label true k token e = ap (λ b. if b then lexical.Label token else lexeme_word false k token) e
+no_label false k token e = refl
+
+-- a kind that is told as another one than a label's
+known : (is_template : Bool) (e : Environment) (token : List ℕ) (xs : List Lexeme) (k : ℕ) → (k == BLANK) ≡ false → IsNarrow false e token xs k → IsNarrow is_template e token xs k
+known t e token xs k b h = ap (λ w. is_wide_number (term_of e w xs)) (no_label t k token b) ∙ h
 
 -- a term, by the kind of its token
-narrow : (e : Environment) (token : List ℕ) (xs : List Lexeme) (k : ℕ) → is_term k ≡ true → (is_literal k ≡ true → IsNarrow e token xs k) → IsNarrow e token xs k
-narrow e token xs k t lit =
-    let P : ℕ → Type 0 = IsNarrow e token xs in
-    other P k IRIREF refl (λ a. other P k PNAME_NS refl (λ b. other P k PNAME_LN refl (λ c. other P k IS_A refl (λ f.
-    other P k TRUE (boolean_is_narrow (str_to_ascii_lowercase token)) (λ g. other P k FALSE (boolean_is_narrow (str_to_ascii_lowercase token)) (λ h.
+narrow : (is_template : Bool) (e : Environment) (token : List ℕ) (xs : List Lexeme) (k : ℕ) → is_term k ≡ true → (is_literal k ≡ true → IsNarrow is_template e token xs k) → IsNarrow is_template e token xs k
+narrow is_template e token xs k t lit =
+    let P : ℕ → Type 0 = IsNarrow is_template e token xs in
+    let by : (n : ℕ) → (n == BLANK) ≡ false → IsNarrow false e token xs n → P n = known is_template e token xs in
+    other P k IRIREF (by IRIREF refl refl) (λ a. other P k PNAME_NS (by PNAME_NS refl refl) (λ b. other P k PNAME_LN (by PNAME_LN refl refl) (λ c. other P k IS_A (by IS_A refl refl) (λ f.
+    other P k TRUE (by TRUE refl (boolean_is_narrow (str_to_ascii_lowercase token))) (λ g. other P k FALSE (by FALSE refl (boolean_is_narrow (str_to_ascii_lowercase token))) (λ h.
     lit (one_of_three (k == STRING) (k == INTEGER) (k == DECIMAL) (sym (λ i. a i || b i || c i || (k == STRING) || (k == INTEGER) || (k == DECIMAL) || f i || g i || h i) ∙ t))))))))
 
 -- ---- the keys of tokens
 
-abbrev lexeme : ℕ → ℕ → List ℕ → Lexeme
-lexeme kind at token = record { kind = kind; at = at; word = lexeme_word kind token }
+abbrev lexeme : Bool → ℕ → ℕ → List ℕ → Lexeme
+lexeme is_template kind at token = record { kind = kind; at = at; word = lexeme_word is_template kind token }
 
 record HasKey (x : Lexeme) (b : Bool) : Type 0 where
   key : List ℕ
   is : key_of x ≡ Some key
   mark : is_variable_key key ≡ b
 
-variable_key : (kind at : ℕ) (token : List ℕ) → (kind == VAR) ≡ true → HasKey (lexeme kind at token) true
-variable_key kind at token e = subst (λ k. HasKey (lexeme k at token) true) (sym (eqb-true kind VAR e)) (record { key = _; is = refl; mark = refl })
+variable_key : (t : Bool) (kind at : ℕ) (token : List ℕ) → (kind == VAR) ≡ true → HasKey (lexeme t kind at token) true
+variable_key true kind at token e = subst (λ k. HasKey (lexeme true k at token) true) (sym (eqb-true kind VAR e)) (record { key = _; is = refl; mark = refl })
+variable_key false kind at token e = subst (λ k. HasKey (lexeme false k at token) true) (sym (eqb-true kind VAR e)) (record { key = _; is = refl; mark = refl })
 
-labels_key : (kind at : ℕ) (token : List ℕ) (a b : Bool) → (kind == BLANK) ≡ a → (kind == OPEN_BRACKET) ≡ b → (a || b) ≡ true → HasKey (lexeme kind at token) false
-labels_key kind at token true b e f h = subst (λ k. HasKey (lexeme k at token) false) (sym (eqb-true kind BLANK e)) (record { key = _; is = refl; mark = refl })
-labels_key kind at token false true e f h = subst (λ k. HasKey (lexeme k at token) false) (sym (eqb-true kind OPEN_BRACKET f)) (record { key = _; is = refl; mark = refl })
-labels_key kind at token false false e f h = absurd (cc)
+label_key : (t : Bool) (at : ℕ) (token : List ℕ) → HasKey (lexeme t BLANK at token) false
+label_key true at token = record { key = _; is = refl; mark = refl }
+label_key false at token = record { key = _; is = refl; mark = refl }
+
+labels_key : (t : Bool) (kind at : ℕ) (token : List ℕ) (a b : Bool) → (kind == BLANK) ≡ a → (kind == OPEN_BRACKET) ≡ b → (a || b) ≡ true → HasKey (lexeme t kind at token) false
+labels_key t kind at token true b e f h = subst (λ k. HasKey (lexeme t k at token) false) (sym (eqb-true kind BLANK e)) (label_key t at token)
+labels_key t kind at token false true e f h = subst (λ k. HasKey (lexeme t k at token) false) (sym (eqb-true kind OPEN_BRACKET f)) (record { key = _; is = refl; mark = refl })
+labels_key t kind at token false false e f h = absurd (cc)
 
 -- ---- what stands where a pattern, an expression or a selection asks for a token
 
@@ -219,54 +235,54 @@ module _ (keys : List (List ℕ)) where
   variable_by true b c n t o h v = v refl
   variable_by false b c n t o h v = absurd (cc)
 
-  module _ (e : Environment) (kind at : ℕ) (token : List ℕ) (xs : List Lexeme)
-      (numbers : (key : List ℕ) → key_of (lexeme kind at token) ≡ Some key → slice_get keys (number_in keys (key_of (lexeme kind at token))) ≡ Some key)
-      (fine : fails Wide e (lexeme kind at token) xs ≡ false) where
+  module _ (e : Environment) (t : Bool) (kind at : ℕ) (token : List ℕ) (xs : List Lexeme)
+      (numbers : (key : List ℕ) → key_of (lexeme t kind at token) ≡ Some key → slice_get keys (number_in keys (key_of (lexeme t kind at token))) ≡ Some key)
+      (fine : fails Wide e (lexeme t kind at token) xs ≡ false) where
     abbrev number : ℕ
-    number = number_in keys (key_of (lexeme kind at token))
+    number = number_in keys (key_of (lexeme t kind at token))
 
-    marked : (b : Bool) → HasKey (lexeme kind at token) b → Marked keys number b
+    marked : (b : Bool) → HasKey (lexeme t kind at token) b → Marked keys number b
     marked b k = ap (option_map is_variable_key) (numbers k.key k.is) ∙ ap Some k.mark
 
-    literal : is_literal kind ≡ true → is_wide_number (term_of e (lexeme_word kind token) xs) ≡ false
+    literal : is_literal kind ≡ true → is_wide_number (term_of e (lexeme_word t kind token) xs) ≡ false
     unfolding fails
-    literal h = sym (cond-true (is_literal kind) (is_wide_number (term_of e (lexeme_word kind token) xs)) false h) ∙ fine
+    literal h = sym (cond-true (is_literal kind) (is_wide_number (term_of e (lexeme_word t kind token) xs)) false h) ∙ fine
 
-    term : is_term kind ≡ true → is_wide_number (term_of e (lexeme_word kind token) xs) ≡ false
-    term h = narrow e token xs kind h literal
+    term : is_term kind ≡ true → is_wide_number (term_of e (lexeme_word t kind token) xs) ≡ false
+    term h = narrow t e token xs kind h literal
 
     variable : (kind == VAR) ≡ true → Marked keys number true
-    variable h = marked true (variable_key kind at token h)
+    variable h = marked true (variable_key t kind at token h)
 
     label : ((kind == BLANK) || (kind == OPEN_BRACKET)) ≡ true → Marked keys number false
-    label h = marked false (labels_key kind at token (kind == BLANK) (kind == OPEN_BRACKET) refl refl h)
+    label h = marked false (labels_key t kind at token (kind == BLANK) (kind == OPEN_BRACKET) refl refl h)
 
-    pub node : is_node_kind kind ≡ true → IsNode (meaning_of e keys (lexeme kind at token) xs)
+    pub node : is_node_kind kind ≡ true → IsNode (meaning_of e keys (lexeme t kind at token) xs)
     unfolding meaning_of
-    node h = node_by (kind == VAR) ((kind == BLANK) || (kind == OPEN_BRACKET)) (is_term kind) number (term_of e (lexeme_word kind token) xs) (operator_of kind) h variable label term
+    node h = node_by (kind == VAR) ((kind == BLANK) || (kind == OPEN_BRACKET)) (is_term kind) number (term_of e (lexeme_word t kind token) xs) (operator_of kind) h variable label term
 
-    pub operand : is_operand_kind kind ≡ true → IsOperand (meaning_of e keys (lexeme kind at token) xs)
+    pub operand : is_operand_kind kind ≡ true → IsOperand (meaning_of e keys (lexeme t kind at token) xs)
     unfolding meaning_of
-    operand h = operand_by (kind == VAR) ((kind == BLANK) || (kind == OPEN_BRACKET)) (is_term kind) number (term_of e (lexeme_word kind token) xs) (operator_of kind) h variable term
+    operand h = operand_by (kind == VAR) ((kind == BLANK) || (kind == OPEN_BRACKET)) (is_term kind) number (term_of e (lexeme_word t kind token) xs) (operator_of kind) h variable term
 
-    pub given : IsGiven (meaning_of e keys (lexeme kind at token) xs)
+    pub given : IsGiven (meaning_of e keys (lexeme t kind at token) xs)
     unfolding meaning_of
-    given = given_by (kind == VAR) ((kind == BLANK) || (kind == OPEN_BRACKET)) (is_term kind) number (term_of e (lexeme_word kind token) xs) (operator_of kind) (given_operator kind) term
+    given = given_by (kind == VAR) ((kind == BLANK) || (kind == OPEN_BRACKET)) (is_term kind) number (term_of e (lexeme_word t kind token) xs) (operator_of kind) (given_operator kind) term
 
-    pub only_variable : is_variable_kind kind ≡ true → IsVariable (meaning_of e keys (lexeme kind at token) xs)
+    pub only_variable : is_variable_kind kind ≡ true → IsVariable (meaning_of e keys (lexeme t kind at token) xs)
     unfolding meaning_of
-    only_variable h = variable_by (kind == VAR) ((kind == BLANK) || (kind == OPEN_BRACKET)) (is_term kind) number (term_of e (lexeme_word kind token) xs) (operator_of kind) h variable
+    only_variable h = variable_by (kind == VAR) ((kind == BLANK) || (kind == OPEN_BRACKET)) (is_term kind) number (term_of e (lexeme_word t kind token) xs) (operator_of kind) h variable
 
 -- ---- at a token of the text
 
 record Stands (text : List ℕ) (tokens : List Token) (i k : ℕ) : Type 0 where
   token : Token
-  at : slice_get (lexemes_of text tokens) i ≡ Some (lexeme_of text token)
+  at : slice_get (lexemes_of text tokens) i ≡ Some (lexeme_of text (template_end tokens) token)
   kind : token.kind ≡ k
 
 stands_at : (text : List ℕ) (tokens : List Token) (i k : ℕ) (o : Option Token) → slice_get tokens i ≡ o → option_map (λ t. t.kind) o ≡ Some k → Stands text tokens i k
 stands_at text tokens i k None e h = absurd (cc)
-stands_at text tokens i k (Some t) e h = record { token = t; at = slice_get-map (lexeme_of text) tokens i ∙ ap (option_map (lexeme_of text)) e; kind = cc }
+stands_at text tokens i k (Some t) e h = record { token = t; at = slice_get-map (lexeme_of text (template_end tokens)) tokens i ∙ ap (option_map (lexeme_of text (template_end tokens))) e; kind = cc }
 
 stands : (text : List ℕ) (tokens : List Token) (i k : ℕ) → slice_get (kinds_of tokens) i ≡ Some k → Stands text tokens i k
 stands text tokens i k h = stands_at text tokens i k (slice_get tokens i) refl (sym (slice_get-map (λ t. t.kind) tokens i) ∙ h)
@@ -274,6 +290,9 @@ stands text tokens i k h = stands_at text tokens i k (slice_get tokens i) refl (
 module _ (text : List ℕ) (tokens : List Token) (e : Environment) (start : ℕ) where
   abbrev pub lexed : List Lexeme
   lexed = lexemes_of text tokens
+
+  abbrev end : ℕ
+  end = template_end tokens
 
   abbrev pub body : List Lexeme
   body = drop start lexed
@@ -286,26 +305,26 @@ module _ (text : List ℕ) (tokens : List Token) (e : Environment) (start : ℕ)
 
   module _ (fine : Fine e body) (i k : ℕ) (l : start ≤ i) (h : slice_get (kinds_of tokens) i ≡ Some k) where
     at_token : (P : Meaning → Type 0)
-        → ((kind at : ℕ) (token : List ℕ) (xs : List Lexeme) → kind ≡ k
-        → ((key : List ℕ) → key_of (lexeme kind at token) ≡ Some key → slice_get body_keys (number_in body_keys (key_of (lexeme kind at token))) ≡ Some key)
-        → fails Wide e (lexeme kind at token) xs ≡ false → P (meaning_of e body_keys (lexeme kind at token) xs))
+        → ((t : Bool) (kind at : ℕ) (token : List ℕ) (xs : List Lexeme) → kind ≡ k
+        → ((key : List ℕ) → key_of (lexeme t kind at token) ≡ Some key → slice_get body_keys (number_in body_keys (key_of (lexeme t kind at token))) ≡ Some key)
+        → fails Wide e (lexeme t kind at token) xs ≡ false → P (meaning_of e body_keys (lexeme t kind at token) xs))
         → P (meaning_at all_meanings i)
     at_token P f =
         let s = stands text tokens i k h in
-        let d = dropped start lexed i (lexeme_of text s.token) l s.at in
-        subst P (sym (meaning_is e body_keys start lexed i (lexeme_of text s.token) l s.at))
-        (f s.token.kind s.token.start (between text s.token.start s.token.end) (behind lexed i) s.kind
-        (λ key q. numbered body d.place (lexeme_of text s.token) key d.at q)
-        (subst (λ xs. fails Wide e (lexeme_of text s.token) xs ≡ false) d.rest (passes_at e body d.place (lexeme_of text s.token) fine d.at)))
+        let d = dropped start lexed i (lexeme_of text end s.token) l s.at in
+        subst P (sym (meaning_is e body_keys start lexed i (lexeme_of text end s.token) l s.at))
+        (f (nat_lt s.token.start end) s.token.kind s.token.start (between text s.token.start s.token.end) (behind lexed i) s.kind
+        (λ key q. numbered body d.place (lexeme_of text end s.token) key d.at q)
+        (subst (λ xs. fails Wide e (lexeme_of text end s.token) xs ≡ false) d.rest (passes_at e body d.place (lexeme_of text end s.token) fine d.at)))
 
     pub node_at : is_node_kind k ≡ true → IsNode body_keys (meaning_at all_meanings i)
-    node_at p = at_token (IsNode body_keys) (λ kind at token xs same numbers narrow. node body_keys e kind at token xs numbers narrow (ap is_node_kind same ∙ p))
+    node_at p = at_token (IsNode body_keys) (λ t kind at token xs same numbers narrow. node body_keys e t kind at token xs numbers narrow (ap is_node_kind same ∙ p))
 
     pub operand_at : is_operand_kind k ≡ true → IsOperand body_keys (meaning_at all_meanings i)
-    operand_at p = at_token (IsOperand body_keys) (λ kind at token xs same numbers narrow. operand body_keys e kind at token xs numbers narrow (ap is_operand_kind same ∙ p))
+    operand_at p = at_token (IsOperand body_keys) (λ t kind at token xs same numbers narrow. operand body_keys e t kind at token xs numbers narrow (ap is_operand_kind same ∙ p))
 
     pub variable_at : is_variable_kind k ≡ true → IsVariable body_keys (meaning_at all_meanings i)
-    variable_at p = at_token (IsVariable body_keys) (λ kind at token xs same numbers narrow. only_variable body_keys e kind at token xs numbers narrow (ap is_variable_kind same ∙ p))
+    variable_at p = at_token (IsVariable body_keys) (λ t kind at token xs same numbers narrow. only_variable body_keys e t kind at token xs numbers narrow (ap is_variable_kind same ∙ p))
 
     pub given_at : IsGiven body_keys (meaning_at all_meanings i)
-    given_at = at_token (IsGiven body_keys) (λ kind at token xs same numbers narrow. given body_keys e kind at token xs numbers narrow)
+    given_at = at_token (IsGiven body_keys) (λ t kind at token xs same numbers narrow. given body_keys e t kind at token xs numbers narrow)

@@ -1,9 +1,11 @@
--- SPARQL 1.1, 19.8, [1] to [9], [17], [18], [53] to [68]: groups and the query, off its tree.
+-- SPARQL 1.1, 19.8, [1] to [12], [17], [18], [53] to [74]: groups and the query, off its tree.
 use Rattle.std.specs.Prelude.{ℕ, Bool, true, false, List, [], ◌∷◌, ◌++◌, map}
 use Rattle.vkg_grammar.specs.Trees.{Tree, pair, first, second}
 use Rattle.vkg_sparql.specs.declared.meaning.Meaning.{Meaning}
 use Rattle.vkg_sparql.specs.declared.meaning.TripleTokens.{TripleTokens}
 use Rattle.vkg_sparql.specs.declared.pattern.TriplePattern.{TriplePattern}
+use Rattle.vkg_sparql.specs.declared.query.Form.{Form}
+use Rattle.vkg_sparql.specs.declared.query.Form.TheVariants.{Select, Ask, Construct}
 use Rattle.vkg_sparql.specs.declared.query.Part.{Part}
 use Rattle.vkg_sparql.specs.declared.query.Part.TheVariants.{Triples, Filter, Optional, Graph, Groups, Minus, Bind}
 use Rattle.vkg_sparql.specs.declared.query.Query.{Query}
@@ -13,7 +15,7 @@ use Rattle.vkg_sparql.specs.Conditions.{filter_value, or_value}
 use Rattle.vkg_sparql.specs.Meanings.{first_token, meaning_at, number_of, numbers_value, pattern_of, name_of}
 use Rattle.vkg_sparql.specs.Orders.{no_slice, order_value, slice_value}
 use Rattle.vkg_sparql.specs.Tables.{table_value}
-use Rattle.vkg_sparql.specs.Triples.{block_value, group_triples}
+use Rattle.vkg_sparql.specs.Triples.{block_value, block_triples}
 
 abbrev pub patterns_of : List Meaning → List TripleTokens → List TriplePattern
 patterns_of ms ts = map (pattern_of ms) ts
@@ -92,21 +94,44 @@ is_distinct t = false
 
 -- of a tree that no production has
 abbrev pub no_query : List (List ℕ) → Query
-no_query names = record { names = names; distinct = false; selected = All; group = []; keys = []; slice = no_slice }
+no_query names = record { names = names; form = Select; distinct = false; selected = All; group = []; keys = []; slice = no_slice }
 
--- query = prologue SELECT [ DISTINCT | REDUCED ] selection [ WHERE ] group [ order ] [ slice ], where the variables and labels have these names
-abbrev pub query_value : List (List ℕ) → List Meaning → Tree → Query
-query_value names ms (pair prologue (pair select (pair kind (pair selection (pair where_ (pair g (pair order slice))))))) = record {
+-- solutions = [ WHERE ] group [ order ] [ slice ], behind what asks for this
+abbrev pub solutions_value : List (List ℕ) → Form → Bool → Selected → List Meaning → Tree → Query
+solutions_value names form distinct selected ms (pair where_ (pair g (pair order slice))) = record {
   names = names;
-  distinct = is_distinct kind;
-  selected = selection_value ms selection;
+  form = form;
+  distinct = distinct;
+  selected = selected;
   group = group_value ms g;
   keys = order_value ms order;
   slice = slice_value ms slice;
 }
-query_value names ms t = no_query names
+solutions_value names form distinct selected ms t = no_query names
 
--- all triple patterns of a query, by their tokens
-abbrev pub query_triples : Tree → List TripleTokens
-query_triples (pair prologue (pair select (pair kind (pair selection (pair where_ (pair g more)))))) = group_triples g
-query_triples t = []
+-- SELECT [ DISTINCT | REDUCED ] selection solutions
+abbrev pub select_value : List (List ℕ) → List Meaning → Tree → Query
+select_value names ms (pair select (pair kind (pair selection t))) = solutions_value names Select (is_distinct kind) (selection_value ms selection) ms t
+select_value names ms t = no_query names
+
+-- ASK [ WHERE ] group: no variable is selected
+abbrev pub ask_value : List (List ℕ) → List Meaning → Tree → Query
+ask_value names ms (pair ask (pair where_ g)) = record { names = names; form = Ask; distinct = false; selected = Listed []; group = group_value ms g; keys = []; slice = no_slice }
+ask_value names ms t = no_query names
+
+-- CONSTRUCT "{" [ block ] "}" solutions: each variable is selected
+abbrev pub construct_value : List (List ℕ) → List Meaning → Tree → Query
+construct_value names ms (pair construct (pair left (pair block (pair right t)))) = solutions_value names (Construct (patterns_of ms (block_triples block))) false All ms t
+construct_value names ms t = no_query names
+
+-- form = SELECT .. | ASK .. | CONSTRUCT ..
+abbrev pub form_value : List (List ℕ) → List Meaning → Tree → Query
+form_value names ms (first t) = select_value names ms t
+form_value names ms (second (first t)) = ask_value names ms t
+form_value names ms (second (second t)) = construct_value names ms t
+form_value names ms t = no_query names
+
+-- query = prologue form, where the variables and labels have these names
+abbrev pub query_value : List (List ℕ) → List Meaning → Tree → Query
+query_value names ms (pair prologue t) = form_value names ms t
+query_value names ms t = no_query names

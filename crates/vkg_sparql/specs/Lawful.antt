@@ -8,6 +8,8 @@ use Rattle.vkg_sparql.specs.declared.pattern.Node.TheVariants as node
 use Rattle.vkg_sparql.specs.declared.pattern.GraphName.{GraphName}
 use Rattle.vkg_sparql.specs.declared.pattern.GraphName.TheVariants.{Each, Named}
 use Rattle.vkg_sparql.specs.declared.pattern.TriplePattern.{TriplePattern}
+use Rattle.vkg_sparql.specs.declared.query.Form.{Form}
+use Rattle.vkg_sparql.specs.declared.query.Form.TheVariants.{Construct}
 use Rattle.vkg_sparql.specs.declared.query.Selected.{Selected}
 use Rattle.vkg_sparql.specs.declared.query.Selected.TheVariants.{All, Listed}
 use Rattle.vkg_sparql.specs.Query.{Condition, Variable, Constant, Bound, Test, Take, Compare, SameTerm, Not, And, Or, Part, Triples, Filter, Optional, Graph, Groups, Minus, Values, Bind, Group, End, Then, Unions, Last, Union, Key, Query}
@@ -63,6 +65,11 @@ abbrev mutual
   unions_nodes Last = []
   unions_nodes (Union g more) = group_nodes g ++ unions_nodes more
 
+-- those of a template
+abbrev pub form_nodes : Form → List Node
+form_nodes (Construct ts) = patterns_nodes ts
+form_nodes form = []
+
 abbrev pub selected_nodes : Selected → List Node
 selected_nodes All = []
 selected_nodes (Listed vs) = map node.Variable vs
@@ -72,7 +79,7 @@ keys_nodes [] = []
 keys_nodes (k ∷ ks) = condition_nodes k.condition ++ keys_nodes ks
 
 abbrev pub query_nodes : Query → List Node
-query_nodes q = selected_nodes q.selected ++ (group_nodes q.group ++ keys_nodes q.keys)
+query_nodes q = form_nodes q.form ++ (selected_nodes q.selected ++ (group_nodes q.group ++ keys_nodes q.keys))
 
 -- a number among n, or a term that is no such literal
 abbrev pub IsWithin : ℕ → Node → Type 0

@@ -1,9 +1,9 @@
 -- What the tokens of a query say by themselves, and how its variables and blank nodes are numbered.
-use Rattle.std.specs.Prelude.{ℕ, ◌||◌, List, [], ◌∷◌, ◌++◌, codes, decimal, fold, length, map, position, unwrap_or, Option, Some, None, if◌then◌else◌, ◌==◌}
+use Rattle.std.specs.Prelude.{ℕ, Bool, ◌||◌, ◌&&◌, List, [], ◌∷◌, ◌++◌, codes, decimal, fold, length, map, nat_lt, position, unwrap_or, Option, Some, None, if◌then◌else◌, ◌==◌}
 use Rattle.std.specs.List.{list_any}
 use Rattle.std.specs.Str.{bytes_eq}
 use Rattle.vkg_tokens.specs.declared.cutting.Token.{Token}
-use Rattle.vkg_tokens.specs.declared.sparql_kinds.TheConstants.{OPEN_BRACKET, IRIREF, PNAME_NS, PNAME_LN, BLANK, VAR, STRING, LANGTAG, INTEGER, DECIMAL, IS_A, TRUE, FALSE}
+use Rattle.vkg_tokens.specs.declared.sparql_kinds.TheConstants.{CLOSE_BRACE, OPEN_BRACKET, IRIREF, PNAME_NS, PNAME_LN, BLANK, VAR, STRING, LANGTAG, INTEGER, DECIMAL, IS_A, TRUE, FALSE, CONSTRUCT}
 use Rattle.vkg_tokens.specs.declared.turtle_kinds.TheConstants as turtle
 use Rattle.vkg_turtle.specs.declared.lexeme.Word.{Word}
 use Rattle.vkg_turtle.specs.declared.lexeme.Word.TheVariants.{Label}
@@ -31,14 +31,29 @@ turtle_kind kind =
 abbrev pub variable_or : ℕ → List ℕ → Word → Word
 variable_or kind token word = if kind == VAR then Label (between token 1 (length token)) else word
 
-abbrev pub lexeme_word : ℕ → List ℕ → Word
-lexeme_word kind token = variable_or kind token (word_of (turtle_kind kind) token)
+-- SPARQL 1.1, 16.2.1: a label of a template is none of the pattern; it is kept with its `_:`, as none of the pattern's is
+abbrev pub label_or : Bool → ℕ → List ℕ → Word → Word
+label_or is_template kind token word = if is_template && (kind == BLANK) then Label token else word
 
-abbrev pub lexeme_of : List ℕ → Token → Lexeme
-lexeme_of text t = record { kind = t.kind; at = t.start; word = lexeme_word t.kind (between text t.start t.end) }
+abbrev pub lexeme_word : Bool → ℕ → List ℕ → Word
+lexeme_word is_template kind token = label_or is_template kind token (variable_or kind token (word_of (turtle_kind kind) token))
+
+-- of a text whose template ends at this place
+abbrev pub lexeme_of : List ℕ → ℕ → Token → Lexeme
+lexeme_of text end t = record { kind = t.kind; at = t.start; word = lexeme_word (nat_lt t.start end) t.kind (between text t.start t.end) }
+
+-- 19.8, [73]: the place of the first brace that closes
+abbrev pub first_close : List Token → ℕ
+first_close [] = 0
+first_close (t ∷ ts) = if t.kind == CLOSE_BRACE then t.start else first_close ts
+
+-- the place of the brace that ends the template of a CONSTRUCT; 0 where there is none
+abbrev pub template_end : List Token → ℕ
+template_end [] = 0
+template_end (t ∷ ts) = if t.kind == CONSTRUCT then first_close ts else template_end ts
 
 abbrev pub lexemes_of : List ℕ → List Token → List Lexeme
-lexemes_of text ts = map (lexeme_of text) ts
+lexemes_of text ts = map (lexeme_of text (template_end ts)) ts
 
 -- variables with `?` before their names, labels with `_:`, and each `[` by its place are told apart
 abbrev pub label_key : ℕ → Word → Option (List ℕ)

@@ -3,7 +3,6 @@ pub mod Conditions
 pub mod Environment
 pub mod Groups
 pub mod Lawful
-pub mod LeftOut
 pub mod Lexemes
 pub mod Literals
 pub mod Meanings

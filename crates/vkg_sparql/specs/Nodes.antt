@@ -1,15 +1,17 @@
 -- The nodes of a query, which are counted.
 use Rattle.std.specs.Prelude.{ℕ, Bool, false, ◌||◌, ◌&&◌, List, [], ◌∷◌, ◌++◌, fold, slice_get, Option, if◌then◌else◌, ◌==◌, nat_le}
-use Rattle.vkg_tokens.specs.declared.sparql_kinds.TheConstants.{OPEN_BRACE, CLOSE_BRACE, OPEN, EQUAL, OR, CARETS, OPTIONAL, DATATYPE, STRLEN, BIND, VALUES, UNDEF}
+use Rattle.vkg_tokens.specs.declared.sparql_kinds.TheConstants.{OPEN_BRACE, CLOSE_BRACE, OPEN, EQUAL, OR, CARETS, OPTIONAL, DATATYPE, STRLEN, BIND, VALUES, UNDEF, CONSTRUCT}
 use Rattle.vkg_sparql.specs.declared.lexeme.Lexeme.{Lexeme}
 use Rattle.vkg_sparql.specs.declared.nodes.Nodes.{Nodes}
 use Rattle.vkg_sparql.specs.declared.nodes.Stretch.{Stretch}
 use Rattle.vkg_sparql.specs.declared.nodes.Stretch.TheVariants as stretch
 use Rattle.vkg_sparql.specs.Literals.{is_term}
 
--- SPARQL 1.1, 19.8, [61] to [65]: behind VALUES come variables, and behind a brace values; an IRI behind `^^` is no value of its own
+-- SPARQL 1.1, 19.8, [61] to [65] and [10]: behind VALUES come variables, and behind a brace values; an IRI behind `^^` is no value of its own;
+-- behind CONSTRUCT comes a template, up to its closing brace
 abbrev pub next_stretch : Stretch → ℕ → Stretch
-next_stretch stretch.Group kind = if kind == VALUES then stretch.Variables else stretch.Group
+next_stretch stretch.Group kind = if kind == VALUES then stretch.Variables else if kind == CONSTRUCT then stretch.Template else stretch.Group
+next_stretch stretch.Template kind = if kind == CLOSE_BRACE then stretch.Group else stretch.Template
 next_stretch stretch.Variables kind = if kind == OPEN_BRACE then stretch.Rows else stretch.Variables
 next_stretch stretch.Rows kind = if kind == CLOSE_BRACE then stretch.Group else if kind == CARETS then stretch.Suffix else stretch.Rows
 next_stretch stretch.Suffix kind = stretch.Rows
@@ -22,6 +24,7 @@ is_node kind = (kind == OPEN_BRACE) || (nat_le EQUAL kind && nat_le kind OR) || 
 -- own: and of VALUES each row's `(` and each value
 abbrev pub is_node_in : Stretch → ℕ → Bool
 is_node_in stretch.Group kind = is_node kind
+is_node_in stretch.Template kind = false
 is_node_in stretch.Variables kind = false
 is_node_in stretch.Rows kind = (kind == OPEN) || (kind == UNDEF) || is_term kind
 is_node_in stretch.Suffix kind = false

@@ -6,6 +6,7 @@ use Rattle.vkg_values.specs.declared.operator.Take.{Take as TakeOp}
 use Rattle.vkg_values.specs.declared.operator.Compare.{Compare as CompareOp}
 use Rattle.vkg_sparql.specs.declared.pattern.GraphName.{GraphName}
 use Rattle.vkg_sparql.specs.declared.pattern.TriplePattern.{TriplePattern}
+use Rattle.vkg_sparql.specs.declared.query.Form.{Form}
 use Rattle.vkg_sparql.specs.declared.query.Selected.{Selected}
 use Rattle.vkg_sparql.specs.declared.query.Slice.{Slice}
 
@@ -50,6 +51,7 @@ pub record Key : Type 0 where
 
 pub record Query : Type 0 where
   pub names : List (List ℕ)
+  pub form : Form
   pub distinct : Bool
   pub selected : Selected
   pub group : Group

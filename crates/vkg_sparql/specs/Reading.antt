@@ -11,7 +11,7 @@ use Rattle.vkg_tokens.specs.declared.cutting.Token.{Token}
 use Rattle.vkg_tokens.specs.declared.lang.Lang.TheVariants.{Sparql}
 use Rattle.vkg_tokens.specs.Cut.{tokens_of}
 use Rattle.vkg_tokens.specs.Mark.{without_mark}
-use Rattle.vkg_tokens.specs.declared.sparql_kinds.TheConstants.{OPEN_BRACE, CLOSE_BRACE, OPEN, CLOSE, OPEN_BRACKET, CLOSE_BRACKET, STAR, CARET, PLUS_SIGN, QUESTION, DOUBLE, SELECT, OUTSIDE, VALUES, ASK, CONSTRUCT, KIND_COUNT}
+use Rattle.vkg_tokens.specs.declared.sparql_kinds.TheConstants.{OPEN_BRACE, CLOSE_BRACE, OPEN, CLOSE, OPEN_BRACKET, CLOSE_BRACKET, STAR, CARET, PLUS_SIGN, QUESTION, DOUBLE, SELECT, OUTSIDE, VALUES, KIND_COUNT}
 use Rattle.vkg_turtle.specs.Lexical.{IsFirstBad}
 use Rattle.vkg_sparql.specs.declared.checks.Check.TheVariants.{Unknown, Relative, Float, Wide}
 use Rattle.vkg_sparql.specs.declared.environment.Environment.{Environment}
@@ -26,11 +26,12 @@ use Rattle.vkg_sparql.specs.declared.fault.QueryError.TheVariants.{Fault, Memory
 use Rattle.vkg_sparql.specs.declared.fault.QueryFault.{QueryFault}
 use Rattle.vkg_sparql.specs.Checks.{first_place, label_again, triples_over, size_over, slice_over}
 use Rattle.vkg_sparql.specs.Environment.{environment_of, body_start}
-use Rattle.vkg_sparql.specs.Groups.{query_value, query_triples}
+use Rattle.vkg_sparql.specs.Groups.{query_value}
 use Rattle.vkg_sparql.specs.Lexemes.{lexemes_of, named_of}
 use Rattle.vkg_sparql.specs.Literals.{meanings_of}
 use Rattle.vkg_sparql.specs.Nodes.{nodes_over}
 use Rattle.vkg_sparql.specs.Scopes.{query_scope}
+use Rattle.vkg_sparql.specs.Triples.{query_triples}
 
 -- the tokens of a query
 abbrev pub sparql_tokens : List ℕ → Result (List Token) ℕ
@@ -52,10 +53,10 @@ kind_at ts i = slice_index_or (kinds_of ts) i 0
 abbrev pub fault : ℕ → ℕ → QueryFault
 fault check at = record { check = check; at = at }
 
--- own: the words of SPARQL 1.1 that are told as left out of the profile: those of the kind OUTSIDE, those that are to come, and VALUES where no
--- query goes on with it, as behind the outermost group
+-- own: the words of SPARQL 1.1 that are told as left out of the profile: those of the kind OUTSIDE, and VALUES where no query goes on with it,
+-- as behind the outermost group
 unfoldable pub is_outside_word : ℕ → Bool
-is_outside_word kind = (kind == OUTSIDE) || (kind == VALUES) || (kind == ASK) || (kind == CONSTRUCT)
+is_outside_word kind = (kind == OUTSIDE) || (kind == VALUES)
 
 -- own: the tokens that are told so: these words, `(` `*` `/` `|` `^` `+` `-` `?`, a number with an exponent, and SELECT within a query. Among
 -- the kinds `*` to `^` stand together, and `+` to `?`

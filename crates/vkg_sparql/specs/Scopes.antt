@@ -143,7 +143,34 @@ abbrev mutual
   groups_scope ms xs s (pair (pair word g) more) = groups_scope ms xs (joined s (group_scope ms xs s g)) more
   groups_scope ms xs s t = s
 
+-- solutions = [ WHERE ] group [ order ] [ slice ]
+abbrev pub solutions_scope : List Meaning → List Lexeme → Tree → Scope
+solutions_scope ms xs (pair where_ (pair g more)) = group_scope ms xs no_scope g
+solutions_scope ms xs t = no_scope
+
+-- SELECT [ DISTINCT | REDUCED ] selection solutions
+abbrev pub select_scope : List Meaning → List Lexeme → Tree → Scope
+select_scope ms xs (pair select (pair kind (pair selection t))) = solutions_scope ms xs t
+select_scope ms xs t = no_scope
+
+-- ASK [ WHERE ] group
+abbrev pub ask_scope : List Meaning → List Lexeme → Tree → Scope
+ask_scope ms xs (pair ask (pair where_ g)) = group_scope ms xs no_scope g
+ask_scope ms xs t = no_scope
+
+-- CONSTRUCT "{" [ block ] "}" solutions: a variable of the template is not visible by that
+abbrev pub construct_scope : List Meaning → List Lexeme → Tree → Scope
+construct_scope ms xs (pair construct (pair left (pair block (pair right t)))) = solutions_scope ms xs t
+construct_scope ms xs t = no_scope
+
+-- form = SELECT .. | ASK .. | CONSTRUCT ..
+abbrev pub form_scope : List Meaning → List Lexeme → Tree → Scope
+form_scope ms xs (first t) = select_scope ms xs t
+form_scope ms xs (second (first t)) = ask_scope ms xs t
+form_scope ms xs (second (second t)) = construct_scope ms xs t
+form_scope ms xs t = no_scope
+
 -- of the outermost group of a query
 abbrev pub query_scope : List Meaning → List Lexeme → Tree → Scope
-query_scope ms xs (pair prologue (pair select (pair kind (pair selection (pair where_ (pair g more)))))) = group_scope ms xs no_scope g
+query_scope ms xs (pair prologue t) = form_scope ms xs t
 query_scope ms xs t = no_scope

@@ -61,6 +61,7 @@ key_seen k = record { condition = condition_seen k.condition; descends = k.desce
 abbrev pub query_seen : QueryValue → Query
 query_seen q = record {
   names = q.names;
+  form = q.form;
   distinct = q.distinct;
   selected = q.selected;
   group = group_seen q.group;

@@ -110,3 +110,35 @@ abbrev mutual
   pub groups_triples : Tree → List TripleTokens
   groups_triples (pair (pair word g) more) = group_triples g ++ groups_triples more
   groups_triples t = []
+
+-- solutions = [ WHERE ] group [ order ] [ slice ]
+abbrev pub solutions_triples : Tree → List TripleTokens
+solutions_triples (pair where_ (pair g more)) = group_triples g
+solutions_triples t = []
+
+-- SELECT [ DISTINCT | REDUCED ] selection solutions
+abbrev pub select_triples : Tree → List TripleTokens
+select_triples (pair select (pair kind (pair selection t))) = solutions_triples t
+select_triples t = []
+
+-- ASK [ WHERE ] group
+abbrev pub ask_triples : Tree → List TripleTokens
+ask_triples (pair ask (pair where_ g)) = group_triples g
+ask_triples t = []
+
+-- CONSTRUCT "{" [ block ] "}" solutions
+abbrev pub construct_triples : Tree → List TripleTokens
+construct_triples (pair construct (pair left (pair block (pair right t)))) = block_triples block ++ solutions_triples t
+construct_triples t = []
+
+-- form = SELECT .. | ASK .. | CONSTRUCT ..
+abbrev pub form_triples : Tree → List TripleTokens
+form_triples (first t) = select_triples t
+form_triples (second (first t)) = ask_triples t
+form_triples (second (second t)) = construct_triples t
+form_triples t = []
+
+-- all triple patterns of a query, those of its template first
+abbrev pub query_triples : Tree → List TripleTokens
+query_triples (pair prologue t) = form_triples t
+query_triples t = []

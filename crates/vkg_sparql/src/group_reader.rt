@@ -13,7 +13,8 @@ use std::alloc::Global;
 use vkg_base::{Items, Memory};
 use vkg_grammar::{Forest, Node};
 
-fn patterns_of(
+/// The triple patterns of these tokens.
+pub fn patterns_of(
     alloc: Global,
     meanings: &[Meaning],
     triples: &[TripleTokens],

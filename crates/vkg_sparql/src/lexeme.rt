@@ -1,5 +1,5 @@
-ghost use Rattle.std.specs.Prelude.{◌≡◌, IfOk};
-ghost use Rattle.vkg_sparql.specs.Lexemes.{turtle_kind, variable_or, lexeme_word, lexeme_of, lexemes_of};
+ghost use Rattle.std.specs.Prelude.{◌≡◌, IfOk, map};
+ghost use Rattle.vkg_sparql.specs.Lexemes.{first_close, turtle_kind, variable_or, lexeme_word, lexeme_of, lexemes_of, template_end};
 
 use std::alloc::Global;
 use vkg_base::{Memory, Text};
@@ -33,19 +33,28 @@ fn turtle_kind(kind: usize) -> usize
     }
 }
 
-fn lexeme_word(alloc: Global, kind: usize, token: &str) -> Result<Word, Memory>
-    ensures { IfOk result (λ w. w ≡ lexeme_word kind token.now) }
+fn lexeme_word(alloc: Global, is_template: bool, kind: usize, token: &str) -> Result<Word, Memory>
+    ensures { IfOk result (λ w. w ≡ lexeme_word is_template kind token.now) }
 {
+    if is_template && kind == kinds::BLANK {
+        return Ok(Word::Label(Text::new(alloc, token)?));
+    }
     if kind == kinds::VAR {
         return Ok(Word::Label(Text::new(alloc, between(token, 1, token.len()))?));
     }
     word_of(alloc, turtle_kind(kind), token)
 }
 
-fn lexeme_of(alloc: Global, text: &str, token: Token) -> Result<Lexeme, Memory>
-    ensures { IfOk result (λ x. x ≡ lexeme_of text.now token) }
+fn lexeme_of(alloc: Global, text: &str, end: usize, token: Token) -> Result<Lexeme, Memory>
+    ensures { IfOk result (λ x. x ≡ lexeme_of text.now end token) }
 {
-    let word = lexeme_word(alloc, token.kind, between(text, token.start, token.end))?;
+    let is_template = token.start < end;
+    let word = lexeme_word(
+        alloc,
+        is_template,
+        token.kind,
+        between(text, token.start, token.end),
+    )?;
     Ok(Lexeme {
         kind: token.kind,
         at: token.start,
@@ -53,13 +62,46 @@ fn lexeme_of(alloc: Global, text: &str, token: Token) -> Result<Lexeme, Memory>
     })
 }
 
+fn first_close(tokens: &[Token]) -> usize
+    ensures { result ≡ first_close tokens.now }
+{
+    let mut rest = tokens;
+    while let Some((token, more)) = rest.split_first() {
+        if token.kind == kinds::CLOSE_BRACE {
+            return token.start;
+        }
+        rest = more;
+    }
+    0
+}
+
+// The place of the brace that ends the template of a CONSTRUCT, or 0.
+fn template_end(tokens: &[Token]) -> usize
+    ensures { result ≡ template_end tokens.now }
+{
+    let mut rest = tokens;
+    while let Some((token, more)) = rest.split_first() {
+        if token.kind == kinds::CONSTRUCT {
+            return first_close(more);
+        }
+        rest = more;
+    }
+    0
+}
+
+fn each_of(alloc: Global, text: &str, end: usize, tokens: &[Token]) -> Result<Vec<Lexeme>, Memory>
+    ensures { IfOk result (λ xs. xs.items ≡ map (lexeme_of text.now end) tokens.now) }
+{
+    let mut lexemes = Vec::new(alloc);
+    for token in tokens {
+        lexemes.push(lexeme_of(alloc, text, end, *token)?)?;
+    }
+    Ok(lexemes)
+}
+
 /// What each token says.
 pub fn lexemes_of(alloc: Global, text: &str, tokens: &[Token]) -> Result<Vec<Lexeme>, Memory>
     ensures { IfOk result (λ xs. xs.items ≡ lexemes_of text.now tokens.now) }
 {
-    let mut lexemes = Vec::new(alloc);
-    for token in tokens {
-        lexemes.push(lexeme_of(alloc, text, *token)?)?;
-    }
-    Ok(lexemes)
+    each_of(alloc, text, template_end(tokens), tokens)
 }

@@ -1,5 +1,5 @@
-//! SPARQL queries (SPARQL 1.1 Query Language, W3C Recommendation of 2013), in the profile of this project: SELECT over
-//! basic graph patterns, OPTIONAL, UNION, GRAPH, FILTER, MINUS, VALUES and BIND, with ORDER BY, LIMIT and OFFSET.
+//! SPARQL queries (SPARQL 1.1 Query Language, W3C Recommendation of 2013), in the profile of this project: SELECT, ASK and
+//! CONSTRUCT over basic graph patterns, OPTIONAL, UNION, GRAPH, FILTER, MINUS, VALUES and BIND, with ORDER BY, LIMIT and OFFSET.
 //!
 //! A query is kept as it is written, with its variables and blank node labels numbered. The definitions in `specs/` say
 //! what each type stands for as a tree that computes; copies are equal to what they copy.
@@ -27,8 +27,10 @@ mod order_reader;
 mod pattern;
 mod query;
 mod query_reader;
+mod query_triples;
 mod reading;
 mod rows;
+mod scope_reader;
 mod scopes;
 mod symbols;
 mod table_reader;
@@ -46,7 +48,7 @@ pub use meaning::{Meaning, TripleTokens};
 pub use names::{Named, Names};
 pub use nodes::{Nodes, Stretch};
 pub use pattern::{GraphName, Node, TriplePattern, copy_patterns};
-pub use query::{Key, Part, Query, Selected, Slice};
-pub use reading::{is_determined, leaves_out_words, read_query};
+pub use query::{Form, Key, Part, Query, Selected, Slice};
+pub use reading::{is_determined, read_query};
 pub use rows::copy_rows;
 pub use scopes::Scope;

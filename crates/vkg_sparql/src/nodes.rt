@@ -11,6 +11,8 @@ use vkg_tokens::sparql_kinds as kinds;
 #[derive(Clone, Copy)]
 pub enum Stretch {
     Group,
+    /// The template of CONSTRUCT, from that word on.
+    Template,
     /// The variables of VALUES.
     Variables,
     /// The values of VALUES.
@@ -32,8 +34,15 @@ fn next_stretch(stretch: Stretch, kind: usize) -> Stretch
     match stretch {
         Stretch::Group => if kind == kinds::VALUES {
             Stretch::Variables
+        } else if kind == kinds::CONSTRUCT {
+            Stretch::Template
         } else {
             Stretch::Group
+        },
+        Stretch::Template => if kind == kinds::CLOSE_BRACE {
+            Stretch::Group
+        } else {
+            Stretch::Template
         },
         Stretch::Variables => if kind == kinds::OPEN_BRACE {
             Stretch::Rows
@@ -67,7 +76,7 @@ fn is_node_in(stretch: Stretch, kind: usize) -> bool
     match stretch {
         Stretch::Group => is_node(kind),
         Stretch::Rows => kind == kinds::OPEN || kind == kinds::UNDEF || is_term(kind),
-        Stretch::Variables | Stretch::Suffix => false,
+        Stretch::Template | Stretch::Variables | Stretch::Suffix => false,
     }
 }
 

@@ -45,13 +45,27 @@ pub struct Slice {
     pub limit: Option<u32>,
 }
 
+/// What is made of the solutions of a query (SPARQL 1.1, 16): a table, a yes or no, or a graph.
+#[derive(Drop)]
+pub enum Form {
+    /// SELECT (16.1).
+    Select,
+    /// ASK (16.3).
+    Ask,
+    /// CONSTRUCT (16.2), with the triples of its template.
+    Construct(Items<TriplePattern>),
+}
+
 /// A query. Variables and blank node labels are numbers: their places in `names`.
 #[derive(Drop)]
 pub struct Query {
-    /// The name of each variable, without `?`, and of each label, without `_:`; that of `[]` is empty.
+    /// The name of each variable, without `?`, and of each label, without `_:`; that of `[]` is empty. A label of a template is
+    /// another one than that of the pattern, and its name is kept with `_:`.
     pub names: Items<Text>,
+    pub form: Form,
     /// Whether DISTINCT is asked (15.3). REDUCED keeps all solutions.
     pub distinct: bool,
+    /// The variables of a solution: of ASK there are none, of CONSTRUCT all.
     pub selected: Selected,
     /// The parts of the outermost group.
     pub group: Items<Part>,

@@ -5,7 +5,6 @@ ghost use Rattle.vkg_grammar.specs.Kinds.{kinds_of, start_at, AreBelow};
 ghost use Rattle.vkg_grammar.specs.OneTree.{IsTheTree};
 ghost use Rattle.vkg_grammar.specs.Parsing.{Fails as Refuses};
 ghost use Rattle.vkg_sparql.specs.Lawful.{IsLawfulQuery};
-ghost use Rattle.vkg_sparql.specs.LeftOut.{LeavesOutWords};
 ghost use Rattle.vkg_sparql.specs.Seen.{query_seen};
 ghost use Rattle.vkg_sparql.specs.Reading.{IsDetermined, IsQuery, Fails, IsQueryText, TextFails, sparql, sparql_tokens, kind_at, fault, dead_check, is_outside, is_outside_word};
 ghost use Rattle.vkg_sparql.specs.declared.fault.QueryError.TheVariants.{Fault};
@@ -66,10 +65,7 @@ fn kind_of(tokens: &[Token], index: usize) -> usize
 fn is_outside_word(kind: usize) -> bool
     ensures { result ≡ is_outside_word kind }
 {
-    kind == kinds::OUTSIDE
-        || kind == kinds::VALUES
-        || kind == kinds::ASK
-        || kind == kinds::CONSTRUCT
+    kind == kinds::OUTSIDE || kind == kinds::VALUES
 }
 
 fn is_outside(kind: usize) -> bool
@@ -142,8 +138,8 @@ fn read_text(alloc: Global, bytes: &[u8], base: &str) -> Result<Query, QueryErro
 /// makes depth 65; at the first token that no query goes on with, 7 where it is one of the words and signs of SPARQL 1.1 that are told as
 /// left out, and else 2, or 2 at the length of a text that ends too early; then the least of these checks, at its least place: 4, a prefix
 /// that is not declared; 5, an IRI that is not absolute, also one of the prologue; 6, a blank node label in a second basic
-/// graph pattern; 7, a string with the datatype xsd:double or xsd:float; 8, a well-typed integer or decimal literal past 38
-/// digits; 9, a limit: the subject of the 129th triple pattern, the 257th variable or blank node, the 1,025th node (a `{`,
+/// graph pattern (a template is none); 7, a string with the datatype xsd:double or xsd:float; 8, a well-typed integer or decimal literal past 38
+/// digits; 9, a limit: the subject of the 129th triple pattern (those of a template first), the 257th variable or blank node, the 1,025th node (a group's `{`,
 /// OPTIONAL, GRAPH, FILTER, UNION, an operator's sign, a call's word), 2147483647 for a longer text; 12, the number of a slice that
 /// has a sign or is above 4,294,967,295: it is no literal, and so never one of 8.
 pub fn read_query(alloc: Global, bytes: &[u8], base: &str) -> Result<Query, QueryError>
@@ -153,11 +149,6 @@ pub fn read_query(alloc: Global, bytes: &[u8], base: &str) -> Result<Query, Quer
 {
     read_text(alloc, without_mark(bytes), base)
 }
-
-/// Words that are to come have kinds of their own; until then no production has them, and a query that has one is told so.
-pub fn leaves_out_words()
-    ensures { LeavesOutWords }
-{}
 
 /// What `read_query` answers is determined by the bytes and the base, but for want of memory.
 pub fn is_determined()

@@ -2,7 +2,7 @@
 ghost use Rattle.std.specs.Prelude.{◌≡◌, ◌<◌, [], ◌∷◌, ◌++◌, fold, length, IfOk, OnOk};
 ghost use Rattle.vkg_grammar.specs.Forest.{tree, node_count};
 ghost use Rattle.vkg_sparql.specs.Meanings.{meaning_at, variable_if};
-ghost use Rattle.vkg_sparql.specs.Scopes.{no_scope, is_among, with_number, with_visible, is_visible, with_variable, with_triple, with_triples, with_again, with_bound, tokens_value, row_over, listed_again, with_uneven, with_table, list_scope, table_scope, bind_scope, inside, joined, left_out, group_scope, parts_scope, part_scope, other_scope, later_scope, last_scope, graph_scope, union_scope, groups_scope, query_scope};
+ghost use Rattle.vkg_sparql.specs.Scopes.{no_scope, is_among, with_number, with_visible, is_visible, with_variable, with_triple, with_triples, with_again, with_bound, tokens_value, row_over, listed_again, with_uneven, with_table, list_scope, table_scope, bind_scope, inside, joined, left_out, group_scope, parts_scope, part_scope, other_scope, later_scope, last_scope, graph_scope, union_scope, groups_scope};
 ghost use Rattle.vkg_sparql.specs.Triples.{block_triples};
 
 use crate::checks::place_in;
@@ -49,7 +49,8 @@ fn add_all(numbers: &mut Items<usize>, more: &[usize]) -> Result<(), Memory>
 }
 
 impl Scope {
-    fn new(alloc: Global) -> Scope
+    /// Nothing is visible, and nothing wrong.
+    pub fn new(alloc: Global) -> Scope
         ensures { result ≡ no_scope }
     {
         Scope {
@@ -353,7 +354,7 @@ fn read_bind(
 
 // A group within what this scope says.
 #[cycle(scope)]
-fn read_group(
+pub fn read_group(
     alloc: Global,
     meanings: &[Meaning],
     lexemes: &[Lexeme],
@@ -580,37 +581,4 @@ fn read_more_groups(
         rest = more;
     }
     Ok(())
-}
-
-/// What is wrong with the tables and the variables of a query, whose tree is at `at`.
-pub fn query_scope(
-    alloc: Global,
-    meanings: &[Meaning],
-    lexemes: &[Lexeme],
-    forest: &Forest,
-    at: usize,
-) -> Result<Scope, Memory>
-    requires { at < node_count forest.now }
-    ensures { IfOk result (λ s. s ≡ query_scope meanings.now lexemes.now (tree forest.now at)) }
-{
-    let scope = Scope::new(alloc);
-    let Node::Pair(_, rest) = forest.node(at) else {
-        return Ok(scope);
-    };
-    let Node::Pair(_, rest) = forest.node(rest) else {
-        return Ok(scope);
-    };
-    let Node::Pair(_, rest) = forest.node(rest) else {
-        return Ok(scope);
-    };
-    let Node::Pair(_, rest) = forest.node(rest) else {
-        return Ok(scope);
-    };
-    let Node::Pair(_, rest) = forest.node(rest) else {
-        return Ok(scope);
-    };
-    let Node::Pair(group, _) = forest.node(rest) else {
-        return Ok(scope);
-    };
-    read_group(alloc, meanings, lexemes, forest, group, &scope)
 }

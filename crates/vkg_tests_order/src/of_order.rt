@@ -4,8 +4,8 @@ use std::process::Abort;
 use std::test::Fail;
 use vkg_base::{Items, MemSink, Memory, Text};
 use vkg_cells::Cell;
-use vkg_order::{Direction, Keeper, Modifiers, Slice, compare};
-use vkg_terms::{Annotation, Term};
+use vkg_order::{Candidate, Direction, Keeper, Modifiers, Slice, compare, ranked};
+use vkg_terms::{Annotation, Term, term_text};
 
 // A value of a key: nothing, a blank node, an IRI, a plain or a tagged literal, or one of a datatype of XML Schema.
 fn value(alloc: Global, sort: &str, text: &str) -> Result<Cell, Memory> {
@@ -185,6 +185,54 @@ fn each_line_once_at_its_first_place(rt: HostRuntime) -> Result<(), Fail> {
             written(rt.alloc(), false, true, Slice { offset, limit }),
             lines,
         )?;
+    }
+    Ok(())
+}
+
+// An employee as a solution, whose key is the name.
+fn candidate(alloc: Global, entry: (&str, &str, &str)) -> Result<Candidate, Memory> {
+    let mut cells = Vec::new(alloc);
+    cells.push(value(alloc, "<>", entry.1)?)?;
+    cells.push(value(alloc, "\"", entry.0)?)?;
+    Ok(Candidate::new(1, cells, String::from_str(alloc, entry.1)?))
+}
+
+// The employees that are asked, from the greatest name on.
+fn employees(alloc: Global, slice: Slice) -> Result<String, Memory> {
+    let mut directions = Items::new(alloc);
+    directions.push(Direction::Descending)?;
+    let modifiers = Modifiers {
+        directions,
+        distinct: false,
+        slice,
+    };
+    let mut candidates = Vec::new(alloc);
+    for entry in OFFERS {
+        candidates.push(candidate(alloc, entry)?)?;
+    }
+    let mut text = String::new(alloc);
+    for found in ranked(&modifiers, candidates)? {
+        if let Some(Cell::Term(term)) = found.cells().first() {
+            text.push_str(term_text(alloc, term)?.as_str())?;
+        }
+    }
+    Ok(text)
+}
+
+#[test]
+fn solutions_stand_in_the_asked_order(rt: HostRuntime) -> Result<(), Fail> {
+    for (offset, limit, terms) in [
+        (
+            0,
+            None,
+            "<http://e/emp/id=8><http://e/emp/id=7><http://e/emp/id=9>",
+        ),
+        (1, Some(1), "<http://e/emp/id=7>"),
+        (0, Some(0), ""),
+        (3, None, ""),
+    ] {
+        let found = employees(rt.alloc(), Slice { offset, limit })?;
+        assert_eq!(rt; found.as_str(), terms);
     }
     Ok(())
 }

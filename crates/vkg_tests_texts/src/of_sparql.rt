@@ -2,7 +2,7 @@ use crate::told::told;
 use std::alloc::Global;
 use std::process::Abort;
 use std::test::Fail;
-use vkg_sparql::{QueryError, Slice, read_query};
+use vkg_sparql::{Form, Query, QueryError, Slice, read_query};
 
 // The check and the place of the first fault, or the number of names and whether DISTINCT is asked.
 fn shown(alloc: Global, bytes: &[u8]) -> Result<String, Fail> {
@@ -54,7 +54,7 @@ fn each_fault_is_named(rt: HostRuntime) -> Result<(), Fail> {
         ("SELECT * WHERE {", "Q02 16"),
         ("SELECT * { FILTERBOUND(?x) }", "Q02 11"),
         ("SELECT * { ?s <http://e/p>* ?o }", "Q07 26"),
-        ("ASK {}", "Q07 0"),
+        ("DESCRIBE ?s {}", "Q07 0"),
         ("SELECT * { ?s ?p 1e3 }", "Q07 17"),
         ("SELECT * { ?s q:p ?o }", "Q04 14"),
         ("BASE <q> SELECT * { ?s <mailto:x\\u003c> ?o }", "Q05 23"),
@@ -102,7 +102,8 @@ fn words_of_calls_are_counted(rt: HostRuntime) -> Result<(), Fail> {
 fn words_out_of_place_are_refused(rt: HostRuntime) -> Result<(), Fail> {
     let rows = &[
         ("SELECT * { UNDEF }", "Q02 11"),
-        ("CONSTRUCT {} {}", "Q07 0"),
+        ("SELECT * { ASK {} }", "Q02 11"),
+        ("CONSTRUCT {} CONSTRUCT {}", "Q02 13"),
         ("SELECT * {} VALUES ?x { 1 }", "Q07 12"),
         ("SELECT * { MINUS ?x }", "Q02 17"),
         ("SELECT * { BIND(1 ?x) }", "Q02 18"),
@@ -262,5 +263,81 @@ fn bad_bytes_have_their_place(rt: HostRuntime) -> Result<(), Fail> {
     for &(bytes, want) in rows {
         told(&rt, want, shown(rt.alloc(), bytes), want)?;
     }
+    Ok(())
+}
+
+// What is made of the solutions: of CONSTRUCT how many triples its template has.
+fn form_shown(rt: &HostRuntime, query: &Query) -> Result<String, Fail> {
+    match &query.form {
+        Form::Select => Ok(format!(in rt.alloc(); "select")?),
+        Form::Ask => Ok(format!(in rt.alloc(); "ask")?),
+        Form::Construct(template) => {
+            let triples = template.len();
+            Ok(format!(in rt.alloc(); "construct {triples}")?)
+        }
+    }
+}
+
+#[test]
+fn forms_are_read(rt: HostRuntime) -> Result<(), Fail> {
+    let rows = [
+        ("SELECT * {}", "select"),
+        ("ASK {}", "ask"),
+        ("ask where { ?s ?p ?o }", "ask"),
+        ("CONSTRUCT {} {}", "construct 0"),
+        (
+            "construct { ?s ?p [ a <c> ] . } where { ?s ?p ?o } order by ?s offset 2",
+            "construct 2",
+        ),
+    ];
+    for (text, want) in rows.iter() {
+        let query = read_query(rt.alloc(), text.as_bytes(), "http://h/")?;
+        let found = form_shown(&rt, &query)?;
+        assert_eq!(rt; found.as_str(), *want, "at {text}");
+    }
+    Ok(())
+}
+
+// ASK has no order and no slice, CONSTRUCT has a template, and a label of that is another one than that of the pattern.
+#[test]
+fn forms_are_checked(rt: HostRuntime) -> Result<(), Fail> {
+    let rows = [
+        ("ASK { ?s ?p ?o }", "3 1 false"),
+        (
+            "CONSTRUCT { ?s ?p [] . _:a ?p _:b } { _:a ?p ?s } LIMIT 3",
+            "6 1 false",
+        ),
+        ("CONSTRUCT { ?s ?p 1 } { ?s ?p ?o }", "3 1 false"),
+        ("CONSTRUCT WHERE { ?s ?p ?o }", "Q02 10"),
+        ("ASK {} LIMIT 1", "Q02 7"),
+        ("CONSTRUCT { GRAPH ?g {} } {}", "Q02 12"),
+        ("CONSTRUCT { ?s ?p ?o", "Q02 20"),
+        (
+            "CONSTRUCT { ?s ?p ?o } { _:a ?p ?o OPTIONAL { _:a ?q ?o } }",
+            "Q06 46",
+        ),
+        ("CONSTRUCT { ?s q:p ?o } {}", "Q04 15"),
+    ];
+    for (text, want) in rows.iter() {
+        let found = shown(&rt, text.as_bytes())?;
+        assert_eq!(rt; found.as_str(), *want, "at {text}");
+    }
+    Ok(())
+}
+
+// The braces of a template are no nodes: that of the group is the first, and the 1,025th is past the limit.
+#[test]
+fn a_template_has_no_nodes(rt: HostRuntime) -> Result<(), Fail> {
+    let mut text = String::from_str(rt.alloc(), "CONSTRUCT {} {")?;
+    for _ in 0..1023 {
+        text.push_str("{}")?;
+    }
+    let mut one_more = text.clone()?;
+    text.push_str("}")?;
+    let found = shown(&rt, text.as_bytes())?;
+    assert_eq!(rt; found.as_str(), "0 1023 false");
+    one_more.push_str("{}}")?;
+    let found = shown(&rt, one_more.as_bytes())?;
+    assert_eq!(rt; found.as_str(), "Q09 2060");
     Ok(())
 }

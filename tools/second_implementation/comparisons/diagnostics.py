@@ -92,7 +92,7 @@ def files_of(code, text):
     if code[0] == "T":
         return with_rows(text, SCHEMA_OF_TABLES)
     if code[0] == "Q":
-        return {"query.rq": text} if text.startswith("SELECT") else None
+        return {"query.rq": text} if text.startswith(("SELECT", "ASK", "CONSTRUCT")) else None
     if text.startswith("<#m>"):
         return {"mapping.ttl": (HEAD if "rr:" in text else "") + text}
     return {"mapping.ttl": mapping(text)} if re.match(r"(rr:\w+ )?\[|rr:object ", text) else None

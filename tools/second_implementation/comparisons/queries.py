@@ -77,6 +77,9 @@ def compare_rdflib(comparison, case, folder, ours):
 
     header, *lines = ours.output.split("\n")[:-1]
     text = case.files["query.rq"]
+    if read_query(text.encode(), case.base).form != "SELECT":
+        comparison.count("queries of ASK and CONSTRUCT, which rdflib is not asked")
+        return
     try:
         theirs = solution_lines(case.quads(), text, case.base, header)
     except Exception as error:  # rdflib refuses by errors of many classes
