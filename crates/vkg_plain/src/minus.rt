@@ -1,5 +1,5 @@
 // The solutions that those of another do not take away (SPARQL 1.1, 18.5, Minus).
-ghost use Rattle.std.specs.Prelude.{◌≡◌, ◌&&◌, IfOk, not};
+ghost use Rattle.std.specs.Prelude.{◌≡◌, ◌&&◌, [], ◌∷◌, ◌++◌, IfOk, OnOk, not};
 ghost use Rattle.std.specs.List.{list_all};
 ghost use Rattle.std.specs.Option.{option_copied};
 ghost use Rattle.vkg_algebra.specs.Solutions.{both_bound as both_are_bound, compatible as compatible_maps, minus as minus_of, shares as shares_variable};
@@ -15,11 +15,23 @@ pub fn minus(alloc: Global, ls: &[Solution], rs: &[Solution]) -> Result<Items<So
 {
     let mut out = Items::new(alloc);
     for l in ls {
-        if stays(l.as_slice(), rs) {
-            out.push(copy_solution(alloc, l.as_slice())?)?;
-        }
+        add_if_staying(alloc, &mut out, l.as_slice(), rs)?;
     }
     Ok(out)
+}
+
+fn add_if_staying(
+    alloc: Global,
+    out: &mut Items<Solution>,
+    l: &[Option<Term>],
+    rs: &[Solution],
+) -> Result<(), Memory>
+    ensures { OnOk result (out.new ≡ out.old ++ minus_of (l.now ∷ []) rs.now) }
+{
+    if stays(l, rs) {
+        out.push(copy_solution(alloc, l)?)?;
+    }
+    Ok(())
 }
 
 fn stays(l: &[Option<Term>], rs: &[Solution]) -> bool
