@@ -10,4 +10,4 @@ loop-k-init c = numbered_none (found_triples c.args.template.now c.args.variable
 pub loop-k-preserved : goal.loop-k-preserved
 loop-k-preserved c =
     numbered_more (found_triples c.args.template.now c.args.variables.now c.args.labels.now) c.args.solutions.now c.args.first c.loop-k.k c.index-solutions-k.result _ _ _ (omega arith) c.index-solutions-k.is c.loop-k.invariant
-    (c.in_ok-push_found.ensures ∙ ap (λ n. _ ++ map line (found_triples c.args.template.now c.args.variables.now c.args.labels.now (n, c.index-solutions-k.result))) c.numbered-number.ensures)
+    (c.in_ok-push_found.ensures ∙ ap (λ n. c.loop-k.out ++ map line (found_triples c.args.template.now c.args.variables.now c.args.labels.now (n, c.index-solutions-k.result))) c.numbered-number.ensures)
