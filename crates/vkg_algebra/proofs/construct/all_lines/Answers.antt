@@ -1,7 +1,7 @@
 use Rattle.std.proofs.Common.{◌∙◌, ◌++◌, ap, arith, map}
 use Rattle.vkg_terms.specs.NQuads.{line}
 use Rattle.vkg_algebra.specs.Construct.{found_triples}
-use Rattle.vkg_algebra.proofs.Numbered.{numbered_all, numbered_more, numbered_none}
+use Rattle.vkg_algebra.proofs.Numbered.{numbered_more, numbered_none}
 use Rattle.vkg_algebra.proofs.construct.all_lines.Goals as goal
 
 pub loop-k-init : goal.loop-k-init
