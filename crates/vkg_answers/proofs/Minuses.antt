@@ -1,5 +1,5 @@
 -- MINUS: its rows stand for its solutions, if those of its parts do.
-use Rattle.std.proofs.Common.{◌≡◌, ℕ, ◌≤◌, Bool, true, false, List, [], ◌∷◌, ◌++◌, map, length, refl, sym, ap, ◌∙◌, arith, true≢false}
+use Rattle.std.proofs.Common.{◌≡◌, ℕ, ◌+◌, ◌≤◌, Bool, true, false, List, [], ◌∷◌, ◌++◌, map, length, refl, sym, ap, ◌∙◌, arith, true≢false}
 use Rattle.std.proofs.Math.Bool.{and-false, and-true, or-false, or-true}
 use Rattle.std.specs.Prelude.{Option, Some, None, not, ◌&&◌, ◌||◌, filter, nat_eq, Contains, if◌then◌else◌}
 use Rattle.std.specs.List.{list_all, list_any, AllByRecursion as Every, range_with_len}
@@ -141,11 +141,11 @@ module _ (n : ℕ) (vs ws : List ℕ) (l r : Row) where
 aside : (a x : Bool) → (a && (x && true)) ≡ (a && x)
 aside a x = ap (λ b. a && b) (and-true x)
 
-after_graph : (c a x : Bool) → ((c && true) && (a && (x && true))) ≡ (c && (a && x))
+after_graph : (c a x : Bool) → (((c && true) && a) && (x && true)) ≡ (c && (a && x))
 after_graph true a x = aside a x
 after_graph false a x = refl
 
-same_graph : (a x : Bool) (i t u : Term) → term_eq i t ≡ true → ((term_eq t u && true) && (a && (x && true))) ≡ (term_eq i u && (a && x))
+same_graph : (a x : Bool) (i t u : Term) → term_eq i t ≡ true → (((term_eq t u && true) && a) && (x && true)) ≡ (term_eq i u && (a && x))
 same_graph a x i t u e = let f : i ≡ t = eq_same terms_apart i t e in Prim.rw f (after_graph (term_eq t u) a x)
 
 module _ (vs ws : List ℕ) where
@@ -164,11 +164,11 @@ module _ (vs ws : List ℕ) where
   abbrev meets : Mode → Row → Bool
   meets mode row = vars_agree mode row && holds (some_bound mode) row
 
-  met_is : (mode : Mode) (row : Row) → met mode row ≡ (list_all (λ c. holds c row) (graphs_same mode) && (vars_agree mode row && (holds (some_bound mode) row && true)))
+  met_is : (mode : Mode) (row : Row) → met mode row ≡ ((list_all (λ c. holds c row) (graphs_same mode) && vars_agree mode row) && (holds (some_bound mode) row && true))
   met_is mode row =
       holds-and_of row (overlap mode vs ws)
-      ∙ list_all-append (λ c. holds c row) (graphs_same mode) (agreements mode vs ws ++ some_bound mode ∷ [])
-      ∙ ap (λ b. list_all (λ c. holds c row) (graphs_same mode) && b) (list_all-append (λ c. holds c row) (agreements mode vs ws) (some_bound mode ∷ []))
+      ∙ list_all-append (λ c. holds c row) (graphs_same mode ++ agreements mode vs ws) (some_bound mode ∷ [])
+      ∙ ap (λ b. b && (holds (some_bound mode) row && true)) (list_all-append (λ c. holds c row) (graphs_same mode) (agreements mode vs ws))
 
   module _ (d : Dataset) where
     meets_near : (mode : Mode) (g : Option Term) → IsIn d mode g → (l r : Row) → IsRowOf d mode vs l → IsRowOf d mode ws r → belongs mode (length vs) g l ≡ true →

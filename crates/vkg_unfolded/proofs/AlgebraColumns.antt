@@ -269,11 +269,14 @@ agreement_truth mode vs ws =
 
 overlap_truth : (mode : Mode) (vs ws : List ℕ) → AllByRecursion (IsTruth (replicate (both mode vs ws) kind.Term)) (overlap mode vs ws)
 overlap_truth mode vs ws =
-    recursion_append (IsTruth ks) (if_each mode (Same (Col (length vs)) (Col (columns_in mode vs + length ws)))) (map (shared mode vs ws) (filter (has ws) vs) ++ some ∷ []) (graphs_truth mode vs ws)
-    (recursion_append (IsTruth ks) (map (shared mode vs ws) (filter (has ws) vs)) (some ∷ []) (shared_truth mode vs ws) (some_truth, tt))
+    recursion_append (IsTruth ks) (graphs ++ map (shared mode vs ws) (filter (has ws) vs)) (some ∷ [])
+    (recursion_append (IsTruth ks) graphs (map (shared mode vs ws) (filter (has ws) vs)) (graphs_truth mode vs ws) (shared_truth mode vs ws)) (some_truth, tt)
   where
     ks : Kinds
     ks = replicate (both mode vs ws) kind.Term
+
+    graphs : List Expr
+    graphs = if_each mode (Same (Col (length vs)) (Col (columns_in mode vs + length ws)))
 
     some : Expr
     some = or_of (map (both_there mode vs ws) (filter (has ws) vs))
