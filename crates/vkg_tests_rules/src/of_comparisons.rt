@@ -1,6 +1,6 @@
 use crate::made::{
-    Made, MadeExpr, and, compared, form, iri, left, made_by, not, numbered, or, scan, schema_of,
-    select, told, unknown,
+    Made, MadeExpr, and, anti_joined, compared, form, iri, left, made_by, not, numbered, or, scan,
+    schema_of, select, told, unknown,
 };
 use std::alloc::Global;
 use std::test::Fail;
@@ -53,26 +53,29 @@ fn asked(alloc: Global, name: &str) -> MadeExpr {
     }
 }
 
+// The employees of two sides are equal.
+fn one_employee(alloc: Global) -> MadeExpr {
+    compared(
+        alloc,
+        Compare::Equal,
+        employee(alloc, 0),
+        employee(alloc, 2),
+    )
+}
+
 fn made(alloc: Global, name: &str) -> Made {
     match name {
-        "two IRIs" => left(
-            alloc,
-            scan(alloc),
-            scan(alloc),
-            compared(
-                alloc,
-                Compare::Equal,
-                employee(alloc, 0),
-                employee(alloc, 2),
-            ),
-        ),
+        "two IRIs" => left(alloc, scan(alloc), scan(alloc), one_employee(alloc)),
+        "two IRIs of an anti join" => {
+            anti_joined(alloc, scan(alloc), scan(alloc), one_employee(alloc))
+        }
         _ => select(alloc, asked(alloc, name), scan(alloc)),
     }
 }
 
 // What is compared, and the texts of what the rule makes of the plan. Two literals that are no one term are an error, and not
 // different; so nothing is made of their comparison.
-const OUTCOMES: [(&str, &str); 9] = [
+const OUTCOMES: [(&str, &str); 10] = [
     (
         "an IRI",
         "SELECT * FROM (TABLE \"t\") AS t WHERE SAME(c1, INT '7')",
@@ -96,6 +99,10 @@ const OUTCOMES: [(&str, &str); 9] = [
     (
         "two IRIs",
         "SELECT * FROM (TABLE \"t\") AS t1 LEFT JOIN (TABLE \"t\") AS t2 ON SAME(c1, c3)",
+    ),
+    (
+        "two IRIs of an anti join",
+        "SELECT * FROM (TABLE \"t\") AS t1 ANTI JOIN (TABLE \"t\") AS t2 ON SAME(c1, c3)",
     ),
     ("one of two", "none"),
     ("another IRI", "none"),
