@@ -319,7 +319,7 @@ fn forms_are_checked(rt: HostRuntime) -> Result<(), Fail> {
         ("CONSTRUCT { ?s q:p ?o } {}", "Q04 15"),
     ];
     for (text, want) in rows.iter() {
-        let found = shown(&rt, text.as_bytes())?;
+        let found = shown(rt.alloc(), text.as_bytes())?;
         assert_eq!(rt; found.as_str(), *want, "at {text}");
     }
     Ok(())
@@ -334,10 +334,10 @@ fn a_template_has_no_nodes(rt: HostRuntime) -> Result<(), Fail> {
     }
     let mut one_more = text.clone()?;
     text.push_str("}")?;
-    let found = shown(&rt, text.as_bytes())?;
+    let found = shown(rt.alloc(), text.as_bytes())?;
     assert_eq!(rt; found.as_str(), "0 1023 false");
     one_more.push_str("{}}")?;
-    let found = shown(&rt, one_more.as_bytes())?;
+    let found = shown(rt.alloc(), one_more.as_bytes())?;
     assert_eq!(rt; found.as_str(), "Q09 2060");
     Ok(())
 }
