@@ -5,7 +5,7 @@ use std::test::Fail;
 use vkg_base::{Box, Items, Memory};
 use vkg_cells::{Cell, SqlType, form};
 use vkg_engine::{Rows, run_uncounted};
-use vkg_expr::Expr;
+use vkg_expr::{Expr, Shared};
 use vkg_plan::{CheckedPlan, Plan, well_typed};
 use vkg_schema::read_schema;
 use vkg_tables::Database;
@@ -40,6 +40,12 @@ fn same_or_null(alloc: Global, a: usize, b: usize) -> MadeExpr {
     choices.push(null_test(alloc, b)?.into_inner())?;
     choices.push(same(alloc, a, b)?.into_inner())?;
     Box::new(alloc, Expr::Or(choices))
+}
+
+// The columns are not the same; unknown where one is NULL.
+fn not_same(alloc: Global, a: usize, b: usize) -> MadeExpr {
+    let e = Shared::from_box(alloc, same(alloc, a, b)?)?;
+    Box::new(alloc, Expr::Not(e))
 }
 
 fn project(alloc: Global, at: usize, p: Made) -> Made {
@@ -110,6 +116,7 @@ fn made(alloc: Global, node: &str) -> Made {
         "Left or NULL" => left_of(alloc, 1, 0, same_or_null(alloc, 2, 3)),
         "Left or NULL without NULL" => left_of(alloc, 0, 2, same_or_null(alloc, 0, 2)),
         "AntiJoin" => anti_of(alloc, 1, 0, same(alloc, 2, 3)),
+        "AntiJoin by others" => anti_of(alloc, 1, 0, not_same(alloc, 2, 3)),
         "AntiJoin or NULL" => anti_of(alloc, 1, 0, same_or_null(alloc, 2, 3)),
         "AntiJoin or NULL without NULL" => anti_of(alloc, 0, 2, same_or_null(alloc, 0, 2)),
         "UnionAll" => union(alloc),
@@ -182,6 +189,7 @@ fn each_node_has_its_rows(rt: HostRuntime) -> Result<(), Fail> {
         ("Left or NULL without NULL", "1,Ore,1,10;2,NULL,NULL,NULL;"),
         // where the condition is unknown the row stays
         ("AntiJoin", "8,Bo,NULL;"),
+        ("AntiJoin by others", "8,Bo,NULL;"),
         ("AntiJoin or NULL", ""),
         ("AntiJoin or NULL without NULL", "2,NULL;"),
         ("UnionAll", "1,Ore;1,Ore;2,NULL;2,NULL;"),
