@@ -27,8 +27,8 @@ module _ (query : Query) (rows : List Solution) (made : Result (List (List ℕ))
   pub by_form : (form : Form) → query.form ≡ form → IfOk made (λ lines. lines ≡ form_lines query form rows) → IfOk made (λ lines. lines ≡ solutions_lines query rows)
   by_form form e h = subst (λ f. IfOk made (λ lines. lines ≡ form_lines query f rows)) (sym e) h
 
-  pub written_ask : (yes : Bool) → query.form ≡ Ask → yes ≡ has_solution rows → IfOk made (λ lines. lines ≡ (if yes then codes "true" else codes "false") ∷ []) → IfOk made (λ lines. lines ≡ solutions_lines query rows)
-  written_ask yes e y h = by_form Ask e (subst (λ b. IfOk made (λ lines. lines ≡ (if b then codes "true" else codes "false") ∷ [])) y h)
+  pub written_ask : (is_there : Bool) → query.form ≡ Ask → is_there ≡ has_solution rows → IfOk made (λ lines. lines ≡ (if is_there then codes "true" else codes "false") ∷ []) → IfOk made (λ lines. lines ≡ solutions_lines query rows)
+  written_ask is_there e y h = by_form Ask e (subst (λ b. IfOk made (λ lines. lines ≡ (if b then codes "true" else codes "false") ∷ [])) y h)
 
   pub written_construct : (template seen : List TriplePattern) → query.form ≡ Construct template → seen ≡ template
       → IfOk made (λ lines. lines ≡ graph_lines seen (selected_variables query) (ordered query rows)) → IfOk made (λ lines. lines ≡ solutions_lines query rows)

@@ -69,8 +69,8 @@ module _ (query : Query) (rows : List Row) (made : Result (List (List ℕ)) Memo
   written_select e h =
       by_form Select e (subst (λ es. IfOk made (λ lines. lines ≡ header query ∷ listed (modifiers_of query) es)) (sym (map-map (solution_entry (length (selected_variables query))) row_solution rows)) h)
 
-  pub written_ask : (yes : Bool) → query.form ≡ Ask → yes ≡ has_solution (map row_solution rows) → IfOk made (λ lines. lines ≡ (if yes then codes "true" else codes "false") ∷ []) → IfOk made (λ lines. lines ≡ result_lines query rows)
-  written_ask yes e y h = by_form Ask e (subst (λ b. IfOk made (λ lines. lines ≡ (if b then codes "true" else codes "false") ∷ [])) y h)
+  pub written_ask : (is_there : Bool) → query.form ≡ Ask → is_there ≡ has_solution (map row_solution rows) → IfOk made (λ lines. lines ≡ (if is_there then codes "true" else codes "false") ∷ []) → IfOk made (λ lines. lines ≡ result_lines query rows)
+  written_ask is_there e y h = by_form Ask e (subst (λ b. IfOk made (λ lines. lines ≡ (if b then codes "true" else codes "false") ∷ [])) y h)
 
   pub written_construct : (template seen : List TriplePattern) → query.form ≡ Construct template → seen ≡ template
       → IfOk made (λ lines. lines ≡ graph_lines seen (selected_variables query) (ordered query (map row_solution rows))) → IfOk made (λ lines. lines ≡ result_lines query rows)

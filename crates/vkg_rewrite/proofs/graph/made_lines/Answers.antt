@@ -1,4 +1,4 @@
-use Rattle.std.proofs.Common.{◌∙◌, map, subst, ap, sym}
+use Rattle.std.proofs.Common.{◌∙◌, List, map, subst, ap}
 use Rattle.std.specs.Prelude.{IfOk, ◌≡◌}
 use Rattle.vkg_sparql.specs.Seen.{query_seen}
 use Rattle.vkg_order.specs.Ranked.{Found, ranked}
