@@ -1,5 +1,5 @@
 -- The graph of a CONSTRUCT: its lines, its triples, and the solutions of which it is made.
-use Rattle.std.proofs.Common.{◌≡◌, ◌∙◌, ◌&&◌, ℕ, Bool, true, false, List, [], ◌∷◌, flat_map, length, map, take, Option, Some, None, refl, sym, ap, subst, true≢false}
+use Rattle.std.proofs.Common.{◌≡◌, ◌∙◌, ◌&&◌, ℕ, Bool, true, false, List, [], ◌∷◌, flat_map, length, map, take, Option, Some, refl, sym, ap, subst, true≢false}
 use Rattle.std.specs.Prelude.{Contains, IfOk, Result, if◌then◌else◌}
 use Rattle.std.specs.List.{enumerate_from}
 use Rattle.std.proofs.lemmas.Result.{IfOk-weaker}
@@ -15,7 +15,6 @@ use Rattle.vkg_terms.specs.declared.term.Annotation.{Annotation}
 use Rattle.vkg_terms.specs.NQuads.{Quad, line}
 use Rattle.vkg_sparql.specs.declared.pattern.TriplePattern.{TriplePattern}
 use Rattle.vkg_sparql.specs.Query.{Query}
-use Rattle.vkg_order.specs.Entries.{Entry}
 use Rattle.vkg_order.specs.Listed.{listed}
 use Rattle.vkg_order.specs.Ranked.{Found, ranked}
 use Rattle.vkg_order.specs.declared.modifiers.Modifiers.{Modifiers}

@@ -20,7 +20,8 @@ place_is (c ∷ cells) (suc k) = place_is cells k
 numbered : {A : Type 0} (xs : List A) (k n : ℕ) (x : A) → k < length xs → x ≡ get_or xs k x → enumerate_from n (drop k xs) ≡ (n, x) ∷ enumerate_from (n + 1) (drop (k + 1) xs)
 numbered [] k n x l e = absurd (omega (arith, l))
 numbered (y ∷ xs) zero n x l e = ap (λ z. (n, z) ∷ enumerate_from (n + 1) xs) (sym e)
-numbered (y ∷ xs) (suc k) n x l e = numbered xs k n x (omega (arith, l)) e
+numbered (y ∷ xs) (suc k) n x l e =
+    numbered xs k n x (omega (arith, l)) e ∙ ap (λ ys. (n, x) ∷ enumerate_from (n + 1) ys) (let j : suc k + 1 ≡ suc (k + 1) = omega arith in ap (λ i. drop i (y ∷ xs)) (sym j))
 
 -- what is numbered of a list's images
 pub numbered-map : {A B C : Type 0} (f : A → B) (quads : ℕ × B → List C) (xs : List A) (n : ℕ) → flat_map quads (enumerate_from n (map f xs)) ≡ flat_map (λ (p : ℕ × A). quads (p.0, f p.1)) (enumerate_from n xs)

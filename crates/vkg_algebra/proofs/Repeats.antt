@@ -1,6 +1,6 @@
 -- Entries that are there already may be left out, where each line is asked once.
-use Rattle.std.proofs.Common.{◌≡◌, ◌∙◌, Bool, true, false, not, List, [], ◌∷◌, ◌++◌, map, if◌then◌else◌, refl, sym, ap, append-nil, is_lt}
-use Rattle.std.specs.List.{Contains, filter}
+use Rattle.std.proofs.Common.{◌≡◌, ◌∙◌, Bool, true, false, not, List, [], ◌∷◌, map, if◌then◌else◌, refl, sym, ap, append-nil, is_lt}
+use Rattle.std.specs.List.{filter}
 use Rattle.std.proofs.lemmas.Cmp.{tied_itself}
 use Rattle.vkg_lists.specs.Sets.{distinct}
 use Rattle.vkg_lists.proofs.Bags.{bag_exchange}

@@ -22,7 +22,7 @@ use Rattle.vkg_algebra.specs.Algebra as algebra
 use Rattle.vkg_algebra.specs.Evaluation.{Dataset}
 use Rattle.vkg_algebra.specs.Translation.{algebra_of}
 use Rattle.vkg_algebra.specs.Answer.{answer}
-use Rattle.vkg_algebra.proofs.Data.{dataset, quad, e, int, plain, pattern, names, has_name, has_dept, has_title, select}
+use Rattle.vkg_algebra.proofs.Data.{dataset, quad, e, int, plain, pattern, has_name, has_dept, has_title, select}
 
 -- what has to be opened so that texts of terms compute
 unfoldable opened : Unit {0}
