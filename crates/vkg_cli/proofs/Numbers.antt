@@ -1,5 +1,5 @@
 -- The number of a fault's check is one of its table.
-use Rattle.std.proofs.Common.{◌≡◌, ℕ, Bool, true, false, List, [], ◌∷◌, Option, Some, None, Result, Ok, Err, map, inl, inr, refl, sym, subst, arith}
+use Rattle.std.proofs.Common.{◌≡◌, ℕ, Bool, true, false, List, [], ◌∷◌, Option, Some, None, Result, Ok, Err, map, refl, sym, subst, arith}
 use Rattle.std.specs.Prelude.{◌==◌, ◌&&◌, ◌++◌, IfSome, count_by, if◌then◌else◌, length, nat_lt, slice_get}
 use Rattle.std.specs.List.{AllByRecursion, enumerate_from, flat_map, list_any, zip}
 use Rattle.std.specs.Option.{option_or}
